@@ -4,3 +4,4 @@ pub mod Changing
 pub mod Taken
 pub mod Unmarked
 pub mod ValuesAt
+pub mod ItemsEdits

@@ -1,5 +1,5 @@
 //! Headers that are made, in a buffer.
-ghost use Rattle.std.specs.Prelude.{◌≡◌, ◌↔◌, ◌+◌, ◌<◌, ◌≤◌, ◌^◌, true, length, IfErr, IfOk, IsErrOf, OnOk};
+ghost use Rattle.std.specs.Prelude.{◌≡◌, ◌↔◌, ◌+◌, ◌<◌, ◌≤◌, ◌^◌, true, length, IfErr, IfOk, IsErrOf, OnErr, OnOk};
 ghost use Rattle.std.specs.Option.{option_copied};
 ghost use Rattle.gitconf_text.specs.Names.{is_valid_or_none};
 ghost use Rattle.gitconf_items.specs.declared.event.Event.TheVariants as events;
@@ -10,7 +10,7 @@ ghost use Rattle.gitconf_lines.specs.Buffers.{Grows};
 
 use crate::section::{append_header, header_len};
 use gitconf_items::event::Header;
-use gitconf_lines::buffer::check_room;
+use gitconf_lines::buffer::{check_room, take_back};
 use gitconf_text::parse::span;
 
 /// Checks that a buffer has room for the text of a header. Takes no memory.
@@ -34,8 +34,8 @@ pub fn check_header(
 ///
 /// # Errors
 ///
-/// A [`span::Error`]: number 3 if and only if the buffer would be longer than 4294967295 bytes, before any growth, otherwise 27 when out of
-/// memory. The buffer and the copies may have grown.
+/// A [`span::Error`]: number 3 if and only if the buffer would be longer than 4294967295 bytes, otherwise 27 when out of memory. The buffer
+/// is then as it was; the copies may have grown.
 pub fn put_header(
     buffer: &mut Vec<u8>,
     copies: &mut Vec<u8>,
@@ -49,8 +49,10 @@ pub fn put_header(
     ensures put { OnOk result (length buffer.new.items ≡ length buffer.old.items + header_bytes name.now (option_copied subsection.entry)) }
     ensures grows { Grows result (header_bytes name.now (option_copied subsection.entry)) buffer.old.items buffer.new.items }
     ensures refused { 2 ^ 32 ≤ length buffer.old.items + header_bytes name.now (option_copied subsection.entry) → IsErrOf result 3 }
+    ensures err { OnErr result (buffer.new.items ≡ buffer.old.items) }
     ensures extended { IsExtended copies.old.items copies.new.items }
 {
     check_header(buffer, name, subsection)?;
-    append_header(buffer, copies, name, subsection)
+    let len = buffer.len();
+    take_back(append_header(buffer, copies, name, subsection), buffer, len)
 }

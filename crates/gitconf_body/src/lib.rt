@@ -3,6 +3,8 @@
 
 pub mod entry;
 pub mod heading;
+pub mod items_edit;
+pub mod items_edits;
 pub mod marked;
 pub mod section;
 pub mod set;

@@ -1,5 +1,5 @@
 //! Sections that are made.
-ghost use Rattle.std.specs.Prelude.{◌≡◌, ◌↔◌, ℕ, ◌+◌, ◌-◌, ◌<◌, ◌≤◌, ◌^◌, min, true, ◌∷◌, [], List, length, Some, None, IfErr, IfOk, OnOk, IsErrOf};
+ghost use Rattle.std.specs.Prelude.{◌≡◌, ◌↔◌, ℕ, ◌+◌, ◌-◌, ◌<◌, ◌≤◌, ◌^◌, min, true, ◌∷◌, [], List, length, Some, None, IfErr, IfOk, OnErr, OnOk, IsErrOf};
 ghost use Rattle.std.specs.Option.{option_copied};
 ghost use Rattle.gitconf_text.specs.Names.{is_valid_or_none};
 ghost use Rattle.gitconf_text.specs.Part as parts;
@@ -18,7 +18,7 @@ use crate::entry::{entry_len, set_value};
 use gitconf_items::event::{Copied, Header, Span};
 use gitconf_items::event_ref::{escaped_subsection_len, write_escaped_subsection};
 use gitconf_items::items::{Item, Section};
-use gitconf_lines::buffer::{append, check_room};
+use gitconf_lines::buffer::{append, check_room, take_back};
 use gitconf_text::NoMemory;
 use gitconf_text::line_end::LineEnd;
 use gitconf_text::parse::span;
@@ -175,14 +175,41 @@ fn section_len(
         .saturating_add(header_len(name, subsection))
 }
 
+/// The parts of [`section_with`], added to the buffer and to the copies.
+#[tactic(auto, using(gitconf_lines::proofs::Buffers::extending))]
+fn append_section_with(
+    buffer: &mut Vec<u8>,
+    copies: &mut Vec<u8>,
+    line_end: LineEnd,
+    name: &[u8],
+    subsection: Option<&[u8]>,
+    key: &[u8],
+    value: &[u8],
+) -> Result<Section, span::Error>
+    requires room { length buffer.old.items < 2 ^ 32 }
+    requires valid { is_valid_or_none (option_copied subsection) ≡ true }
+    ensures header { IfOk result (λ s. header_of buffer.new.items s.header ≡ made_header name.now (option_copied subsection.entry)) }
+    ensures shown { IfOk result (λ s. IsShown buffer.new.items copies.new.items (events.SectionHeader s.header)) }
+    ensures items { IfOk result (λ s. items_of buffer.new.items s.items.items
+        ≡ set_value (bytes_of_line_end line_end) key.now value.now (parts.LineEndsItem (bytes_of_line_end line_end) ∷ [])) }
+    ensures within { IfOk result (λ s. AreItemsWithin (length buffer.new.items) s.items.items) }
+    ensures grows { Grows result (new_section_bytes (bytes_of_line_end line_end) name.now (option_copied subsection.entry) key.now value.now)
+        buffer.old.items buffer.new.items }
+    ensures extended { IsExtended copies.old.items copies.new.items }
+{
+    let mut items = one_line(buffer, line_end)?;
+    set_value(buffer, &mut items, line_end, key, value)?;
+    let header = append_header(buffer, copies, name, subsection)?;
+    Ok(Section { header, items })
+}
+
 /// A new section: its body is one line ending, and then one entry. Takes memory for what is added to the buffer, and for
 /// the items.
 ///
 /// # Errors
 ///
-/// A [`span::Error`]: number 3 if the buffer would be longer than 4294967295 bytes, otherwise 27 when out of memory. The buffer and
-/// the copies may have grown.
-#[tactic(auto, using(gitconf_lines::proofs::Buffers::extending))]
+/// A [`span::Error`]: number 3 if and only if the buffer would be longer than 4294967295 bytes, otherwise 27 when out of memory. The buffer
+/// is then as it was; the copies may have grown.
 pub fn section_with(
     buffer: &mut Vec<u8>,
     copies: &mut Vec<u8>,
@@ -203,13 +230,13 @@ pub fn section_with(
         buffer.old.items buffer.new.items }
     ensures refused { 2 ^ 32 ≤ length buffer.old.items + new_section_bytes (bytes_of_line_end line_end) name.now (option_copied subsection.entry)
         key.now value.now → IsErrOf result 3 }
+    ensures err { OnErr result (buffer.new.items ≡ buffer.old.items) }
     ensures extended { IsExtended copies.old.items copies.new.items }
 {
     check_room(buffer, section_len(line_end, name, subsection, key, value))?;
-    let mut items = one_line(buffer, line_end)?;
-    set_value(buffer, &mut items, line_end, key, value)?;
-    let header = append_header(buffer, copies, name, subsection)?;
-    Ok(Section { header, items })
+    let len = buffer.len();
+    let section = append_section_with(buffer, copies, line_end, name, subsection, key, value);
+    take_back(section, buffer, len)
 }
 
 /// Checks that a buffer has room for what [`new_section`] adds to it. Takes no memory.
@@ -232,12 +259,35 @@ pub fn check_section(
     check_room(buffer, count)
 }
 
+/// The parts of [`new_section`], added to the buffer and to the copies.
+#[tactic(auto, using(gitconf_lines::proofs::Buffers::extending))]
+fn append_section(
+    buffer: &mut Vec<u8>,
+    copies: &mut Vec<u8>,
+    line_end: LineEnd,
+    name: &[u8],
+    subsection: Option<&[u8]>,
+) -> Result<Section, span::Error>
+    requires room { length buffer.old.items < 2 ^ 32 }
+    requires valid { is_valid_or_none (option_copied subsection) ≡ true }
+    ensures header { IfOk result (λ s. header_of buffer.new.items s.header ≡ made_header name.now (option_copied subsection.entry)) }
+    ensures shown { IfOk result (λ s. IsShown buffer.new.items copies.new.items (events.SectionHeader s.header)) }
+    ensures items { IfOk result (λ s. items_of buffer.new.items s.items.items ≡ parts.LineEndsItem (bytes_of_line_end line_end) ∷ []) }
+    ensures within { IfOk result (λ s. AreItemsWithin (length buffer.new.items) s.items.items) }
+    ensures grows { Grows result (length (bytes_of_line_end line_end) + header_bytes name.now (option_copied subsection.entry)) buffer.old.items
+        buffer.new.items }
+    ensures extended { IsExtended copies.old.items copies.new.items }
+{
+    let items = one_line(buffer, line_end)?;
+    let header = append_header(buffer, copies, name, subsection)?;
+    Ok(Section { header, items })
+}
+
 /// A new section, whose body is one line ending. Takes memory for what is added to the buffer, and for the items.
 ///
 /// # Errors
 ///
 /// Those of [`section_with`].
-#[tactic(auto, using(gitconf_lines::proofs::Buffers::extending))]
 pub fn new_section(
     buffer: &mut Vec<u8>,
     copies: &mut Vec<u8>,
@@ -255,10 +305,11 @@ pub fn new_section(
         buffer.new.items }
     ensures refused { 2 ^ 32 ≤ length buffer.old.items + (length (bytes_of_line_end line_end) + header_bytes name.now
         (option_copied subsection.entry)) → IsErrOf result 3 }
+    ensures err { OnErr result (buffer.new.items ≡ buffer.old.items) }
     ensures extended { IsExtended copies.old.items copies.new.items }
 {
     check_section(buffer, line_end, name, subsection)?;
-    let items = one_line(buffer, line_end)?;
-    let header = append_header(buffer, copies, name, subsection)?;
-    Ok(Section { header, items })
+    let len = buffer.len();
+    let section = append_section(buffer, copies, line_end, name, subsection);
+    take_back(section, buffer, len)
 }

@@ -18,9 +18,7 @@ use gitconf_items::event::Span;
 use gitconf_items::items::Item;
 use gitconf_lines::buffer::check_room;
 use gitconf_lines::editor::{Around, Editor};
-use gitconf_lines::push::{
-    around_len, check_push, entry_with, push_checked, put_around, put_value,
-};
+use gitconf_lines::push::{around_len, check_push, entry_with, push, put_around, put_value};
 use gitconf_lines::seeking::last_place;
 use gitconf_lines::values::item_text;
 use gitconf_text::parse::span;
@@ -184,7 +182,7 @@ pub fn set_at(
     ensures err { OnErr result (items.new.items ≡ items.old.items) }
 {
     let Some(at) = place else {
-        push_checked(buffer, items, editor, key, Some(value), None)?;
+        push(buffer, items, editor, key, Some(value), None)?;
         return Ok(None);
     };
     let old = item_text(*buffer.allocator(), buffer, &items[at])?;
@@ -193,7 +191,7 @@ pub fn set_at(
 }
 
 /// Gives the last entry of a key another value: what follows `=` is replaced, and `=` is added if there is none, with the
-/// editor's blanks around it. If no entry has the key, a line with it is pushed, as [`push`](gitconf_lines::push::push) does. Returns the raw
+/// editor's blanks around it. If no entry has the key, a line with it is pushed, as [`push`] does. Returns the raw
 /// text of the old value: its pieces joined, not decoded; no bytes for an entry without `=`; `None` if there was no entry.
 ///
 /// One walk over the items. Takes memory for the old value, for what is added to the buffer, and for new items.

@@ -88,26 +88,6 @@ pub fn remove_at(buffer: &[u8], items: &mut Vec<Item>, at: usize) -> Result<Vec<
     Ok(old)
 }
 
-/// Removes the last entry of a key, as [`remove_at`] does. If no entry has the key, nothing is removed, and the result is `None`.
-///
-/// One walk over the items. Takes memory for the result alone.
-///
-/// # Errors
-///
-/// Out of memory, only if there is an entry. The items are then as they were.
-pub fn remove(buffer: &[u8], items: &mut Vec<Item>, key: &[u8]) -> Result<Option<Vec<u8>>, NoMemory>
-    ensures ok { OnOk result (items_of buffer.now items.new.items ≡ removed key.now (items_of buffer.now items.old.items)) }
-    ensures answer { IfOk result (λ o. option_map (λ v. v.items) o ≡ old_value key.now (items_of buffer.now items.old.items)) }
-    ensures none { old_value key.now (items_of buffer.now items.old.items) ≡ None → IsOk result }
-    ensures within { StayWithin items.old.items items.new.items }
-    ensures err { OnErr result (items.new.items ≡ items.old.items) }
-{
-    let Some(at) = last_place(buffer, items, key) else {
-        return Ok(None);
-    };
-    Ok(Some(remove_at(buffer, items, at)?))
-}
-
 /// The place of the last entry, if there is one. It walks from the end up to that entry. Takes no memory.
 #[tactic(auto, using(gitconf_lines::proofs::Places::fronts))]
 pub fn last_entry(items: &[Item]) -> Option<usize>

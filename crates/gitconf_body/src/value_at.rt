@@ -181,14 +181,3 @@ pub fn write_at(
     put(items, at, entry, way)?;
     Ok(())
 }
-
-/// Deletes the item at a place, counted in items from 0. All other items stay, even the blanks and line endings
-/// around it; if there are fewer items, all do. It can't fail, and takes no memory.
-pub fn delete_at(items: &mut Vec<Item>, place: usize)
-    ensures deleted { (buffer : List ℕ) → items_of buffer items.new.items ≡ state.deleted_at place (items_of buffer items.old.items) }
-    ensures within { StayWithin items.old.items items.new.items }
-{
-    if place < items.len() {
-        drop(items.remove(place));
-    }
-}

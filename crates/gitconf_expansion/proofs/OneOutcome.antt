@@ -8,7 +8,6 @@ use Rattle.gitconf_includes.specs.declared.includes.Error.{Error}
 use Rattle.gitconf_includes.specs.Errors.{includes_number}
 use Rattle.gitconf_includes.specs.Paths.{file_named}
 use Rattle.gitconf_includes.specs.Rules.{Rules}
-use Rattle.gitconf_state.specs.Edit.{with_used}
 use Rattle.gitconf_state.specs.Including.{has_room, spliced, visited, whole, with_sections}
 use Rattle.gitconf_state.specs.State.{SectionState, State}
 use Rattle.gitconf_expansion.specs.Expansion.{fault_number, included_meta, Asks, Deeper, Ended, Expands, Follows, FollowsAll, Gives, GoesOn, IsFetched, IsJoined, IsLoadOf, IsPutIn, Leaves, On, Reached, Resolves, Visits, Wanting}
@@ -189,7 +188,7 @@ left_alike (Ok done) (Ok made) new left r is too = let same : On new ≡ On left
 left_alike (Ok done) (Err f) new left r is too = subst (Leaves includes_number (Err f) left) is too
 left_alike (Err e) (Ok made) new left r is too = subst (Leaves includes_number (Err e) new) too is
 left_alike (Err e) (Err f) new left (On done) is too = absurd is
-left_alike (Err e) (Err f) new left (Ended n file) is too = (sym is.0 ∙ too.0, is.1 ∙ sym (ap (with_used new.used) too.1))
+left_alike (Err e) (Err f) new left (Ended n file) is too = (sym is.0 ∙ too.0, is.1 ∙ sym too.1)
 
 -- So two calls on one file, neither refused when out of memory, end alike.
 pub one_resolution : (asks : Asks) (files : List ℕ → FileReport) (old new left : State) (one other : Result Unit Error) → asks.table ≡ Some files

@@ -8,7 +8,6 @@ use Rattle.gitconf_includes.specs.declared.includes.Error.{Error}
 use Rattle.gitconf_includes.specs.declared.includes.Error.TheVariants as refusals
 use Rattle.gitconf_includes.specs.Errors.{include_of_span, includes_number}
 use Rattle.gitconf_includes.specs.Paths.{file_named, Names}
-use Rattle.gitconf_state.specs.Edit.{with_used}
 use Rattle.gitconf_state.specs.Including.{has_room, spliced, whole}
 use Rattle.gitconf_state.specs.State.{SectionState, State}
 use Rattle.gitconf_expansion.specs.Expansion.{Asks, Deeper, Ended, Follows, IsFetched, IsJoined, IsPutIn, Leaves, May, On, Reached}
@@ -107,7 +106,7 @@ module _ (deeper : Deeper) (asks : Asks) (from : Meta) (path : List ℕ) (rest :
   -- one for which there is no room, or for which memory ran out
   pub not_put : (file : List ℕ) (other full now : State) (n : ℕ) (result : Result Unit Error) → file_named asks.rules from path ≡ Ok (Some file) → IfSome asks.table (λ files. true ≡ is_there (files file))
       → IsFetched asks from file (Ok other) → (inner : Reached) → deeper (Some (whole done rest)) other inner → inner ≡ On full
-      → (n ≡ 3 → has_room full rest done ≡ false) → (n ≡ 3) ⊎ (n ≡ 27) → now ≡ with_used now.used done → IsErrAnd result (λ r. r ≡ include_of_span n) → FollowsTo result rest now
+      → (n ≡ 3 → has_room full rest done ≡ false) → (n ≡ 3) ⊎ (n ≡ 27) → now ≡ done → IsErrAnd result (λ r. r ≡ include_of_span n) → FollowsTo result rest now
   not_put file other full now n (Ok made) is answered fetches inner expands on room known same err = absurd err
   not_put file other full now n (Err r) is answered fetches inner expands on room known same err =
       (Ended n (whole done rest), follows known, (sym (ap includes_number err ∙ span_number n), ap (λ d. whole d rest) same))

@@ -8,7 +8,6 @@ use Rattle.gitconf_includes.specs.declared.includes.Error.{Error}
 use Rattle.gitconf_includes.specs.declared.includes.Error.TheVariants as refusals
 use Rattle.gitconf_includes.specs.Conditions.{Says}
 use Rattle.gitconf_includes.specs.Errors.{includes_number}
-use Rattle.gitconf_state.specs.Edit.{with_used}
 use Rattle.gitconf_state.specs.Edits.{held_behind_last, numbered_from}
 use Rattle.gitconf_state.specs.Including.{spliced, visited, whole, with_sections}
 use Rattle.gitconf_state.specs.State.{SectionState, State}
@@ -37,12 +36,8 @@ some_spliced other rest done some = go _ other.front done.sections some
     go line_end front (s ∷ []) some = omega arith
     go line_end front (s ∷ t ∷ ss) some = omega arith
 
--- a file that is left as it was
-pub as_it_was : (file new : State) → new ≡ file → new ≡ with_used new.used file
-as_it_was file new same = subst (λ n. n ≡ with_used n.used file) (sym same) refl
-
 -- a refusal that is left
-pub leaves_refused : (result : Result Unit Error) (e : Error) (n : ℕ) (file new : State) → IsErrAnd result (λ r. r ≡ e) → n ≡ includes_number e → new ≡ with_used new.used file
+pub leaves_refused : (result : Result Unit Error) (e : Error) (n : ℕ) (file new : State) → IsErrAnd result (λ r. r ≡ e) → n ≡ includes_number e → new ≡ file
     → Leaves includes_number result new (Ended n file)
 leaves_refused (Ok made) e n file new err is same = absurd err
 leaves_refused (Err r) e n file new err is same = (is ∙ ap includes_number (sym err), same)

@@ -16,7 +16,6 @@ use Rattle.gitconf_host.specs.declared.fault.FileFault.{FileFault}
 use Rattle.gitconf_host.specs.declared.fault.Stage.{Stage}
 use Rattle.gitconf_host.specs.declared.fault.Stage.TheVariants.{Open, Read, Memory}
 use Rattle.gitconf_state.specs.State.{SectionState, State}
-use Rattle.gitconf_state.specs.Edit.{with_used}
 use Rattle.gitconf_state.specs.Including.{has_room, spliced, visited, whole, with_sections}
 use Rattle.gitconf_state.specs.Made.{IsMade}
 use Rattle.gitconf_includes.specs.Rules.{Rules}
@@ -123,10 +122,10 @@ unfoldable pub Expands : (left : ℕ) → Asks → Deeper
 Expands zero asks parent old r = r ≡ (if asks.rules.refuses_depth then Ended 15 old else On old)
 Expands (suc left) asks parent old r = Wanting old r ⊎ Visits (Expands left asks) asks parent old.sections (with_sections [] old) r
 
--- what a call leaves: an expanded file, or a refusal with a number, after which the buffer may have grown further
+-- what a call leaves: an expanded file, or a refusal with a number, and the file as it was by then
 abbrev pub Leaves : {E : Type 0} → (number : E → ℕ) → Result Unit E → (new : State) → Reached → Type 0
 Leaves number (Ok done) new r = r ≡ On new
-Leaves number (Err e) new (Ended n file) = (n ≡ number e) × (new ≡ with_used new.used file)
+Leaves number (Err e) new (Ended n file) = (n ≡ number e) × (new ≡ file)
 Leaves number (Err e) new (On done) = ⊥
 
 -- includes are resolved in a file; with depth 0 none are, and nothing is refused

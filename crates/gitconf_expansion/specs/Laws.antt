@@ -8,7 +8,6 @@ use Rattle.gitconf_host.specs.Reports.{FileReport, read_of}
 use Rattle.gitconf_host.specs.declared.fault.FileFault.{FileFault}
 use Rattle.gitconf_includes.specs.declared.includes.Error.{Error}
 use Rattle.gitconf_includes.specs.Errors.{includes_number}
-use Rattle.gitconf_state.specs.Edit.{with_used}
 use Rattle.gitconf_includes.specs.Rules.{Rules}
 use Rattle.gitconf_state.specs.Lookup.{listed}
 use Rattle.gitconf_state.specs.State.{entries_of, SectionState, State}
@@ -59,10 +58,10 @@ StandBehind below own (s ∷ sections) = elim (ltb s.number below) [
 abbrev pub IncludesNothing : State → Type 0
 IncludesNothing state = AllByRecursion (λ s. inclusion s ≡ NoInclude) state.sections
 
--- a file is as it was; or memory ran out, and its buffer may have grown
+-- a file is as it was, also where memory ran out
 abbrev pub IsAsItWas : Result Unit Error → (old new : State) → Type 0
 IsAsItWas (Ok done) old new = new ≡ old
-IsAsItWas (Err e) old new = (includes_number e ≡ 27) × (new ≡ with_used new.used old)
+IsAsItWas (Err e) old new = (includes_number e ≡ 27) × (new ≡ old)
 
 -- none of the texts at the paths has an entry before its first section
 abbrev pub AreHeaded : (files : List ℕ → FileReport) → Type 0
@@ -91,10 +90,9 @@ abbrev pub IsAnswered : Reached → Type 0
 IsAnswered (On done) = Unit {0}
 IsAnswered (Ended number file) = number ≢ 27
 
--- Calls on one file end alike: both leave the same file; or both are refused with one number, and the files that they leave differ only in
--- their buffers.
+-- Calls on one file end alike: both leave the same file, and both are done, or refused with one number.
 abbrev pub EndAlike : (one other : Result Unit Error) → (new left : State) → Type 0
 EndAlike (Ok done) (Ok made) new left = new ≡ left
 EndAlike (Ok done) (Err f) new left = ⊥
 EndAlike (Err e) (Ok made) new left = ⊥
-EndAlike (Err e) (Err f) new left = (includes_number e ≡ includes_number f) × (new ≡ with_used new.used left)
+EndAlike (Err e) (Err f) new left = (includes_number e ≡ includes_number f) × (new ≡ left)

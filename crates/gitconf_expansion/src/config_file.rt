@@ -33,7 +33,6 @@ pub enum Visited {
 pub trait ConfigFile: Drop {
     ghost use Rattle.std.specs.Prelude.{◌≡◌, ◌↔◌, ◌⊎◌, List, [], ◌<◌, length, false, IfErr, IfOk, IsErrOf, OnErr, OnOk};
     ghost use Rattle.gitconf_read.specs.EventResult.{IsRefused};
-    ghost use Rattle.gitconf_state.specs.Edit.{with_used};
     ghost use Rattle.gitconf_state.specs.Including.{has_room, spliced, whole};
     ghost use Rattle.gitconf_state.specs.State.{SectionState, State};
     ghost use Rattle.gitconf_expansion.specs.Expansion.{IsLoaded};
@@ -83,12 +82,12 @@ pub trait ConfigFile: Drop {
     ///
     /// # Errors
     ///
-    /// A [`span::Error`]: number 3 if and only if there is no room, otherwise 27 when out of memory. The file is then as it was, except that
-    /// its buffer may have grown, and the other is dropped.
+    /// A [`span::Error`]: number 3 if and only if there is no room, otherwise 27 when out of memory. The file is then as it was, and the other
+    /// is dropped.
     fn include(&mut self, other: Self) -> Result<(), span::Error>
         requires { 0 < length (done self.old).sections }
         ensures ok { OnOk result (done self.new ≡ spliced (whole (done other) (rest other)) (rest self.old) (done self.old)) }
-        ensures err { OnErr result (done self.new ≡ with_used (done self.new).used (done self.old)) }
+        ensures err { OnErr result (done self.new ≡ done self.old) }
         ensures rest { rest self.new ≡ rest self.old }
         ensures too_large { IsErrOf result 3 ↔ (has_room (whole (done other) (rest other)) (rest self.old) (done self.old) ≡ false) }
         ensures known { IfErr result (λ e. (e ≡ 3) ⊎ (e ≡ 27)) };

@@ -154,12 +154,11 @@ impl Gathering {
     /// # Errors
     ///
     /// A [`span::Error`]: number 3 if and only if the buffer would be longer than 4294967295 bytes or fewer numbers are left than the other
-    /// has sections, before any growth, otherwise 27 when out of memory. The other is then dropped, and the file as it was, except that its
-    /// buffer may have grown.
+    /// has sections, otherwise 27 when out of memory. The other is then dropped, and the file as it was.
     pub fn include(&mut self, other: Gathering) -> Result<(), span::Error>
         requires { 0 < length self.old.done.sections }
         ensures ok { OnOk result (self.new ≡ record { done = spliced (whole other.done other.rest) self.old.rest self.old.done; rest = self.old.rest }) }
-        ensures err { OnErr result (self.new ≡ record { done = with_used self.new.done.used self.old.done; rest = self.old.rest }) }
+        ensures err { OnErr result (self.new ≡ self.old) }
         ensures too_large { IsErrOf result 3 ↔ (has_room (whole other.done other.rest) self.old.rest self.old.done ≡ false) }
         ensures known { IfErr result (λ e. (e ≡ 3) ⊎ (e ≡ 27)) }
     {

@@ -1,6 +1,6 @@
 -- What stands in a buffer stays where it is.
 use Rattle.std.proofs.Common.{◌≡◌, ℕ, ◌+◌, ◌<◌, ◌≤◌, ◌^◌, Result, Ok, Err, IsErrOf, List, [], ◌++◌, length, take, drop, refl, ap, sym, subst, ◌∙◌, arith, append_assoc, append-nil, length-append, inr}
-use Rattle.std.specs.Prelude.{OnOk}
+use Rattle.std.specs.Prelude.{IfOk, OnOk}
 use Rattle.std.proofs.lemmas.List.{drop_at, take_all}
 use Rattle.gitconf_items.specs.declared.event.Span.{Span}
 use Rattle.gitconf_items.specs.Events.{bytes_of, SpanFits}
@@ -119,6 +119,11 @@ grows_memory e n old new room is memory = record {
   too_large = λ fault. absurd (let h : e ≡ 3 = cc in omega (arith, h, memory));
   known = inr memory;
 }
+
+-- where nothing was taken back, what was said of the buffer is so
+pub still_so : {T E : Type 0} (P : List ℕ → T → Type 0) (added result : Result T E) (b new : List ℕ) → result ≡ added → OnOk result (new ≡ b) → IfOk added (P b) → IfOk result (P new)
+still_so P (Ok t) result b new same ok so = rw same (subst (λ n. P n t) (sym (rw same at ok)) so)
+still_so P (Err e) result b new same ok so = rw same tt
 
 pub ruleset appending = (extended_by, same_extended, stands_last)
 

@@ -1,5 +1,6 @@
 //! Bytes added to a buffer.
-ghost use Rattle.std.specs.Prelude.{◌≡◌, ◌↔◌, ◌+◌, ◌<◌, ◌≤◌, ◌^◌, ◌++◌, length, IfOk, IfErr, OnOk, OnErr, IsErrOf};
+ghost use Rattle.std.specs.Prelude.{◌≡◌, ◌↔◌, ℕ, List, ◌+◌, ◌<◌, ◌≤◌, ◌^◌, ◌++◌, length, IfOk, IfErr, OnOk, OnErr, IsErrOf};
+ghost use Rattle.gitconf_items.specs.ShownEvents.{IsExtended};
 ghost use Rattle.gitconf_lines.specs.Buffers.{Grows, StandsAt};
 
 use gitconf_items::event::Span;
@@ -26,6 +27,22 @@ pub fn append(buffer: &mut Vec<u8>, bytes: &[u8]) -> Result<Span, span::Error>
     }
     buffer.extend_from_slice(bytes)?;
     Ok(Span::between(start, start + bytes.len()))
+}
+
+/// What an addition to a buffer returned; if it was refused, what it added behind the first `len` bytes is taken back.
+pub fn take_back<T: Drop, E: Drop>(
+    added: Result<T, E>,
+    buffer: &mut Vec<u8>,
+    len: usize,
+) -> Result<T, E>
+    ensures same { result ≡ added }
+    ensures ok { OnOk result (buffer.new.items ≡ buffer.old.items) }
+    ensures err { (old : List ℕ) → length old ≡ len → IsExtended old buffer.old.items → OnErr result (buffer.new.items ≡ old) }
+{
+    if added.is_err() {
+        buffer.truncate(len);
+    }
+    added
 }
 
 /// Checks that a buffer has room for that many more bytes. Takes no memory.

@@ -356,15 +356,18 @@ pub fn check_push(
     check_room(buffer, line_len(editor, key, value, comment))
 }
 
-/// Pushes a line after the items, as [`push`] does, without asking first whether the buffer has room for it: the caller has asked
-/// [`check_push`].
+/// Pushes a line after the items: the editor's blanks, the key, and if a value is given `=` with the editor's blanks around it and the
+/// value as a file spells it; then the comment, if one is given, after a space and `#`, with a space before a first byte that is not white
+/// space, and each LF turned to a space; then the editor's line ending, unless it is switched off. The key is written as it is.
+///
+/// It looks at no item. Takes memory for what is added to the buffer, and for the new items.
 ///
 /// # Errors
 ///
-/// A [`span::Error`]: 3 where the buffer would be longer than 4294967295 bytes, otherwise 27 when out of memory. The items are then as they
-/// were, and the buffer may have grown.
+/// A [`span::Error`]: number 3 where the buffer would be longer than 4294967295 bytes, which [`check_push`] tells before any growth, otherwise
+/// 27 when out of memory. The items are then as they were, and the buffer may have grown.
 #[tactic(auto, using(crate::proofs::Buffers::extending))]
-pub fn push_checked(
+pub fn push(
     buffer: &mut Vec<u8>,
     items: &mut Vec<Item>,
     editor: &Editor<'_>,
@@ -385,40 +388,6 @@ pub fn push_checked(
     let line = put_line(buffer, editor, key, value, comment)?;
     push_items(items, line)?;
     Ok(())
-}
-
-/// Pushes a line after the items: the editor's blanks, the key, and if a value is given `=` with the editor's blanks around it and the
-/// value as a file spells it; then the comment, if one is given, after a space and `#`, with a space before a first byte that is not white
-/// space, and each LF turned to a space; then the editor's line ending, unless it is switched off. The key is written as it is.
-///
-/// It looks at no item. Takes memory for what is added to the buffer, and for the new items.
-///
-/// # Errors
-///
-/// A [`span::Error`]: number 3 if and only if the buffer would be longer than 4294967295 bytes, before any growth, otherwise 27 when out of
-/// memory. The items are then as they were, and the buffer may have grown.
-pub fn push(
-    buffer: &mut Vec<u8>,
-    items: &mut Vec<Item>,
-    editor: &Editor<'_>,
-    key: &[u8],
-    value: Option<&[u8]>,
-    comment: Option<&[u8]>,
-) -> Result<(), span::Error>
-    requires room { length buffer.old.items < 2 ^ 32 }
-    requires within { AreItemsWithin (length buffer.old.items) items.old.items }
-    requires fits { EditorFits (length buffer.old.items) editor.now }
-    ensures ok { OnOk result (items_of buffer.new.items items.new.items ≡ state.pushed (editor_in buffer.old.items editor.now)
-        key.now (option_copied value.entry) (option_copied comment.entry) (items_of buffer.old.items items.old.items)) }
-    ensures within { AreItemsWithin (length buffer.new.items) items.new.items }
-    ensures grows { Grows result (spec.line_put editor.now key.now (option_copied value.entry) (option_copied comment.entry)) buffer.old.items
-        buffer.new.items }
-    ensures refused { 2 ^ 32 ≤ length buffer.old.items + spec.line_put editor.now key.now (option_copied value.entry) (option_copied comment.entry)
-        → IsErrOf result 3 }
-    ensures err { OnErr result (items.new.items ≡ items.old.items) }
-{
-    check_push(buffer, editor, key, value, comment)?;
-    push_checked(buffer, items, editor, key, value, comment)
 }
 
 /// Checks that a buffer has room for what [`push_newline`] adds to it. Takes no memory.

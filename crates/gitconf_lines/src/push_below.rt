@@ -228,15 +228,19 @@ pub fn check_push_after_last(
     check_room(buffer, lacking_len(items, editor).saturating_add(count))
 }
 
-/// Pushes a line below the last entry, as [`push_after_last`] does, without asking first whether the buffer has room for it: the caller
-/// has asked [`check_push_after_last`].
+/// Pushes a line below the line of the last entry, whatever its key, or below the header's line if there is no entry: the editor's
+/// blanks, the key, and if a value is given `=` with the editor's blanks around it and the value as a file spells it; then the editor's
+/// line ending, unless it is switched off. The comments and blank lines that come after the last entry come after it. If the line before
+/// it has no line ending, it gets the editor's one first. The key is written as it is.
+///
+/// It walks from the end up to the last entry. Takes memory for what is added to the buffer, for the new items and for those behind them.
 ///
 /// # Errors
 ///
-/// A [`span::Error`]: 3 where the buffer would be longer than 4294967295 bytes, otherwise 27 when out of memory. The items are then as they
-/// were, and the buffer may have grown.
+/// A [`span::Error`]: number 3 where the buffer would be longer than 4294967295 bytes, which [`check_push_after_last`] tells before any
+/// growth, otherwise 27 when out of memory. The items are then as they were, and the buffer may have grown.
 #[tactic(auto, using(crate::proofs::Buffers::extending))]
-pub fn push_after_last_checked(
+pub fn push_after_last(
     buffer: &mut Vec<u8>,
     items: &mut Vec<Item>,
     editor: &Editor<'_>,
@@ -256,38 +260,4 @@ pub fn push_after_last_checked(
     let below = put_below(buffer, items, editor, key, value)?;
     put_in(items, below)?;
     Ok(())
-}
-
-/// Pushes a line below the line of the last entry, whatever its key, or below the header's line if there is no entry: the editor's
-/// blanks, the key, and if a value is given `=` with the editor's blanks around it and the value as a file spells it; then the editor's
-/// line ending, unless it is switched off. The comments and blank lines that come after the last entry come after it. If the line before
-/// it has no line ending, it gets the editor's one first. The key is written as it is.
-///
-/// It walks from the end up to the last entry. Takes memory for what is added to the buffer, for the new items and for those behind them.
-///
-/// # Errors
-///
-/// A [`span::Error`]: number 3 if and only if the buffer would be longer than 4294967295 bytes, before any growth, otherwise 27 when out of
-/// memory. The items are then as they were, and the buffer may have grown.
-pub fn push_after_last(
-    buffer: &mut Vec<u8>,
-    items: &mut Vec<Item>,
-    editor: &Editor<'_>,
-    key: &[u8],
-    value: Option<&[u8]>,
-) -> Result<(), span::Error>
-    requires room { length buffer.old.items < 2 ^ 32 }
-    requires within { AreItemsWithin (length buffer.old.items) items.old.items }
-    requires fits { EditorFits (length buffer.old.items) editor.now }
-    ensures ok { OnOk result (items_of buffer.new.items items.new.items
-        ≡ pushed_after_last (editor_in buffer.old.items editor.now) key.now (option_copied value.entry) (items_of buffer.old.items items.old.items)) }
-    ensures within { AreItemsWithin (length buffer.new.items) items.new.items }
-    ensures grows { Grows result (below_put editor.now key.now (option_copied value.entry) (items_of buffer.old.items items.old.items)) buffer.old.items
-        buffer.new.items }
-    ensures refused { 2 ^ 32 ≤ length buffer.old.items
-        + below_put editor.now key.now (option_copied value.entry) (items_of buffer.old.items items.old.items) → IsErrOf result 3 }
-    ensures err { OnErr result (items.new.items ≡ items.old.items) }
-{
-    check_push_after_last(buffer, items, editor, key, value)?;
-    push_after_last_checked(buffer, items, editor, key, value)
 }

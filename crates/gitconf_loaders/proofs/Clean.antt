@@ -56,7 +56,7 @@ no_entries (EntryItem e ∷ items) none = absurd (cc)
 
 -- a file after another one
 pub behind_headed : (target other now : State) → IsHeaded target → IsHeaded other → IsBehind target other now → IsHeaded now
-behind_headed target other now is more behind = subst IsHeaded (sym behind.0) (record {
+behind_headed target other now is more behind = subst IsHeaded (sym behind) (record {
   clean = record { sections = clean.sections; blanks = clean.blanks; names = clean.names };
   front = front target.sections;
 })

@@ -55,9 +55,10 @@ shut_room target other large = go (target.used + appended_bytes other target) (t
         second false y is = refl
 
 -- a file that goes after another one
-pub joined : (target other now : State) → now ≡ with_used now.used (apply (Append other) target) → now.used ≤ target.used + appended_bytes other target
+pub joined : (target other now : State) → now ≡ with_used now.used (apply (Append other) target) → now.used ≡ target.used + appended_bytes other target
     → ((2 ^ 32 ≤ target.used + appended_bytes other target) ⊎ (no_number < target.next + length other.sections) → ⊥) → Joins (Some target) other (Ok (Some now))
-joined target other now is grown not_large = rw (open_room target other not_large, Joins) (now, (is, grown), refl)
+joined target other now is put not_large =
+    rw (open_room target other not_large, Joins) (now, is ∙ ap (λ n. with_used n (apply (Append other) target)) put, refl)
 
 -- a refusal of a span keeps its number
 pub span_number : (n : ℕ) → paths_number (paths_of_span n) ≡ n

@@ -96,9 +96,9 @@ text_taken (Err fault) = Err (load_fault fault.stage)
 abbrev pub has_room_behind : (target other : State) → Bool
 has_room_behind target other = ltb (target.used + appended_bytes other target) (2 ^ 32) && leb (target.next + length other.sections) no_number
 
--- A file appended to another one, whose buffer has no more bytes than both and the line ending between.
+-- A file appended to another one, with the bytes of both and of the line ending between.
 abbrev pub IsBehind : (target other now : State) → Type 0
-IsBehind target other now = (now ≡ with_used now.used (apply (Append other) target)) × (now.used ≤ target.used + appended_bytes other target)
+IsBehind target other now = now ≡ with_used (target.used + appended_bytes other target) (apply (Append other) target)
 
 -- a file that was made is appended to those before it, if there is room; the first one is the beginning
 abbrev pub Joins : (target : Option State) → (made : State) → Result (Option State) ℕ → Type 0

@@ -16,7 +16,7 @@ use Rattle.gitconf_text.specs.declared.parse.section.header.Error.TheVariants.{I
 use Rattle.gitconf_store.specs.declared.set_raw_value.Error.{Error}
 use Rattle.gitconf_store.specs.declared.set_raw_value.Error.TheVariants.{Header}
 use Rattle.gitconf_store.specs.SetErrors.{set_number}
-pub use Rattle.gitconf_views.specs.Growth.{UsedGrows}
+pub use Rattle.gitconf_body.specs.Growth.{UsedGrows}
 
 -- the list with a change of the element at the place
 abbrev pub update_at : {A : Type 0} → ℕ → (A → A) → List A → List A
@@ -32,9 +32,9 @@ set_at at key value state = record state { sections = update_at at (section_with
 abbrev pub set_new : (name : List ℕ) → (subsection : Option (List ℕ)) → (key value : List ℕ) → State → State
 set_new name subsection key value state = with_last (section_with (file_line_end state) key value (new_section name subsection state)) state
 
--- At most that many more bytes are used; refusal 3 comes only if they would pass the limit, or no number is left.
+-- That many more bytes are used, once it is done; refusal 3 comes only if they would pass the limit, or no number is left.
 pub record EditGrows {T E : Type 0} (result : Result T E) (number : E → ℕ) (count : ℕ) (old new : State) : Type 0 where
-  pub grown : new.used ≤ old.used + count
+  pub put : OnOk result (new.used ≡ old.used + count)
   pub too_large : IfErr result (λ e. number e ≡ 3 → (2 ^ 32 ≤ old.used + count) ⊎ (old.next ≡ no_number))
 
 -- the result is a refusal with this number
@@ -54,7 +54,7 @@ pub record IsSet (name : List ℕ) (subsection : Option (List ℕ)) (key : List 
       ↔ ((is_value_name key ≡ true) × (list_any (is_target name subsection keeps) old.sections ≡ false) × (is_made_name name ≡ true) × (is_valid_or_none subsection ≡ false))
   pub ok : OnOk result (new ≡ with_used new.used (apply (SetRawValue name subsection key keeps value) old))
   pub answer : IfOk result (λ o. option_map bstring_bytes o ≡ replaced_value name subsection key keeps old)
-  pub grown : new.used ≤ old.used + set_raw_value_bytes name subsection key keeps value old
+  pub put : OnOk result (new.used ≡ old.used + set_raw_value_bytes name subsection key keeps value old)
   pub too_large : IfErr result (λ e. set_number e ≡ 3 → (2 ^ 32 ≤ old.used + set_raw_value_bytes name subsection key keeps value old)
       ⊎ ((list_any (is_target name subsection keeps) old.sections ≡ false) × (old.next ≡ no_number)))
   pub refused : is_value_name key ≡ true → (list_any (is_target name subsection keeps) old.sections ≡ true) ⊎ ((is_made_name name ≡ true) × (is_valid_or_none subsection ≡ true))

@@ -27,12 +27,12 @@ rewriting_bytes place key value state = rewritten_put key value (items_of_number
 abbrev pub rewriting_numbers : List ℕ
 rewriting_numbers = 3 ∷ 6 ∷ 27 ∷ []
 
--- How it is done: as the edit says. An invalid name is refused by 6, bytes that would pass the limit by 3, before any growth.
+-- How it is done: as the edit says. An invalid name is refused by 6, bytes that would pass the limit by 3.
 pub record IsRewritten (place : ℕ × ℕ) (key value : List ℕ) (result : Result (Unit {0}) Error) (old new : State) : Type 0 where
   pub ok : OnOk result (new ≡ with_used new.used (apply (rewriting place key value old) old))
-  pub err : OnErr result (new ≡ with_used new.used old)
+  pub err : OnErr result (new ≡ old)
   pub value_name : IsRefusal result 6 ↔ (is_value_name key ≡ false)
-  pub grown : new.used ≤ old.used + rewriting_bytes place key value old
+  pub put : OnOk result (new.used ≡ old.used + rewriting_bytes place key value old)
   pub too_large : IsRefusal result 3 ↔ ((is_value_name key ≡ true) × (2 ^ 32 ≤ old.used + rewriting_bytes place key value old))
   pub known : IfErr result (λ e. list_any (λ number. number == set_number e) rewriting_numbers ≡ true)
 

@@ -1,25 +1,9 @@
--- The items of one section changed, and the editor that the code makes of them.
-use Rattle.std.specs.Prelude.{◌≡◌, ℕ, ◌+◌, List}
-use Rattle.gitconf_text.specs.LineEnds.{bytes_of_line_end}
-use Rattle.gitconf_text.specs.declared.line_end.LineEnd.{LineEnd}
-use Rattle.gitconf_items.specs.declared.items.Item.{Item}
-use Rattle.gitconf_items.specs.Items.{items_of}
-use Rattle.gitconf_items.specs.ItemsFit.{AreItemsWithin}
-use Rattle.gitconf_state.specs.Edit.{blank_bytes}
-use Rattle.gitconf_state.specs.Editors.{editor_of_body}
+-- The items of one section changed.
+use Rattle.std.specs.Prelude.{ℕ, List}
 use Rattle.gitconf_state.specs.State.{State, with_items, with_sections}
 use Rattle.gitconf_text.specs.Part as parts
 use Rattle.gitconf_store.specs.Edits.{update_at}
-use Rattle.gitconf_lines.specs.declared.editor.Editor.{Editor}
-use Rattle.gitconf_lines.specs.Editors.{around_bytes, around_put, editor_in, leading_put, EditorFits}
 
 -- the state with a change of the items of the section at a place
 abbrev pub changed_at_place : (at : ℕ) → (List parts.Item → List parts.Item) → State → State
 changed_at_place at change state = with_sections (update_at at (with_items change) state.sections) state
-
--- In any buffer it is the editor of the items, and its blanks are within the buffer that they are in.
-pub record IsEditorOf (line_end : LineEnd) (items : List Item) (e : Editor) : Type 0 where
-  pub is : (buffer : List ℕ) → editor_in buffer e ≡ editor_of_body (bytes_of_line_end line_end) (items_of buffer items)
-  pub fits : (limit : ℕ) → AreItemsWithin limit items → EditorFits limit e
-  pub blanks : (buffer : List ℕ) → leading_put e.leading + around_put e.around ≡ blank_bytes (items_of buffer items)
-  pub around : (buffer : List ℕ) → around_put e.around ≡ around_bytes (items_of buffer items)

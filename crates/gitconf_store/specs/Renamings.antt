@@ -45,10 +45,10 @@ with_headers header (at ∷ places) all = with_headers header places (edited_at 
 abbrev pub with_renamed : (marks : List Bool) → (name : List ℕ) → (subsection : Option (List ℕ)) → State → State
 with_renamed marks name subsection state = with_sections (marked marks (renamed name subsection) state.sections) state
 
--- At most the bytes of a header are added to the buffer. Refusal 3 comes if and only if the names may be a header's and its bytes would
+-- The bytes of a header are added to the buffer, once it is done. Refusal 3 comes if and only if the names may be a header's and its bytes would
 -- pass the limit.
 pub record HeaderGrows {T : Type 0} (name : List ℕ) (subsection : Option (List ℕ)) (result : Result T HeaderError) (old new : ℕ) : Type 0 where
-  pub grown : new ≤ old + header_bytes name subsection
+  pub put : OnOk result (new ≡ old + header_bytes name subsection)
   pub too_large : IsErrOf result (Span 3) ↔ ((is_made_name name ≡ true) × (is_valid_or_none subsection ≡ true) × (2 ^ 32 ≤ old + header_bytes name subsection))
   pub known : IfErr result (λ e. list_any (λ number. number == header_number e) header_numbers ≡ true)
 
@@ -76,6 +76,7 @@ pub record IsRenamed (name : List ℕ) (subsection : Option (List ℕ)) (keeps :
       ↔ ((list_any (is_target name subsection keeps) old.sections ≡ true) × (is_made_name new_name ≡ true) × (is_valid_or_none new_subsection ≡ true)
       × (2 ^ 32 ≤ old.used + header_bytes new_name new_subsection))
   pub ok : OnOk result (new ≡ with_used new.used (apply (RenameAll name subsection keeps new_name new_subsection) old))
+  pub put : OnOk result (new.used ≡ old.used + header_bytes new_name new_subsection)
   pub known : IfErr result (λ e. list_any (λ number. number == rename_number e) rename_numbers ≡ true)
 
 -- For any filter: one or more of the sections of the names were renamed.

@@ -40,7 +40,7 @@ pub record IsStopped (key : List ℕ) (places : List (ℕ × ℕ)) (values : Lis
   pub places_left : done < length places
   pub values_left : done < length values
   pub is : new ≡ with_used new.used (all_rewritten key (take done places) values old)
-  pub grown : new.used ≤ old.used + all_bytes key (take (done + 1) places) values old
+  pub put : new.used ≡ old.used + all_bytes key (take done places) values old
   pub too_large : (refusal ≡ 3) ↔ (2 ^ 32 ≤ old.used + all_bytes key (take (done + 1) places) values old)
 
 -- How it is done: all of it, with all bytes that it puts, which stay below the limit; or that of the first entries.
@@ -49,7 +49,6 @@ pub record AreRewritten {E : Type 0} (number : E → ℕ) (key : List ℕ) (plac
   pub put : OnOk result (new.used ≡ old.used + all_bytes key places values old)
   pub fits : OnOk result (old.used + all_bytes key places values old < 2 ^ 32)
   pub err : IfErr result (λ e. IsStopped key places values (number e) old new)
-  pub grown : new.used ≤ old.used + all_bytes key places values old
   pub known : IfErr result (λ e. (number e ≡ 3) ⊎ (number e ≡ 27))
 
 -- The lookup of the entries was refused, and everything is as it was.

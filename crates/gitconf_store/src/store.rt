@@ -4,7 +4,6 @@ mod editing;
 mod existing;
 mod including;
 mod items_edit;
-mod items_edits;
 mod leaving_out;
 mod look_ups;
 mod making;
@@ -19,9 +18,9 @@ mod views;
 mod weaving;
 
 use crate::set_raw_value;
-use crate::store::items_edits::SetInSection;
 use bstr::BString;
 use gitconf_base::meta::Metadata;
+use gitconf_body::items_edits::SetInSection;
 use gitconf_body::section::section_with;
 use gitconf_finding::filters::last_passing;
 use gitconf_finding::print::{front_is_ended, write_sections};
@@ -31,6 +30,7 @@ use gitconf_items::few::FewItems;
 use gitconf_items::items::Keep;
 use gitconf_items::sink::{Sink, SinkFault};
 use gitconf_joining::load::Loading;
+use gitconf_lines::buffer::take_back;
 use gitconf_parse::events::Events;
 use gitconf_parse::input::{check_len, copied_with_room};
 use gitconf_parse::loading::read_sections;
@@ -486,7 +486,7 @@ impl Store {
         requires key { is_value_name key.now ≡ true }
         ensures ok { OnOk result (self.new ≡ with_used self.new.used (edits.set_at at key.now value.now self.old)) }
         ensures old { IfOk result (λ o. IfSome (slice_get self.old.sections at) (λ s. option_map (λ v. v.items) o ≡ old_value key.now s.items)) }
-        ensures err { OnErr result (self.new ≡ with_used self.new.used self.old) }
+        ensures err { OnErr result (self.new ≡ self.old) }
         ensures used { IfSome (slice_get self.old.sections at) (λ s. UsedGrows result (set_bytes (file_line_end self.old) key.now value.now s.items)
             self.old.used self.new.used) }
     {
@@ -513,7 +513,7 @@ impl Store {
             ↔ ((is_made_name section_name.now ≡ true) × (is_valid_or_none (option_copied subsection_name.entry) ≡ false)) }
         ensures ok { OnOk result (self.new ≡ with_used self.new.used (edits.set_new section_name.now (option_copied subsection_name.entry) key.now
             value.now self.old)) }
-        ensures err { OnErr result (self.new ≡ with_used self.new.used self.old) }
+        ensures err { OnErr result (self.new ≡ self.old) }
         ensures used { EditGrows result header_number
             (new_section_bytes (file_line_end self.old) section_name.now (option_copied subsection_name.entry) key.now value.now) self.old self.new }
         ensures refused { is_made_name section_name.now ≡ true → is_valid_or_none (option_copied subsection_name.entry) ≡ true
@@ -523,6 +523,7 @@ impl Store {
     {
         validate(section_name.as_bytes(), subsection_name)?;
         let line_end = self.line_end();
+        let len = self.buffer.len();
         let section = section_with(
             &mut self.buffer,
             &mut self.copies,
@@ -532,14 +533,15 @@ impl Store {
             key,
             value,
         )?;
-        let meta = shared(&self.meta)?;
-        self.sections.push(
+        let meta = take_back(shared(&self.meta), &mut self.buffer, len)?;
+        let pushed = self.sections.push(
             section_name.as_bytes(),
             subsection_name,
             section.header,
             meta,
             section.items,
-        )?;
+        );
+        take_back(pushed, &mut self.buffer, len)?;
         Ok(())
     }
 
@@ -558,7 +560,7 @@ impl Store {
     ///
     /// Refusal 6 for an invalid value name, before anything else; 4 and 5 if a section has to be made of a name or a subsection that can't
     /// be one; 3 if the buffer would be longer than 4294967295 bytes, which is checked before any growth, or there is no number for a
-    /// section; 27 when out of memory. The file is then as it was, except that its buffer may have grown.
+    /// section; 27 when out of memory. The file is then as it was.
     pub fn set_raw_value_filter_by<F: FnMut(&Metadata) -> bool>(
         &mut self,
         section_name: &str,
@@ -574,7 +576,7 @@ impl Store {
             → IsSet section_name.now (option_copied subsection_name.entry) value_name.now keeps new_value.now result self.old self.new }
         // For any filter, even one that changes its mind.
         ensures somewhere { OnOk result (IsSetSomewhere section_name.now (option_copied subsection_name.entry) value_name.now new_value.now self.old self.new) }
-        ensures err { OnErr result (self.new ≡ with_used self.new.used self.old) }
+        ensures err { OnErr result (self.new ≡ self.old) }
     {
         let key = value_name.as_bytes();
         if !is_value_name(key) {
@@ -605,7 +607,7 @@ impl Store {
     ) -> Result<Option<BString>, set_raw_value::Error>
         ensures value_name { IsRefusal result 6 ↔ (is_value_name value_name.now ≡ false) }
         ensures exact { IsSet section_name.now (option_copied subsection_name.entry) value_name.now (λ _. true) new_value.now result self.old self.new }
-        ensures err { OnErr result (self.new ≡ with_used self.new.used self.old) }
+        ensures err { OnErr result (self.new ≡ self.old) }
     {
         self.set_raw_value_filter_by(
             section_name,

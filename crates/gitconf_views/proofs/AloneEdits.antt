@@ -1,6 +1,6 @@
 -- A section that stands alone with other items, in a longer buffer.
 use Rattle.std.proofs.lemmas.Bool.{eqb-true}
-use Rattle.std.proofs.Common.{◌≡◌, ℕ, ◌+◌, ◌<◌, ◌≤◌, ◌^◌, Bool, false, true, List, [], length, Option, Some, None, Result, Ok, Err, arith, refl, ap, sym, subst, ◌∙◌, inl, inr}
+use Rattle.std.proofs.Common.{◌≡◌, ℕ, ◌+◌, ◌<◌, ◌^◌, Bool, false, true, List, [], length, Option, Some, None, Result, Ok, Err, arith, refl, ap, sym, subst, ◌∙◌, inl, inr}
 use Rattle.std.specs.Prelude.{◌⊎◌, ◌==◌, if◌then◌else◌, IfErr, IsErrAnd, IsErrOf, OnErr, OnOk}
 use Rattle.std.specs.List.{list_all, list_any}
 use Rattle.gitconf_text.specs.Names.{is_made_name, is_valid_or_none}
@@ -28,7 +28,7 @@ use Rattle.gitconf_lines.proofs.Puts.{set_is}
 use Rattle.gitconf_views.specs.declared.section.Section.{Section as Own}
 use Rattle.gitconf_views.specs.Alone.{detached_of, made_alone, whole, with_items, IsEditedAlone, StandsAlone}
 use Rattle.gitconf_copying.specs.Copies.{header_size, items_size}
-use Rattle.gitconf_views.specs.Growth.{UsedGrows}
+use Rattle.gitconf_body.specs.Growth.{UsedGrows}
 use Rattle.gitconf_views.specs.Store.{section_under}
 use Rattle.gitconf_lines.specs.ValueErrors.{edit_numbers, of_span, value_number}
 use Rattle.gitconf_lines.specs.declared.value.Error.TheVariants.{Memory, Span}
@@ -166,14 +166,13 @@ place_known (Err e) (inr memory) = rw memory refl
 
 -- an edit whose bytes were counted
 pub done_alone : {T : Type 0} (r : Result T ℕ) (change : List parts.Item → List parts.Item) (count bytes : ℕ) (old new : Detached) → OnOk r (new.section ≡ with_items change old.section)
-    → OnErr r (new.section ≡ old.section) → UsedGrows r count old.used new.used → count ≡ bytes → IsEditedAlone change true bytes (λ e. e) r old new
+    → OnErr r (new ≡ old) → UsedGrows r count old.used new.used → count ≡ bytes → IsEditedAlone change true bytes (λ e. e) r old new
 done_alone {T} r change count bytes old new ok err puts same =
     let used : UsedGrows {T = T} r bytes old.used new.used = subst (λ n. UsedGrows {T = T} r n old.used new.used) same puts in
     record {
       ok = ok;
       err = err;
       put = used.put;
-      grown = used.grown;
       invalid = (λ six. absurd (no_six r used.known six), λ none. absurd (let no : true ≡ false = none in cc));
       too_large = (λ three. (refl, used.too_large (is_three r three)), λ large. of_three r (used.refused large.1));
       known = place_known r used.known;
@@ -184,7 +183,7 @@ pub done_with : {T U E : Type 0} (t : T) (u : U) (number : E → ℕ) (change : 
     → IsEditedAlone change true bytes (λ e. e) (Ok t) old new → IsEditedAlone change is_named bytes number (Ok u) old new
 done_with {T} {U} {E} t u number change is_named bytes old new named done =
     subst (λ n. IsEditedAlone {T = U} {E = E} change n bytes number (Ok u) old new) (sym named)
-    (record { ok = done.ok; err = tt; put = done.put; grown = done.grown; invalid = done.invalid; too_large = done.too_large; known = tt })
+    (record { ok = done.ok; err = tt; put = done.put; invalid = done.invalid; too_large = done.too_large; known = tt })
 
 pub refused_with : {T U E : Type 0} (n : ℕ) (e : E) (number : E → ℕ) (change : List parts.Item → List parts.Item) (is_named : Bool) (bytes : ℕ) (old new : Detached) → is_named ≡ true → number e ≡ n
     → IsEditedAlone {T = T} change true bytes (λ e. e) (Err n) old new → IsEditedAlone {T = U} change is_named bytes number (Err e) old new
@@ -194,7 +193,6 @@ refused_with {T} {U} {E} n e number change is_named bytes old new named same is 
       ok = tt;
       err = is.err;
       put = tt;
-      grown = is.grown;
       invalid = (λ six. is.invalid.0 (sym same ∙ six), λ none. same ∙ is.invalid.1 none);
       too_large = (λ three. is.too_large.0 (sym same ∙ three), λ large. same ∙ is.too_large.1 large);
       known = subst (λ m. list_any (λ refusal. refusal == m) edit_numbers ≡ true) (sym same) is.known;
@@ -209,7 +207,6 @@ unnamed {T} {E} e number change is_named bytes old none six =
       ok = tt;
       err = refl;
       put = tt;
-      grown = omega arith;
       invalid = (λ is. refl, λ is. six);
       too_large = (λ three. absurd (let no = sym six ∙ three in omega (arith, no)), λ large. absurd (let no : false ≡ true = large.0 in cc));
       known = subst (λ m. list_any (λ refusal. refusal == m) edit_numbers ≡ true) (sym six) refl;
@@ -217,7 +214,7 @@ unnamed {T} {E} e number change is_named bytes old none six =
 
 -- A value is set in it.
 pub set_done : {T : Type 0} (e : Editor) (key name value : List ℕ) (r : Result T ℕ) (old new : Detached) → key ≡ name → IsGiven e → PutsAround e
-    → OnOk r (new.section ≡ with_items (value_set (given_editor e) key value) old.section) → OnErr r (new.section ≡ old.section)
+    → OnOk r (new.section ≡ with_items (value_set (given_editor e) key value) old.section) → OnErr r (new ≡ old)
     → UsedGrows r (set_put e key value old.section.items) old.used new.used
     → IsEditedAlone (value_set (given_editor e) name value) true (value_set_bytes (given_editor e) name value old.section.items) (λ e. e) r old new
 set_done e key name value r old new same given around ok err used =

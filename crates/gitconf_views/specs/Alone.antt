@@ -58,14 +58,12 @@ pub record StandsAlone (buffer copies : List ℕ) (s : Own) : Type 0 where
   pub spelled : is_header (header_of buffer s.header) ≡ true
   pub items : list_all is_item (items_of buffer s.items.items) ≡ true
 
--- An editor's edit was done and added just the bytes that are counted, or it was refused and the section is as it was, but for such bytes
--- in its buffer. Refusal 6 comes if and only if the name is invalid, otherwise 3 if and only if these bytes would pass the limit; any other
+-- An editor's edit was done and added just the bytes that are counted, or it was refused and the section is as it was. Refusal 6 comes if and only if the name is invalid, otherwise 3 if and only if these bytes would pass the limit; any other
 -- is out of memory.
 pub record IsEditedAlone {T E : Type 0} (change : List parts.Item → List parts.Item) (is_named : Bool) (bytes : ℕ) (number : E → ℕ) (result : Result T E) (old new : Detached) : Type 0 where
   pub ok : OnOk result (new.section ≡ with_items change old.section)
-  pub err : OnErr result (new.section ≡ old.section)
+  pub err : OnErr result (new ≡ old)
   pub put : OnOk result (new.used ≡ old.used + bytes)
-  pub grown : new.used ≤ old.used + bytes
   pub invalid : IsErrAnd result (λ e. number e ≡ 6) ↔ (is_named ≡ false)
   pub too_large : IsErrAnd result (λ e. number e ≡ 3) ↔ ((is_named ≡ true) × (2 ^ 32 ≤ old.used + bytes))
   pub known : IfErr result (λ e. list_any (λ refusal. refusal == number e) edit_numbers ≡ true)

@@ -5,5 +5,4 @@ pub mod Counts
 pub mod Texts
 pub mod Alone
 pub mod AloneEditors
-pub mod Growth
 pub mod ItemMeanings

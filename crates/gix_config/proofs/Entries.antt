@@ -75,7 +75,6 @@ pub shown_section : {T : Type 0} (after : T → State) (shown : T → ℕ × Edi
     → IsFoundOrMade (λ (m : Edited). m.0) (λ m. m.1) give name subsection keeps old (result_map_both (λ t. (after t, shown t)) (λ e. e) result)
 shown_section after shown give name subsection keeps old (Ok t) is = record {
   ok = is.ok;
-  grown = is.grown;
   invalid_name = ((λ no. absurd (cc)), (λ why. let e = is.invalid_name.1 why in absurd (cc)));
   invalid_subsection = ((λ no. absurd (cc)), (λ why. let e = is.invalid_subsection.1 why in absurd (cc)));
   too_large = is.too_large;
@@ -83,7 +82,6 @@ shown_section after shown give name subsection keeps old (Ok t) is = record {
 }
 shown_section after shown give name subsection keeps old (Err e) is = record {
   ok = is.ok;
-  grown = is.grown;
   invalid_name = ((λ no. is.invalid_name.0 (ap Err (ap err_in no))), (λ why. ap Err (ap err_in (is.invalid_name.1 why))));
   invalid_subsection = ((λ no. is.invalid_subsection.0 (ap Err (ap err_in no))), (λ why. ap Err (ap err_in (is.invalid_subsection.1 why))));
   too_large = is.too_large;

@@ -1,5 +1,5 @@
 -- The section of a number follows each edit of it.
-use Rattle.std.proofs.Common.{◌≡◌, ◌⊎◌, ℕ, ◌==◌, ◌||◌, Bool, true, false, List, [], ◌∷◌, map, filter, Option, Some, None, Result, Ok, Err, inl, inr, refl, ap, sym, subst, ◌∙◌, arith}
+use Rattle.std.proofs.Common.{◌≡◌, ◌⊎◌, ℕ, ◌+◌, ◌==◌, ◌||◌, Bool, true, false, List, [], ◌∷◌, map, filter, Option, Some, None, Result, Ok, Err, inl, inr, refl, ap, sym, subst, ◌∙◌, arith}
 use Rattle.std.specs.Prelude.{if◌then◌else◌, IfErr, IfSome, IsErrAnd, IsErrOf, OnErr, OnOk}
 use Rattle.std.specs.List.{last_or, list_any}
 use Rattle.gitconf_text.specs.Part.{Item}
@@ -12,7 +12,7 @@ use Rattle.gitconf_views.proofs.AloneEdits.{is_three, no_six, of_three, place_kn
 use Rattle.gitconf_store.specs.Edits.{UsedGrows}
 use Rattle.gitconf_store.specs.Editors.{PutsIn}
 use Rattle.gix_config.specs.Edited.{edit_numbers, has_name, has_number, IsEdited}
-use Rattle.gix_config.specs.Puts.{put_bytes}
+use Rattle.gix_config.specs.Puts.{done, put_bytes}
 
 -- a section of the number
 pub numbered_stands : (id : ℕ) (state : State) → has_number id state ≡ true → (s : SectionState) × (numbered id state ≡ Some s)
@@ -54,16 +54,21 @@ if_numbered {P} id state stands there = go (numbered id state) (numbered_stands 
     go None some there = absurd (let h = some.1 in cc)
     go (Some s) some there = there
 
+-- an edit with all its bytes
+pub with_all : {T E : Type 0} (edit : Edit) (result : Result T E) (old new : State) → OnOk result (new ≡ with_used new.used (apply edit old))
+    → OnOk result (new.used ≡ old.used + put_bytes edit old) → OnOk result (new ≡ done edit old)
+with_all edit (Ok t) old new ok put = ok ∙ ap (λ n. with_used n (apply edit old)) put
+with_all edit (Err e) old new ok put = tt
+
 -- an edit, from what a store says of it
 pub edited_in : {T : Type 0} (edit : Edit) (id : ℕ) (result : Result T ℕ) (count : ℕ) (old new : State) → has_number id old ≡ true → has_name edit ≡ true
-    → OnOk result (new ≡ with_used new.used (apply edit old)) → OnErr result (new ≡ with_used new.used old)
+    → OnOk result (new ≡ with_used new.used (apply edit old)) → OnErr result (new ≡ old)
     → PutsIn id result count old new → count ≡ put_bytes edit old → IsEdited edit (λ e. e) result old new
 edited_in {T} edit id result count old new stands named ok err puts same =
     let used : UsedGrows {T = T} result (put_bytes edit old) old.used new.used = subst (λ n. UsedGrows {T = T} result n old.used new.used) same (if_numbered id old stands puts.there) in
     record {
-      ok = ok;
+      ok = with_all edit result old new ok used.put;
       err = err;
-      grown = used.grown;
       invalid = (λ six. absurd (no_six result used.known six), λ none. absurd (let no = sym named ∙ none in cc));
       too_large = (λ three. (named, used.too_large (is_three result three)), λ large. of_three result (used.refused large.1));
       known = place_known result used.known;
@@ -82,14 +87,13 @@ either_stands (Err t) old new after id keeps stands ok err = ap (has_number id) 
 
 -- the same of another answer
 pub edited_ok : {T U E F : Type 0} (edit : Edit) (number : E → ℕ) (count : F → ℕ) (t : T) (u : U) (old new : State) → IsEdited {T = T} {E = E} edit number (Ok t) old new → IsEdited {T = U} {E = F} edit count (Ok u) old new
-edited_ok edit number count t u old new e = record { ok = e.ok; err = tt; grown = e.grown; invalid = e.invalid; too_large = e.too_large; known = tt }
+edited_ok edit number count t u old new e = record { ok = e.ok; err = tt; invalid = e.invalid; too_large = e.too_large; known = tt }
 
 pub edited_err : {T U E F : Type 0} (edit : Edit) (number : E → ℕ) (count : F → ℕ) (e : E) (f : F) (old new : State) → count f ≡ number e
     → IsEdited {T = T} {E = E} edit number (Err e) old new → IsEdited {T = U} {E = F} edit count (Err f) old new
 edited_err edit number count e f old new same is = record {
   ok = tt;
   err = is.err;
-  grown = is.grown;
   invalid = (λ six. is.invalid.0 (sym same ∙ six), λ none. same ∙ is.invalid.1 none);
   too_large = (λ three. is.too_large.0 (sym same ∙ three), λ large. same ∙ is.too_large.1 large);
   known = subst (λ n. list_any (λ refusal. refusal == n) edit_numbers ≡ true) (sym same) is.known;
@@ -102,6 +106,6 @@ set_again id value number result old new editor other key name same alike e =
     subst (λ k. IsEdited (SetValue id other k value) number result old new) alike (subst (λ d. IsEdited (SetValue id d key value) number result old new) same e)
 
 pub used_stands : {T E : Type 0} (result : Result T E) (old new after : State) (id : ℕ) → has_number id after ≡ has_number id old
-    → has_number id old ≡ true → OnOk result (new ≡ with_used new.used after) → OnErr result (new ≡ with_used new.used old) → has_number id new ≡ true
+    → has_number id old ≡ true → OnOk result (new ≡ with_used new.used after) → OnErr result (new ≡ old) → has_number id new ≡ true
 used_stands (Ok t) old new after id keeps stands ok err = ap (has_number id) ok ∙ keeps ∙ stands
 used_stands (Err t) old new after id keeps stands ok err = ap (has_number id) err ∙ stands

@@ -113,12 +113,12 @@ module _ (table : Option (List ℕ → FileReport)) (folder : List ℕ) (local :
   worktree_refused e (Err r) is loaded err = from_worktree (Err (paths_number r)) is (Err (paths_number e), loaded, ap Err (ap paths_number err))
 
 -- a file after another one
-put_on : (target other now : State) → now ≡ with_used now.used (apply (Append other) target) → now.used ≤ target.used + appended_bytes other target
+put_on : (target other now : State) → now ≡ with_used now.used (apply (Append other) target) → now.used ≡ target.used + appended_bytes other target
     → ((2 ^ 32 ≤ target.used + appended_bytes other target) ⊎ (no_number < target.next + length other.sections) → ⊥) → IsPutBehind target other (Ok now)
-put_on target other now is grown not_large = inr (go (has_room_behind target other) (open_room target other not_large))
+put_on target other now is put not_large = inr (go (has_room_behind target other) (open_room target other not_large))
   where
     go : (b : Bool) → b ≡ true → elim b as (λ _. Type 0) [ true ↦ (s : State) × IsBehind target other s × (◌≡◌ {A = Result State ℕ} (Ok now) (Ok s)) | false ↦ ◌≡◌ {A = Result State ℕ} (Ok now) (Err 3) ]
-    go true e = (now, (is, grown), refl)
+    go true e = (now, is ∙ ap (λ n. with_used n (apply (Append other) target)) put, refl)
     go false e = absurd (cc)
 
 not_put : (target other : State) (n m : ℕ) → m ≡ n → IsAppendRefusal target other n → IsPutBehind target other (Err m)
@@ -135,9 +135,9 @@ module _ (first : Result State ℕ → Type 0) (target : State) where
   first_refused n e (Ok done) new is number err = absurd err
   first_refused n e (Err r) new is number err = (Err n, is, ap Err (ap git_number err ∙ number))
 
-  pub then_put : (other now : State) → first (Ok other) → now ≡ with_used now.used (apply (Append other) target) → now.used ≤ target.used + appended_bytes other target
+  pub then_put : (other now : State) → first (Ok other) → now ≡ with_used now.used (apply (Append other) target) → now.used ≡ target.used + appended_bytes other target
       → ((2 ^ 32 ≤ target.used + appended_bytes other target) ⊎ (no_number < target.next + length other.sections) → ⊥) → Then first (IsPutBehind target) (Ok now)
-  then_put other now made is grown not_large = (Ok other, made, put_on target other now is grown not_large)
+  then_put other now made is put not_large = (Ok other, made, put_on target other now is put not_large)
 
   pub then_refused : (other : State) (n : ℕ) (result : Result Unit Error) (new : State) → first (Ok other) → IsAppendRefusal target other n → IsErrAnd result (λ r. r ≡ git_of_span n)
       → Then first (IsPutBehind target) (left_by git_number result new)

@@ -150,7 +150,6 @@ pub memory_refused : {T A : Type 0} (after : T → State) (shown : T → A) (giv
     → found ≢ None → IsFoundOrMadeOf {T = T} after shown give name subsection found old (Err headers.Memory)
 memory_refused after shown give name subsection found old some = record {
   ok = tt;
-  grown = tt;
   invalid_name = (λ is. absurd (cc), λ none. absurd (some none.0));
   invalid_subsection = (λ is. absurd (cc), λ none. absurd (some none.0));
   too_large = (λ is. absurd (omega (arith, is)), λ none. absurd (some none.0));

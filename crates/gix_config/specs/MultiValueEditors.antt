@@ -48,11 +48,11 @@ writing e index value = one_rewriting (key_of e) (place_at (places_of e) index) 
 abbrev pub deleting : MultiValueMut Targeted → (index : ℕ) → Edit
 deleting e index = let place = place_at (places_of e) index in DeleteAt place.0 place.1
 
--- How one of the entries gets a value: the edit is done, or it is refused and the file is as it was, except for the bytes of its buffer. At
--- most its bytes are added there, and refusal 3 comes if and only if these would pass the limit.
+-- How one of the entries gets a value: the edit is done, with just its bytes, or it is refused and the file is as it was; refusal 3 comes if
+-- and only if these would pass the limit.
 pub record IsOneSet (e : MultiValueMut Targeted) (index : ℕ) (value : List ℕ) (result : Result (Unit {0}) ℕ) (new : State) : Type 0 where
   pub ok : OnOk result (new ≡ with_used new.used (apply (writing e index value) (edited e)))
-  pub err : OnErr result (new ≡ with_used new.used (edited e))
+  pub err : OnErr result (new ≡ edited e)
   pub used : let id = (place_at (places_of e) index).0 in PutsIn id result (rewritten_put (key_of e) value (items_of_numbered id (edited e))) (edited e) new
   pub missing : numbered (place_at (places_of e) index).0 (edited e) ≡ None → IsOk result
 

@@ -1,8 +1,8 @@
 -- How many bytes the edits of editors add to the buffer of a file. A separator, the mark of a comment, and the brackets and quotes of a
 -- header are in no buffer.
 use Rattle.std.specs.Prelude.{ℕ, ◌+◌, length, Some}
-use Rattle.gitconf_state.specs.Edit.{header_bytes}
-use Rattle.gitconf_state.specs.Edits.{Edit, NewSection, Push, PushAfterLast, PushLineEnd, Rename, SetValue, WriteAt, items_of_numbered}
+use Rattle.gitconf_state.specs.Edit.{header_bytes, with_used}
+use Rattle.gitconf_state.specs.Edits.{Edit, NewSection, Push, PushAfterLast, PushLineEnd, Rename, SetValue, WriteAt, apply, items_of_numbered}
 use Rattle.gitconf_state.specs.LineEnds.{file_line_end}
 use Rattle.gitconf_state.specs.State.{State}
 use Rattle.gitconf_lines.specs.Puts.{after_last_bytes, assigned_bytes, line_bytes, value_set_bytes}
@@ -17,3 +17,7 @@ put_bytes (WriteAt number editor place instead key value) state = length key + a
 put_bytes (Rename number name subsection) state = header_bytes name subsection
 put_bytes (NewSection name subsection) state = length (file_line_end state) + header_bytes name subsection
 put_bytes _ state = 0
+
+-- the state after an edit was done, with the bytes that it added
+abbrev pub done : Edit → State → State
+done edit state = with_used (state.used + put_bytes edit state) (apply edit state)

@@ -10,8 +10,8 @@ use Rattle.gitconf_text.specs.SectionKeys.{SectionKey}
 use Rattle.gitconf_text.specs.declared.parse.section.header.Error.{Error as HeaderError}
 use Rattle.gitconf_text.specs.declared.parse.section.header.Error.TheVariants.{InvalidName, InvalidSubSection}
 use Rattle.gitconf_base.specs.Metadata.{Meta}
-use Rattle.gitconf_state.specs.Edit.{new_section, Spacing, spacing_of, with_used}
-use Rattle.gitconf_state.specs.Edits.{NewSection, apply, numbered}
+use Rattle.gitconf_state.specs.Edit.{new_section, Spacing, spacing_of}
+use Rattle.gitconf_state.specs.Edits.{NewSection, numbered}
 use Rattle.gitconf_state.specs.Editors.{Editor, editor_of}
 use Rattle.gitconf_state.specs.Lookup.{listed, miss_of}
 use Rattle.gitconf_state.specs.State.{SectionState, State}
@@ -21,7 +21,7 @@ use Rattle.gitconf_finding.specs.declared.existing.Error.TheVariants.{KeyMissing
 use Rattle.gitconf_finding.specs.Misses.{IsExisting}
 use Rattle.gitconf_store.specs.NewSections.{HasNoPlace}
 use Rattle.gitconf_finding.specs.Picks.{picked, HasSection, IsMissing}
-use Rattle.gix_config.specs.Puts.{put_bytes}
+use Rattle.gix_config.specs.Puts.{done}
 use Rattle.gix_config.specs.declared.file.section_mut.SectionMut.{SectionMut}
 use Rattle.gix_config.specs.declared.file.section_mut.making.Error.{Error}
 use Rattle.gix_config.specs.declared.file.section_mut.making.Error.TheVariants.{NonePasses, Lookup}
@@ -96,13 +96,12 @@ IsPassingEditorOfKey (Some key) whole keeps some result =
 -- What was found, and the state stays; if nothing was, a section was made, and this is what was found of it.
 abbrev pub IsFoundOr : {A : Type 0} → (give : SectionState → A) → (name : List ℕ) → (subsection : Option (List ℕ)) → Option SectionState → (old new : State) → A → Type 0
 IsFoundOr give name subsection (Some s) old new told = (new ≡ old) × (told ≡ give s)
-IsFoundOr give name subsection None old new told = (new ≡ with_used new.used (apply (NewSection name subsection) old)) × (told ≡ give (new_section name subsection old))
+IsFoundOr give name subsection None old new told = (new ≡ done (NewSection name subsection) old) × (told ≡ give (new_section name subsection old))
 
 -- What was found of a section that is made if there is none. Refusals 4, 5 and 3 come only if a section has to be made, each with its
 -- cause; any other is out of memory.
 pub record IsFoundOrMadeOf {T A : Type 0} (after : T → State) (shown : T → A) (give : SectionState → A) (name : List ℕ) (subsection : Option (List ℕ)) (found : Option SectionState) (old : State) (result : Result T HeaderError) : Type 0 where
   pub ok : IfOk result (λ t. IsFoundOr give name subsection found old (after t) (shown t))
-  pub grown : IfOk result (λ t. (after t).used ≤ old.used + put_bytes (NewSection name subsection) old)
   pub invalid_name : IsErrOf result InvalidName ↔ ((found ≡ None) × (is_made_name name ≡ false))
   pub invalid_subsection : IsErrOf result InvalidSubSection ↔ ((found ≡ None) × (is_made_name name ≡ true) × (is_valid_or_none subsection ≡ false))
   pub too_large : IsErrAnd result (λ e. header_number e ≡ 3)
@@ -114,11 +113,3 @@ abbrev pub IsFoundOrMade : {T A : Type 0} → (after : T → State) → (shown :
     → (name : List ℕ) → (subsection : Option (List ℕ)) → (keeps : Meta → Bool) → (old : State) → Result T HeaderError → Type 0
 IsFoundOrMade after shown give name subsection keeps old result =
     IsFoundOrMadeOf after shown give name subsection (picked name subsection keeps old) old result
-
--- The file after a section was not put into it: as it was, except for the bytes of its buffer, to which at most these were added.
-abbrev pub IsUnput : (bytes : ℕ) → (old new : State) → Type 0
-IsUnput bytes old new = (new ≡ with_used new.used old) × (new.used ≤ old.used + bytes)
-
--- the file after a section was not made
-abbrev pub IsUnmade : (name : List ℕ) → (subsection : Option (List ℕ)) → (old new : State) → Type 0
-IsUnmade name subsection old = IsUnput (put_bytes (NewSection name subsection) old) old

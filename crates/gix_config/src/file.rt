@@ -306,7 +306,7 @@ impl File {
         requires { IsSome (K.key key) }
         ensures value_name { IsRefusal result 6 ↔ (is_value_name (the_key (K.key key)).name ≡ false) }
         ensures exact { IsSetByKey (the_key (K.key key)) (λ _. true) new_value.now result self.old self.new }
-        ensures err { OnErr result (self.new ≡ with_used self.new.used self.old) }
+        ensures err { OnErr result (self.new ≡ self.old) }
     {
         let key = key.as_key();
         self.set_raw_value_by(
@@ -331,7 +331,7 @@ impl File {
     ) -> Result<Option<BString>, set_raw_value::Error>
         ensures value_name { IsRefusal result 6 ↔ (is_value_name value_name.now ≡ false) }
         ensures exact { IsSet section_name.now (option_copied subsection_name.entry) value_name.now (λ _. true) new_value.now result self.old self.new }
-        ensures err { OnErr result (self.new ≡ with_used self.new.used self.old) }
+        ensures err { OnErr result (self.new ≡ self.old) }
     {
         self.store
             .set_raw_value_by(section_name, subsection_name, value_name, new_value)
@@ -356,7 +356,7 @@ impl File {
             → IsSetByKey (the_key (K.key key)) keeps new_value.now result self.old self.new }
         // For any filter, even one that changes its mind.
         ensures somewhere { OnOk result (let k = the_key (K.key key) in IsSetSomewhere k.section k.subsection k.name new_value.now self.old self.new) }
-        ensures err { OnErr result (self.new ≡ with_used self.new.used self.old) }
+        ensures err { OnErr result (self.new ≡ self.old) }
     {
         let key = key.as_key();
         self.set_raw_value_filter_by(
@@ -388,7 +388,7 @@ impl File {
             → IsSet section_name.now (option_copied subsection_name.entry) value_name.now keeps new_value.now result self.old self.new }
         // For any filter, even one that changes its mind.
         ensures somewhere { OnOk result (IsSetSomewhere section_name.now (option_copied subsection_name.entry) value_name.now new_value.now self.old self.new) }
-        ensures err { OnErr result (self.new ≡ with_used self.new.used self.old) }
+        ensures err { OnErr result (self.new ≡ self.old) }
     {
         self.store.set_raw_value_filter_by(
             section_name,

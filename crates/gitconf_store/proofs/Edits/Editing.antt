@@ -1,9 +1,9 @@
 -- The section of a number with other items, in a longer buffer.
-use Rattle.std.proofs.Common.{◌≡◌, ℕ, zero, suc, ◌+◌, ◌<◌, ◌≤◌, ◌^◌, ◌==◌, Bool, true, false, nat_lt, List, [], ◌∷◌, ◌++◌, length, map, filter, position, Option, Some, None, Result, Ok, Err, refl, ap, sym, subst, ◌∙◌, arith, inl, inr}
-use Rattle.std.specs.Prelude.{if◌then◌else◌, ◌⊎◌, ◌↔◌, IfErr, IfSome, IsErrOf, OnErr}
+use Rattle.std.proofs.Common.{◌≡◌, ℕ, zero, suc, ◌+◌, ◌<◌, ◌≤◌, ◌^◌, ◌==◌, Bool, true, false, nat_lt, List, [], ◌∷◌, length, map, filter, position, Option, Some, None, Result, Ok, Err, refl, ap, sym, subst, ◌∙◌, arith, inl, inr}
+use Rattle.std.specs.Prelude.{if◌then◌else◌, ◌⊎◌, IfSome, OnErr}
 use Rattle.std.specs.List.{AllByRecursion, last_or, position_or_len, slice_get}
 use Rattle.std.specs.Option.{option_map}
-use Rattle.std.proofs.lemmas.Bool.{eq-eqb, eqb-false, ne_eqb, ltb-false, ltb-true}
+use Rattle.std.proofs.lemmas.Bool.{eq-eqb, eqb-false, ne_eqb, ltb-false}
 use Rattle.gitconf_text.specs.Part as parts
 use Rattle.gitconf_base.specs.Metadata.{Meta}
 use Rattle.gitconf_text.specs.Sections.{AreNumbered, SectionEntry, Sections, changed_at, has_number, with_section, section_at, place_of, number_at}
@@ -12,21 +12,14 @@ use Rattle.gitconf_items.specs.Events.{header_of}
 use Rattle.gitconf_items.specs.ItemsFit.{AreItemsWithin}
 use Rattle.gitconf_items.specs.ShownEvents.{IsExtended}
 use Rattle.gitconf_state.specs.Edit.{with_used}
-use Rattle.gitconf_state.specs.Edits.{change_items, items_of_numbered, numbered, said_in_section, Raw, Entry}
+use Rattle.gitconf_state.specs.Edits.{change_items, items_of_numbered, numbered, said_in_section, Entry}
 use Rattle.gitconf_state.specs.State.{SectionState, State, HasItems}
 use Rattle.gitconf_items.specs.Items.{items_of}
-use Rattle.gitconf_lines.specs.Places.{IsLastAt}
-use Rattle.gitconf_lines.specs.declared.editor.Editor.{Editor}
-use Rattle.gitconf_lines.specs.Editors.{around_put, around_bytes}
-use Rattle.gitconf_body.specs.ValuesAt.{written_put, rewritten_put}
-use Rattle.gitconf_text.specs.Value.{escaped}
 use Rattle.gitconf_lines.proofs.Buffers.{extended_fit, extended_items, same_extended}
 use Rattle.gitconf_sections.specs.Section.{Section}
 use Rattle.gitconf_sections.proofs.Edits.{put_again}
 use Rattle.gitconf_state.specs.State.{with_items}
-use Rattle.gitconf_lines.specs.Buffers.{Grows}
-use Rattle.gitconf_store.specs.Edits.{update_at, UsedGrows}
-use Rattle.gitconf_store.specs.Editors.{PutsIn}
+use Rattle.gitconf_store.specs.Edits.{update_at}
 use Rattle.gitconf_views.specs.Store.{section_state, state_of, SectionFits, AllSectionsFit, StoreFits}
 use Rattle.gitconf_store.specs.ItemsEdits.{changed_at_place}
 use Rattle.gitconf_store.proofs.Edits.Setting.{HasOthers, changed_fits, changed_view, kept_view, section_in, sections_in}
@@ -254,27 +247,6 @@ numbered_kept b new copies front meta table id at s t change x room others old o
 pub entry_inside : {o p : Option (List ℕ × List ℕ)} → Entry o ≡ Entry p → o ≡ p
 entry_inside is = cc
 
--- nothing was put, since it was refused
-pub used_refused : {T : Type 0} (r : Result T ℕ) (count used : ℕ) → IsErrOf r 3 → 2 ^ 32 ≤ used + count → UsedGrows r count used used
-used_refused (Ok t) count used three due = absurd (cc)
-used_refused (Err e) count used three due = record { put = tt; grown = omega arith; too_large = λ _. due; refused = λ _. three; known = inl (let h = three in cc) }
-
-pub refused_grows : {S : Type 0} (T : Type 0) (r : Result S ℕ) (count used : ℕ) → IsErrOf r 3 → 2 ^ 32 ≤ used + count → IfErr r (λ e. UsedGrows {T = T} (Err e) count used used)
-refused_grows T (Ok s) count used three due = absurd (cc)
-refused_grows T (Err e) count used three due = let same : e ≡ 3 = cc in used_refused (Err e) count used (ap Err same) due
-
--- where the bytes fit
-pub used_grows : {T : Type 0} (r : Result T ℕ) (count : ℕ) (old new : List ℕ) → Grows r count old new → length old + count < 2 ^ 32 → UsedGrows r count (length old) (length new)
-used_grows r count old new g fits =
-    record { put = g.put; grown = g.grown; too_large = g.too_large; refused = λ due. absurd (let n : ℕ = length old + count in omega (arith, due, fits)); known = g.known }
-
-pub checked_fits : {T : Type 0} (r : Result T ℕ) (t : T) (n : ℕ) → r ≡ Ok t → (IsErrOf r 3 ↔ (2 ^ 32 ≤ n)) → n < 2 ^ 32
-checked_fits r t n ok asked = go (nat_lt n (2 ^ 32)) refl
-  where
-    go : (b : Bool) → nat_lt n (2 ^ 32) ≡ b → n < 2 ^ 32
-    go true h = ltb-true n (2 ^ 32) h
-    go false h = absurd (let three : r ≡ Err 3 = asked.1 (ltb-false n (2 ^ 32) h) in let no : Ok t ≡ Err 3 = sym ok ∙ three in cc)
-
 -- the section there is not missing
 pub never_missing : (b : List ℕ) (front : List Item) (meta : Meta) (table : Sections Section) (id at : ℕ) (s : Section)
     → AreNumbered table.next table.entries → section_at at table ≡ Some s → number_at at table ≡ Some id → numbered id (state_of b front meta table) ≡ None → ⊥
@@ -302,10 +274,10 @@ same_items table at s t read taken =
     let is : s ≡ t = cc in
     ap (λ (s : Section). s.items.items) is
 
--- an editor with the blanks of the items puts as many bytes as one that is made of them
-pub rewritten_count : (buffer : List ℕ) (editor : Editor) (key value : List ℕ) (is : List Item) → around_put editor.around ≡ around_bytes (items_of buffer is)
-    → written_put editor key value ≡ rewritten_put key value (items_of buffer is)
-rewritten_count buffer editor key value is around = ap (λ n. length key + (n + length (escaped value))) around
+-- what holds of a refusal, twice
+pub on_both : {T E : Type 0} (P Q : Type 0) (r : Result T E) → OnErr r P → OnErr r Q → OnErr r (P × Q)
+on_both P Q (Ok t) p q = tt
+on_both P Q (Err e) p q = (p, q)
 
 -- what holds anyway holds after an error
 pub as_err : {T E P : Type 0} (r : Result T E) → P → OnErr r P

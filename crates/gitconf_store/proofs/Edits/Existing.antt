@@ -39,7 +39,7 @@ invalid_rewritten place key value old result invalid is = subst (λ r. IsRewritt
   ok = tt;
   err = refl;
   value_name = (λ six. invalid, λ none. refl);
-  grown = omega arith;
+  put = tt;
   too_large = (λ three. absurd (omega (arith, three)), λ all. absurd (let no = sym invalid ∙ all.0 in cc));
   known = refl;
 })
@@ -72,21 +72,21 @@ rewritten_ok key value place old new placed ok used = subst (λ o. IsSetWhere o 
   ok = ok;
   err = tt;
   value_name = (λ fault. absurd (fault), λ invalid. absurd (let no = sym invalid ∙ placed.0 in cc));
-  grown = used.grown;
+  put = used.put;
   too_large = (λ fault. absurd (fault), λ all. absurd (let no = used.refused all.1 in cc));
   known = tt;
 })
 
 -- It was not.
 pub rewritten_err : (key : Key) (value : List ℕ) (place : ℕ × ℕ) (old new : State) (r : Result (Unit {0}) ℕ) (e : ℕ) (result : Result (Unit {0}) Error)
-    → IsValuePlace key (λ _. true) old (Ok place) → r ≡ Err e → result ≡ Err (of_span e) → OnErr r (new ≡ with_used new.used old)
+    → IsValuePlace key (λ _. true) old (Ok place) → r ≡ Err e → result ≡ Err (of_span e) → OnErr r (new ≡ old)
     → UsedGrows r (rewriting_bytes place key.name value old) old.used new.used → IsSetExisting key value result old new
 rewritten_err key value place old new r e result placed fault is kept used =
     subst (λ o. IsSetWhere o key value result old new) (sym placed.1) (subst (λ t. IsRewritten place key.name value t old new) (sym is) (record {
       ok = tt;
-      err = subst (λ r. OnErr r (new ≡ with_used new.used old)) fault kept;
+      err = subst (λ r. OnErr r (new ≡ old)) fault kept;
       value_name = (λ six. absurd (apart (grows.known) (sym (number_of_span e) ∙ six)), λ invalid. absurd (let no = sym invalid ∙ placed.0 in cc));
-      grown = used.grown;
+      put = tt;
       too_large = (
         λ three. (placed.0, grows.too_large (ap Err (sym (number_of_span e) ∙ three))),
         λ all. number_of_span e ∙ (let three = grows.refused all.1 in let h : e ≡ 3 = cc in h),

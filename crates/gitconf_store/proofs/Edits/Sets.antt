@@ -2,7 +2,7 @@
 use Rattle.std.proofs.Common.{◌≡◌, ◌⊎◌, ℕ, ◌+◌, ◌≤◌, ◌^◌, Bool, true, false, List, [], ◌∷◌, ◌++◌, length, Option, Some, None, Result, Ok, Err, inl, inr, refl, ap, sym, subst, ◌∙◌}
 use Rattle.std.specs.List.{list_any, last_or, slice_get}
 use Rattle.std.specs.Option.{option_map}
-use Rattle.std.specs.Prelude.{◌==◌, if◌then◌else◌, filter, IfErr, IfSome, IsErrAnd, IsErrOf, IsOk, ◌↔◌}
+use Rattle.std.specs.Prelude.{◌==◌, if◌then◌else◌, filter, IfErr, IfSome, IsErrAnd, IsErrOf, IsOk, OnOk, ◌↔◌}
 use Rattle.std.proofs.lemmas.Bool.{eqb-true}
 use Rattle.bstr.specs.declared.bstring.BString.{BString}
 use Rattle.bstr.specs.Owned.{bstring_bytes}
@@ -122,7 +122,8 @@ made_ok name subsection key keeps value old new r done none named valid made gro
   invalid_subsection = (λ fault. absurd (cc), λ all. absurd (let h = sym done ∙ valid.1 (all.2, all.3) in cc));
   ok = made ∙ ap (with_used new.used) (sym (set_raw_value_new name subsection key keeps value old none));
   answer = sym (replaced_value_none name subsection key keeps old none);
-  grown = subst (λ n. new.used ≤ old.used + n) (sym (bytes_new name subsection key keeps value old none)) grows.grown;
+  put = subst (λ n. new.used ≡ old.used + n) (sym (bytes_new name subsection key keeps value old none))
+      (subst (λ r. OnOk r (new.used ≡ old.used + new_section_bytes (file_line_end old) name subsection key value)) done grows.put);
   too_large = tt;
   known = tt;
 }
@@ -149,7 +150,7 @@ made_err name subsection key keeps value old new r e result fault is keyed none 
   );
   ok = tt;
   answer = tt;
-  grown = subst (λ n. new.used ≤ old.used + n) (sym (bytes_new name subsection key keeps value old none)) grows.grown;
+  put = tt;
   too_large = λ number. elim (subst (λ n. header_number e ≡ 3 → (2 ^ 32 ≤ old.used + n) ⊎ (old.next ≡ no_number)) (sym (bytes_new name subsection key keeps value old none))
       (subst (λ r. IfErr r (λ e. header_number e ≡ 3 → (2 ^ 32 ≤ old.used + new_section_bytes (file_line_end old) name subsection key value) ⊎ (old.next ≡ no_number))) fault grows.too_large)
       (sym (number_of_header e) ∙ number)) [ inl passes ↦ inl passes | inr used_up ↦ inr (none, used_up) ];
@@ -198,7 +199,7 @@ found_ok {T} name subsection key keeps value old new at t o bytes l set was same
   ok = set ∙ ap (with_used new.used) (set_last name subsection key keeps value old at l);
   answer = same ∙ subst (λ s. IfSome s (λ s. bytes ≡ old_value key s.items)) (at_last name subsection keeps old at l) was
       ∙ sym (replaced_value_at name subsection key keeps old l.before l.found l.behind l.is l.passes l.none);
-  grown = (grown_at name subsection key keeps value old new at (Ok t) l used).grown;
+  put = (grown_at name subsection key keeps value old new at (Ok t) l used).put;
   too_large = tt;
   known = tt;
 }
@@ -217,7 +218,7 @@ found_err {T} name subsection key keeps value old new at r e result l fault is u
   invalid_subsection = (λ same. absurd (no_header e InvalidSubSection (cc)), λ all. absurd (stands all.1));
   ok = tt;
   answer = tt;
-  grown = (grown_at name subsection key keeps value old new at r l used).grown;
+  put = tt;
   too_large = λ number. inl ((grown_at name subsection key keeps value old new at r l used).too_large (fault ∙ ap Err (sym (number_of_span e) ∙ number)));
   known = subst Known (sym (number_of_span e)) (span_known e (subst (λ r. IfErr r (λ e. (e ≡ 3) ⊎ (e ≡ 27))) fault (grown_at name subsection key keeps value old new at r l used).known));
 })

@@ -1,5 +1,5 @@
 -- Several values of entries that stand, set anew.
-use Rattle.std.proofs.Common.{◌≡◌, ℕ, ◌+◌, ◌≤◌, ◌<◌, ◌^◌, Bool, true, false, ltb, List, [], ◌∷◌, ◌++◌, length, take, Option, Some, None, Result, Ok, Err, inl, inr, refl, ap, sym, subst, ◌∙◌, append-nil, append_assoc, arith, length-append}
+use Rattle.std.proofs.Common.{◌≡◌, ℕ, ◌+◌, ◌<◌, ◌^◌, Bool, true, false, ltb, List, [], ◌∷◌, ◌++◌, length, take, Option, Some, None, Result, Ok, Err, inl, inr, refl, ap, sym, subst, ◌∙◌, append-nil, append_assoc, arith, length-append}
 use Rattle.std.specs.Prelude.{◌⊎◌, IfSome, IsErr, IsOk, OnErr}
 use Rattle.std.specs.declared.vec.Vec.{Vec}
 use Rattle.std.proofs.lemmas.Bool.{ltb-false, ltb-true}
@@ -134,7 +134,6 @@ ended key places values left given old now none w = record {
   put = omega (arith, w.put, total);
   fits = omega (arith, w.put, w.room, total);
   err = tt;
-  grown = omega (arith, w.put, total);
   known = tt;
 }
   where
@@ -154,7 +153,7 @@ front_of (x ∷ xs) ys = ap (λ zs. x ∷ zs) (front_of xs ys)
 
 -- the next one was refused
 pub refused : (key : List ℕ) (places : List (ℕ × ℕ)) (values : List (List ℕ)) (p : ℕ × ℕ) (ps left : List (ℕ × ℕ)) (v : List ℕ) (vs given : List (List ℕ)) (old now new : State)
-    (r result : Result (Unit {0}) ℕ) → IsErr r → result ≡ r → left ≡ p ∷ ps → given ≡ v ∷ vs → OnErr r (new ≡ with_used new.used now)
+    (r result : Result (Unit {0}) ℕ) → IsErr r → result ≡ r → left ≡ p ∷ ps → given ≡ v ∷ vs → OnErr r (new ≡ now)
     → UsedGrows r (next_bytes key v p now) now.used new.used → IsUnderWay key places values left given old now → AreRewritten (λ (e : ℕ). e) key places values result old new
 refused key places values p ps left v vs given old now new (Ok t) result fault is left_is given_is kept used w = absurd (cc)
 refused key places values p ps left v vs given old now new (Err e) result fault is left_is given_is kept used w = subst (λ r. AreRewritten (λ (e : ℕ). e) key places values r old new) (sym is) (record {
@@ -165,14 +164,13 @@ refused key places values p ps left v vs given old now new (Err e) result fault 
     done = length w.done;
     places_left = places_more;
     values_left = values_more;
-    is = kept ∙ ap (with_used new.used) (w.is ∙ ap (with_used now.used) (sym first));
-    grown = omega (arith, used.grown, w.put, up_to);
+    is = kept ∙ w.is ∙ ap (with_used now.used) (sym first) ∙ ap (λ (s : State). with_used s.used (all_rewritten key (take (length w.done) places) values old)) (sym kept);
+    put = ap (λ (s : State). s.used) kept ∙ w.put ∙ ap (λ n. old.used + n) (sym before);
     too_large = (
       λ three. (let large = used.too_large (ap Err three) in omega (arith, large, w.put, up_to)),
       λ large. (let three = used.refused (omega (arith, large, w.put, up_to)) in cc),
     );
   };
-  grown = omega (arith, used.grown, w.put, total);
   known = used.known;
 })
   where
@@ -194,6 +192,12 @@ refused key places values p ps left v vs given old now new (Err e) result fault 
         ∙ ap (λ xs. all_rewritten key xs (w.given ++ v ∷ vs) old) (front_of w.done (p ∷ ps) ∙ sym (append-nil w.done))
         ∙ rewritten_both key w.done [] w.given (v ∷ vs) old w.as_long
 
+    before : all_bytes key (take (length w.done) places) values old ≡ all_bytes key w.done w.given old
+    before =
+        let taken : take (length w.done) places ≡ w.done ++ [] = ap (take (length w.done)) places_all ∙ front_of w.done (p ∷ ps) ∙ sym (append-nil w.done) in
+        let all : all_bytes key (take (length w.done) places) values old ≡ all_bytes key (w.done ++ []) (w.given ++ v ∷ vs) old = (λ i. all_bytes key (taken i) (values_all i) old) in
+        all ∙ bytes_both key w.done [] w.given (v ∷ vs) old w.as_long ∙ (let n : ℕ = all_bytes key w.done w.given old in omega (arith))
+
     -- the bytes of those before it, and its own
     up_to : all_bytes key (take (length w.done + 1) places) values old ≡ all_bytes key w.done w.given old + next_bytes key v p now
     up_to =
@@ -202,13 +206,6 @@ refused key places values p ps left v vs given old now new (Err e) result fault 
         ∙ ap (λ n. take n ((w.done ++ p ∷ []) ++ ps)) (sym (length-append w.done (p ∷ []))) ∙ front_of (w.done ++ p ∷ []) ps in
         let all : all_bytes key (take (length w.done + 1) places) values old ≡ all_bytes key (w.done ++ p ∷ []) (w.given ++ v ∷ vs) old = (λ i. all_bytes key (taken i) (values_all i) old) in
         let both = bytes_both key w.done (p ∷ []) w.given (v ∷ vs) old w.as_long in
-        let same = same_bytes key v p now now.used (all_rewritten key w.done w.given old) w.is in
-        omega (arith, all, both, same)
-
-    total : all_bytes key w.done w.given old + next_bytes key v p now ≤ all_bytes key places values old
-    total =
-        let all : all_bytes key places values old ≡ all_bytes key (w.done ++ p ∷ ps) (w.given ++ v ∷ vs) old = (λ i. all_bytes key (places_all i) (values_all i) old) in
-        let both = bytes_both key w.done (p ∷ ps) w.given (v ∷ vs) old w.as_long in
         let same = same_bytes key v p now now.used (all_rewritten key w.done w.given old) w.is in
         omega (arith, all, both, same)
 
@@ -235,7 +232,6 @@ with_refusal key places values old new r e result fault is a =
       put = tt;
       fits = tt;
       err = subst (λ n. IsStopped key places values n old new) (sym (number_of_span e)) b.err;
-      grown = b.grown;
       known = elim b.known [ inl three ↦ inl (number_of_span e ∙ three) | inr memory ↦ inr (number_of_span e ∙ memory) ];
     })
   where
@@ -244,7 +240,7 @@ with_refusal key places values old new r e result fault is a =
 
 without_refusal : (key : List ℕ) (places : List (ℕ × ℕ)) (values : List (List ℕ)) (old new : State) (r : Result (Unit {0}) ℕ)
     → r ≡ Ok tt → AreRewritten (λ (e : ℕ). e) key places values r old new → AreRewritten {E = Error} set_number key places values (Ok tt) old new
-without_refusal key places values old new r done a = record { ok = b.ok; put = b.put; fits = b.fits; err = tt; grown = b.grown; known = tt }
+without_refusal key places values old new r done a = record { ok = b.ok; put = b.put; fits = b.fits; err = tt; known = tt }
   where
     b : AreRewritten (λ (e : ℕ). e) key places values (Ok tt) old new
     b = subst (λ t. AreRewritten (λ (e : ℕ). e) key places values t old new) done a

@@ -20,7 +20,7 @@ use Rattle.gitconf_state.specs.State.{HasItems, HasSectionItems, SectionState, S
 use Rattle.gitconf_state.proofs.Edits.Items.{new_section_is}
 use Rattle.gitconf_state.proofs.Edits.Values.{made_name, made_subsection}
 use Rattle.gitconf_items.specs.Items.{items_of}
-use Rattle.gitconf_lines.proofs.Buffers.{extended_fit, extended_items}
+use Rattle.gitconf_lines.proofs.Buffers.{extended_fit, extended_items, same_extended}
 use Rattle.gitconf_sections.specs.Section.{Section}
 use Rattle.gitconf_views.specs.Store.{section_state, state_of, SectionFits, AllSectionsFit, StoreFits}
 use Rattle.gitconf_joining.proofs.Loading.{sections_fit_more}
@@ -54,6 +54,12 @@ longer_fits b new copies more front meta table x y room old = record {
   sections_within = sections_fit_more new copies more table.entries y (sections_fit_in b new copies table.entries x old.sections_within);
   items = subst HasItems (sym (longer_state b new copies front meta table x old)) (record { front = old.items.front; sections = old.items.sections });
 }
+
+-- where the buffer is as it was
+pub same_fits : (b new copies more : List ℕ) (front : List Item) (meta : Meta) (table : Sections Section) → new ≡ b → IsExtended copies more
+    → StoreFits b copies front meta table → StoreFits new more front meta table
+same_fits b new copies more front meta table same y old =
+    longer_fits b new copies more front meta table (same_extended b new same) y (subst (λ (x : List ℕ). length x < 2 ^ 32) (sym same) old.room) old
 
 -- what it is in a state
 abbrev pub made_section : (name : List ℕ) → (subsection : Option (List ℕ)) → (items : List parts.Item) → State → SectionState

@@ -60,6 +60,7 @@ module _ (name : List ℕ) (s : Option (List ℕ)) (keeps : Meta → Bool) (new_
     invalid_subsection = (λ fault. absurd (cc), λ all. absurd (let no = sym none ∙ all.0 in cc));
     too_large = (λ fault. absurd (cc), λ all. absurd (let no = sym none ∙ all.0 in cc));
     ok = tt;
+    put = tt;
     known = subst (λ e. list_any (λ number. number == Rattle.gitconf_store.specs.RenameErrors.rename_number (Lookup e)) Rattle.gitconf_store.specs.Renamings.rename_numbers ≡ true) (sym is) (missing_known (miss_of name s (listed old)));
   }
 
@@ -83,6 +84,7 @@ module _ (name : List ℕ) (s : Option (List ℕ)) (keeps : Meta → Bool) (new_
         invalid_subsection = (λ fault. absurd (cc), λ all. absurd (let no = sym cause ∙ all.1 in cc));
         too_large = (λ fault. absurd (cc), λ all. absurd (let no = sym cause ∙ all.1 in cc));
         ok = tt;
+        put = tt;
         known = refl;
       }
   header_refused r headers.InvalidSubSection is checked some =
@@ -94,6 +96,7 @@ module _ (name : List ℕ) (s : Option (List ℕ)) (keeps : Meta → Bool) (new_
         invalid_subsection = (λ fault. (some, cause.0, cause.1), λ all. refl);
         too_large = (λ fault. absurd (cc), λ all. absurd (let no = sym cause.1 ∙ all.2 in cc));
         ok = tt;
+        put = tt;
         known = refl;
       }
   header_refused r (headers.Span n) is checked some =
@@ -106,6 +109,7 @@ module _ (name : List ℕ) (s : Option (List ℕ)) (keeps : Meta → Bool) (new_
         invalid_subsection = (λ fault. absurd (cc), λ all. absurd (let no = sym all.2 ∙ cause.1 in cc));
         too_large = (λ fault. (some, cause.0, cause.1, cause.2), λ all. refl);
         ok = tt;
+        put = tt;
         known = refl;
       })
     where
@@ -130,18 +134,21 @@ module _ (name : List ℕ) (s : Option (List ℕ)) (keeps : Meta → Bool) (new_
     invalid_subsection = (λ fault. absurd (cc), λ all. absurd (let no = sym fine ∙ checked.invalid_subsection.1 (all.1, all.2) in cc));
     too_large = (λ fault. absurd (cc), λ all. absurd (let no = sym fine ∙ checked.too_large.1 (all.1, all.2, all.3) in cc));
     ok = tt;
+    put = tt;
     known = refl;
   }
 
   pub is_done : (r : Result (Unit {0}) HeaderError) → r ≡ Ok tt → IsHeaderChecked new_name new_s old.used r → list_any (is_target name s keeps) old.sections ≡ true
-      → new ≡ with_used new.used (with_renamed (map (is_target name s keeps) old.sections) new_name new_s old) → IsRenamed name s keeps new_name new_s (Ok tt) old new
-  is_done r fine checked some made = record {
+      → new ≡ with_used new.used (with_renamed (map (is_target name s keeps) old.sections) new_name new_s old) → new.used ≡ old.used + header_bytes new_name new_s
+      → IsRenamed name s keeps new_name new_s (Ok tt) old new
+  is_done r fine checked some made put = record {
     missing_told = λ none. absurd (let no = sym none ∙ some in cc);
     only_missing = λ f fault. absurd (cc);
     invalid_name = (λ fault. absurd (cc), λ all. absurd (let no = sym fine ∙ checked.invalid_name.1 all.1 in cc));
     invalid_subsection = (λ fault. absurd (cc), λ all. absurd (let no = sym fine ∙ checked.invalid_subsection.1 (all.1, all.2) in cc));
     too_large = (λ fault. absurd (cc), λ all. absurd (let no = sym fine ∙ checked.too_large.1 (all.1, all.2, all.3) in cc));
     ok = made ∙ ap (λ ss. with_used new.used (with_sections ss old)) (all_changed (is_target name s keeps) (renamed new_name new_s) old.sections);
+    put = put;
     known = tt;
   }
 

@@ -12,7 +12,7 @@ use gitconf_items::event::Span;
 use gitconf_items::items::Item;
 use gitconf_joining::fronts::{parts_lines, put_behind};
 use gitconf_joining::shifted_sections::{copies_before, move_front, move_sections};
-use gitconf_lines::buffer::{append, check_room};
+use gitconf_lines::buffer::{append, check_room, take_back};
 use gitconf_sections::sections::SectionList;
 use gitconf_text::line_end::LineEnd;
 use gitconf_text::parse::span;
@@ -152,8 +152,7 @@ impl Store {
     /// # Errors
     ///
     /// A [`span::Error`]: number 3 if and only if the buffer would be longer than 4294967295 bytes or fewer numbers are left than the other
-    /// has sections, before any growth, otherwise 27 when out of memory. The other is then dropped, and the file as it was, except that its
-    /// buffer may have grown.
+    /// has sections, before any growth, otherwise 27 when out of memory. The other is then dropped, and the file as it was.
     pub(crate) fn put_at(
         &mut self,
         at: usize,
@@ -162,20 +161,21 @@ impl Store {
     ) -> Result<(), span::Error>
         requires { at ≤ length self.old.sections - 1 }
         ensures ok { OnOk result (self.new ≡ put_at at (bytes_of_line_end line_end) other self.old) }
-        ensures err { OnErr result (self.new ≡ with_used self.new.used self.old) }
+        ensures err { OnErr result (self.new ≡ self.old) }
         ensures too_large { IsErrOf result 3 ↔ HasNoRoomAt at (bytes_of_line_end line_end) other self.old }
-        ensures grown { self.new.used ≤ self.old.used + bytes_at at (bytes_of_line_end line_end) other self.old }
         ensures known { IfErr result (λ e. (e ≡ 3) ⊎ (e ≡ 27)) }
     {
         let line_end = self.check_put(at, line_end, &other)?;
-        let by = (self.buffer.len() + line_end.len()) as u32;
-        let (line, copies_by) = put_bytes(
+        let len = self.buffer.len();
+        let by = (len + line_end.len()) as u32;
+        let bytes = put_bytes(
             &mut self.buffer,
             &mut self.copies,
             line_end,
             &other.buffer,
             &other.copies,
-        )?;
+        );
+        let (line, copies_by) = take_back(bytes, &mut self.buffer, len)?;
         let Store {
             buffer: _,
             copies: _,
@@ -185,14 +185,16 @@ impl Store {
         } = other;
         move_front(&mut front, by);
         move_sections(&mut sections, by, copies_by);
-        put_behind(
+        let put = put_behind(
             &mut self.front,
             &mut self.sections,
             at,
             line,
             front,
             sections,
-        )
+        );
+        take_back(put, &mut self.buffer, len)?;
+        Ok(())
     }
 
     /// Adds the sections of another file after all others, in their order and under the next numbers. The other's front is held after our
@@ -205,14 +207,13 @@ impl Store {
     /// # Errors
     ///
     /// A [`span::Error`]: number 3 if and only if the buffer would be longer than 4294967295 bytes or fewer numbers are left than the other
-    /// has sections, before any growth, otherwise 27 when out of memory. The other is then dropped, and the file as it was, except that its
-    /// buffer may have grown.
+    /// has sections, before any growth, otherwise 27 when out of memory. The other is then dropped, and the file as it was.
     pub fn append(&mut self, other: Store) -> Result<(), span::Error>
         ensures ok { OnOk result (self.new ≡ with_used self.new.used (apply (Append other) self.old)) }
-        ensures err { OnErr result (self.new ≡ with_used self.new.used self.old) }
+        ensures err { OnErr result (self.new ≡ self.old) }
         ensures too_large { IsErrOf result 3
             ↔ ((2 ^ 32 ≤ self.old.used + appended_bytes other self.old) ⊎ (no_number < self.old.next + length other.sections)) }
-        ensures grown { self.new.used ≤ self.old.used + appended_bytes other self.old }
+        ensures put { OnOk result (self.new.used ≡ self.old.used + appended_bytes other self.old) }
         ensures known { IfErr result (λ e. (e ≡ 3) ⊎ (e ≡ 27)) }
     {
         let line_end = self.line_end();

@@ -1,6 +1,6 @@
 //! Edits of the section of a number, for the editor of a section.
 use crate::store::Store;
-use crate::store::items_edits::{
+use gitconf_body::items_edits::{
     PopEntry, PushLine, PushLineBelow, PushNewline, RemoveEntry, RemoveMarkedEntries, SetEntry,
 };
 use gitconf_body::take_out;
@@ -30,7 +30,7 @@ impl Store {
     /// # Errors
     ///
     /// A [`span::Error`]: number 3 if and only if the buffer would be longer than 4294967295 bytes, before any growth, otherwise 27 when out
-    /// of memory. The file is then as it was, except that its buffer may have grown.
+    /// of memory. The file is then as it was.
     pub fn push_entry(
         &mut self,
         id: SectionId,
@@ -44,7 +44,7 @@ impl Store {
         requires key { is_value_name key.now ≡ true }
         ensures ok { OnOk result (self.new ≡ with_used self.new.used
             (apply (Push id (given_editor editor.now) key.now (option_copied value.entry) (option_copied comment.entry)) self.old)) }
-        ensures err { OnErr result (self.new ≡ with_used self.new.used self.old) }
+        ensures err { OnErr result (self.new ≡ self.old) }
         ensures used { PutsIn id result (line_put editor.now key.now (option_copied value.entry) (option_copied comment.entry)) self.old self.new }
     {
         let line = PushLine {
@@ -79,7 +79,7 @@ impl Store {
         requires key { is_value_name key.now ≡ true }
         ensures ok { OnOk result (self.new ≡ with_used self.new.used
             (apply (PushAfterLast id (given_editor editor.now) key.now (option_copied value.entry)) self.old)) }
-        ensures err { OnErr result (self.new ≡ with_used self.new.used self.old) }
+        ensures err { OnErr result (self.new ≡ self.old) }
         ensures used { PutsIn id result (below_put editor.now key.now (option_copied value.entry) (items_of_numbered id self.old)) self.old self.new }
     {
         let line = PushLineBelow { editor, key, value };
@@ -97,7 +97,7 @@ impl Store {
     pub fn push_newline(&mut self, id: SectionId, editor: &Editor<'_>) -> Result<(), span::Error>
         requires editor { IsEditor (given_editor editor.now) }
         ensures ok { OnOk result (self.new ≡ with_used self.new.used (apply (PushLineEnd id (given_editor editor.now)) self.old)) }
-        ensures err { OnErr result (self.new ≡ with_used self.new.used self.old) }
+        ensures err { OnErr result (self.new ≡ self.old) }
         ensures used { PutsIn id result (length (bytes_of_line_end editor.now.line_end)) self.old self.new }
     {
         self.edit_items(id, &PushNewline { editor })?
@@ -126,7 +126,7 @@ impl Store {
         requires key { is_value_name key.now ≡ true }
         ensures ok { OnOk result (self.new ≡ with_used self.new.used (apply (SetValue id (given_editor editor.now) key.now value.now) self.old)) }
         ensures answer { IfOk result (λ o. Raw (option_map (λ v. v.items) o) ≡ answer (SetValue id (given_editor editor.now) key.now value.now) self.old) }
-        ensures err { OnErr result (self.new ≡ with_used self.new.used self.old) }
+        ensures err { OnErr result (self.new ≡ self.old) }
         ensures used { PutsIn id result (set_put editor.now key.now value.now (items_of_numbered id self.old)) self.old self.new }
     {
         self.edit_items(id, &SetEntry { editor, key, value })?

@@ -20,7 +20,7 @@ impl Store {
     ///
     /// Refusal 7 if no section has the name, 8 if none of these has the subsection; otherwise 6 for an invalid value name; otherwise 9
     /// if none of these has such an entry; 3 if the buffer would be longer than 4294967295 bytes, which is checked before any growth;
-    /// 27 when out of memory. The file is then as it was, except that its buffer may have grown.
+    /// 27 when out of memory. The file is then as it was.
     pub fn set_existing_raw_value(
         &mut self,
         key: KeyRef<'_>,

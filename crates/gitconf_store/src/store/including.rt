@@ -62,9 +62,8 @@ impl Store {
     ) -> Result<(), span::Error>
         requires { position < length self.old.sections }
         ensures ok { OnOk result (self.new ≡ included position (bytes_of_line_end line_end) other self.old) }
-        ensures err { OnErr result (self.new ≡ with_used self.new.used self.old) }
+        ensures err { OnErr result (self.new ≡ self.old) }
         ensures too_large { IsErrOf result 3 ↔ HasNoRoomAt position (bytes_of_line_end line_end) other self.old }
-        ensures grown { self.new.used ≤ self.old.used + bytes_at position (bytes_of_line_end line_end) other self.old }
         ensures known { IfErr result (λ e. (e ≡ 3) ⊎ (e ≡ 27)) }
     {
         self.put_at(position, line_end, other)

@@ -2,6 +2,7 @@
 use crate::store::Store;
 use gitconf_body::section;
 use gitconf_lines::blanks::Blanks;
+use gitconf_lines::buffer::take_back;
 use gitconf_table::table::SectionId;
 use gitconf_text::NoMemory;
 use gitconf_text::parse::section::header::{Error, validate};
@@ -29,7 +30,7 @@ impl Store {
     ///
     /// Refusal 4 for a name that a section can't be made of, otherwise 5 for a subsection that it can't be made of; 3 if the buffer would
     /// be longer than 4294967295 bytes, which is checked before any growth, or there is no number left; 27 when out of memory. The file is
-    /// then as it was, except that its buffer may have grown.
+    /// then as it was.
     pub fn new_section(
         &mut self,
         name: &str,
@@ -40,7 +41,7 @@ impl Store {
             ↔ ((is_made_name name.now ≡ true) × (is_valid_or_none (option_copied subsection_name.entry) ≡ false)) }
         ensures ok { OnOk result (self.new ≡ with_used self.new.used (apply (NewSection name.now (option_copied subsection_name.entry)) self.old)) }
         ensures answer { IfOk result (λ id. Number id ≡ answer (NewSection name.now (option_copied subsection_name.entry)) self.old) }
-        ensures err { OnErr result (self.new ≡ with_used self.new.used self.old) }
+        ensures err { OnErr result (self.new ≡ self.old) }
         ensures used { EditGrows result header_number
             (length (file_line_end self.old) + header_bytes name.now (option_copied subsection_name.entry)) self.old self.new }
         ensures refused { is_made_name name.now ≡ true → is_valid_or_none (option_copied subsection_name.entry) ≡ true
@@ -50,6 +51,7 @@ impl Store {
     {
         validate(name.as_bytes(), subsection_name)?;
         let line_end = self.line_end();
+        let len = self.buffer.len();
         let section = section::new_section(
             &mut self.buffer,
             &mut self.copies,
@@ -57,14 +59,15 @@ impl Store {
             name.as_bytes(),
             subsection_name,
         )?;
-        let meta = shared(&self.meta)?;
-        let id = self.sections.push(
+        let meta = take_back(shared(&self.meta), &mut self.buffer, len)?;
+        let pushed = self.sections.push(
             name.as_bytes(),
             subsection_name,
             section.header,
             meta,
             section.items,
-        )?;
+        );
+        let id = take_back(pushed, &mut self.buffer, len)?;
         Ok(id)
     }
 

@@ -8,7 +8,7 @@ use crate::store::Store;
 use crate::store::append::put_text;
 use gitconf_items::moving::moved_header;
 use gitconf_joining::shifted_sections::{move_list, put_last};
-use gitconf_lines::buffer::check_room;
+use gitconf_lines::buffer::{check_room, take_back};
 use gitconf_table::table::SectionId;
 use gitconf_text::parse::span;
 use gitconf_views::detached;
@@ -37,23 +37,25 @@ impl Store {
     /// # Errors
     ///
     /// A [`span::Error`]: number 3 if and only if the buffer would be longer than 4294967295 bytes or no number is left, before any growth,
-    /// otherwise 27 when out of memory. The section is then dropped, and the file as it was, except that its buffer may have grown.
+    /// otherwise 27 when out of memory. The section is then dropped, and the file as it was.
     pub fn push_section(&mut self, section: detached::Section) -> Result<SectionId, span::Error>
         ensures ok { OnOk result (self.new ≡ with_used self.new.used (apply (PushSection section) self.old)) }
         ensures answer { IfOk result (λ id. Number id ≡ answer (PushSection section) self.old) }
-        ensures err { OnErr result (self.new ≡ with_used self.new.used self.old) }
+        ensures err { OnErr result (self.new ≡ self.old) }
         ensures too_large { IsErrOf result 3 ↔ ((2 ^ 32 ≤ self.old.used + section.used) ⊎ (self.old.next ≡ no_number)) }
-        ensures grown { self.new.used ≤ self.old.used + section.used }
+        ensures put { OnOk result (self.new.used ≡ self.old.used + section.used) }
         ensures known { IfErr result (λ e. (e ≡ 3) ⊎ (e ≡ 27)) }
     {
         self.check_pushed(&section)?;
-        let by = self.buffer.len() as u32;
-        let copies_by = put_text(
+        let len = self.buffer.len();
+        let by = len as u32;
+        let text = put_text(
             &mut self.buffer,
             &mut self.copies,
             &section.buffer,
             &section.copies,
-        )?;
+        );
+        let copies_by = take_back(text, &mut self.buffer, len)?;
         let detached::Section {
             buffer: _,
             copies: _,
@@ -63,13 +65,15 @@ impl Store {
         let header = moved_header(section.header, by, copies_by);
         let mut items = section.items;
         move_list(&mut items, by);
-        put_last(
+        let put = put_last(
             &self.buffer,
             &self.copies,
             &mut self.sections,
             header,
             section.meta,
             items,
-        )
+        );
+        let id = take_back(put, &mut self.buffer, len)?;
+        Ok(id)
     }
 }

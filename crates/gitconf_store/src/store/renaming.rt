@@ -20,6 +20,7 @@ use crate::store::Store;
 use gitconf_base::meta::Metadata;
 use gitconf_body::heading::{check_header, put_header};
 use gitconf_finding::existing;
+use gitconf_lines::buffer::take_back;
 use gitconf_table::table::SectionId;
 use gitconf_text::NoMemory;
 use gitconf_text::parse::section::header::{Error as HeaderError, validate};
@@ -38,17 +39,20 @@ impl Store {
         requires subsection { is_valid_or_none (option_copied subsection_name) ≡ true }
         ensures ok { (marks : List Bool) → places.now ≡ marked_places 0 marks
             → OnOk result (self.new ≡ with_used self.new.used (with_renamed marks name.now (option_copied subsection_name.entry) self.old)) }
-        ensures err { OnErr result (self.new ≡ with_used self.new.used self.old) }
+        ensures err { OnErr result (self.new ≡ self.old) }
         ensures used { UsedGrows result (header_bytes name.now (option_copied subsection_name.entry)) self.old.used self.new.used }
     {
+        let len = self.buffer.len();
         let header = put_header(
             &mut self.buffer,
             &mut self.copies,
             name.as_bytes(),
             subsection_name,
         )?;
-        self.sections
-            .rename_each(places, name.as_bytes(), subsection_name)?;
+        let renamed = self
+            .sections
+            .rename_each(places, name.as_bytes(), subsection_name);
+        take_back(renamed, &mut self.buffer, len)?;
         set_headers(&mut self.sections, places, header);
         Ok(())
     }
@@ -63,7 +67,7 @@ impl Store {
     ///
     /// Refusal 4 if and only if a byte of the name is not a letter, digit or dash, otherwise 5 if and only if the subsection has LF or NUL;
     /// both also if no section has the number. Then 3 if and only if the buffer would be longer than 4294967295 bytes, before any growth;
-    /// 27 when out of memory. The file is then as it was, except that its buffer may have grown.
+    /// 27 when out of memory. The file is then as it was.
     pub fn rename(
         &mut self,
         id: SectionId,
@@ -74,7 +78,7 @@ impl Store {
         ensures invalid_subsection { IsErrOf result HeaderError.InvalidSubSection
             ↔ ((is_made_name name.now ≡ true) × (is_valid_or_none (option_copied subsection_name.entry) ≡ false)) }
         ensures ok { OnOk result (self.new ≡ with_used self.new.used (apply (Rename id name.now (option_copied subsection_name.entry)) self.old)) }
-        ensures err { OnErr result (self.new ≡ with_used self.new.used self.old) }
+        ensures err { OnErr result (self.new ≡ self.old) }
         ensures used { IfSome (numbered id self.old) (λ _. HeaderGrows name.now (option_copied subsection_name.entry) result self.old.used self.new.used) }
         ensures missing { numbered id self.old ≡ None → self.new ≡ self.old }
         ensures known { IfErr result (λ e. list_any (λ number. number == header_number e) header_numbers ≡ true) }
@@ -125,7 +129,7 @@ impl Store {
     /// # Errors
     ///
     /// Refusal 7 if no section has the name, 8 if none of these has the subsection, 9 if none passes; then those of
-    /// [`Store::rename`]. The file is then as it was, except that its buffer may have grown.
+    /// [`Store::rename`]. The file is then as it was.
     pub fn rename_section_filter<F: FnMut(&Metadata) -> bool>(
         &mut self,
         name: &str,
@@ -141,8 +145,8 @@ impl Store {
         // For any filter.
         ensures some { OnOk result (AreSomeRenamed name.now (option_copied subsection_name.entry) new_name.now
             (option_copied new_subsection_name.entry) self.old self.new) }
-        ensures err { OnErr result (self.new ≡ with_used self.new.used self.old) }
-        ensures grown { self.new.used ≤ self.old.used + header_bytes new_name.now (option_copied new_subsection_name.entry) }
+        ensures err { OnErr result (self.new ≡ self.old) }
+        ensures put { OnOk result (self.new.used ≡ self.old.used + header_bytes new_name.now (option_copied new_subsection_name.entry)) }
     {
         self.check_named(name, subsection_name)?;
         if let Err(refusal) = self.check_header(new_name, new_subsection_name) {

@@ -127,7 +127,7 @@ impl Store {
     ///
     /// Refusal 7 if no section has the name, 8 if none of these has the subsection; otherwise 6 for an invalid value name; otherwise 9 if
     /// none of these has such an entry; 3 if the buffer would be longer than 4294967295 bytes; 27 when out of memory. After 3 or 27 the
-    /// entries before the one that was refused have their values; all else is as it was, except that the buffer may have grown.
+    /// entries before the one that was refused have their values; all else is as it was.
     pub fn set_existing_raw_multi_value(
         &mut self,
         key: KeyRef<'_>,

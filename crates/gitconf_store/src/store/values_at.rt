@@ -1,9 +1,9 @@
 //! Entries at a place in the section of a number, for the editors of values.
 use crate::store::Store;
-use crate::store::items_edits::{RewriteEntry, WriteEntry};
 use bstr::BString;
 use gitconf_base::key::KeyRef;
 use gitconf_base::meta::Metadata;
+use gitconf_body::items_edits::{RewriteEntry, WriteEntry};
 use gitconf_body::value_at::InPlaceOf;
 use gitconf_finding::existing;
 use gitconf_finding::places::{all_value_places, last_value_place, put_in_order};
@@ -138,7 +138,7 @@ impl Store {
         requires key { is_value_name key.now ≡ true }
         ensures ok { OnOk result (self.new ≡ with_used self.new.used
             (apply (WriteAt id (given_editor editor.now) place (instead_of in_place_of) key.now value.now) self.old)) }
-        ensures err { OnErr result (self.new ≡ with_used self.new.used self.old) }
+        ensures err { OnErr result (self.new ≡ self.old) }
         ensures used { PutsIn id result (written_put editor.now key.now value.now) self.old self.new }
     {
         let entry = WriteEntry {
@@ -168,7 +168,7 @@ impl Store {
         requires key { is_value_name key.now ≡ true }
         ensures ok { OnOk result (self.new ≡ with_used self.new.used
             (apply (WriteAt id (editor_of_numbered id self.old) place (instead_of in_place_of) key.now value.now) self.old)) }
-        ensures err { OnErr result (self.new ≡ with_used self.new.used self.old) }
+        ensures err { OnErr result (self.new ≡ self.old) }
         ensures used { PutsIn id result (rewritten_put key.now value.now (items_of_numbered id self.old)) self.old self.new }
         // If no section has the number, it can't fail.
         ensures missing { numbered id self.old ≡ None → IsOk result }

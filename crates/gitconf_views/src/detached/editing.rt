@@ -5,9 +5,11 @@ use crate::detached::Section;
 use crate::section::trusted;
 use gitconf_base::source::Trust;
 use gitconf_body::heading::put_header;
-use gitconf_body::{marked, set, take_out};
+use gitconf_body::items_edit::{ItemsEdit, edit_or_leave};
+use gitconf_body::items_edits::{
+    PopEntry, PushLine, PushLineBelow, PushNewline, RemoveEntry, RemoveMarkedEntries, SetEntry,
+};
 use gitconf_lines::editor::Editor;
-use gitconf_lines::{push, push_below};
 use gitconf_text::NoMemory;
 use gitconf_text::line_end::LineEnd;
 use gitconf_text::parse::section::header;
@@ -15,8 +17,11 @@ use gitconf_text::parse::span;
 use gitconf_write::line_end::body_line_end;
 
 impl Section {
+    ghost use Rattle.std.specs.List.{list_all};
     ghost use Rattle.std.specs.Option.{option_copied};
-    ghost use Rattle.std.specs.Prelude.{◌≡◌, ◌≤◌, ◌+◌, ◌^◌, ◌↔◌, true, false, IfErr, IfOk, IfSome, IsErrOf, IsOk, None, OnOk, OnErr, length, option_map};
+    ghost use Rattle.std.specs.Prelude.{◌≡◌, ◌≤◌, ◌+◌, ◌^◌, ◌↔◌, List, true, false, IfErr, IfOk, IfSome, IsErrOf, IsOk, None, OnOk, OnErr, length, option_map};
+    ghost use Rattle.gitconf_text.specs.Part as parts;
+    ghost use Rattle.gitconf_state.specs.State.{is_item};
     ghost use Rattle.gitconf_text.specs.Names.{is_made_name, is_valid_or_none, is_value_name};
     ghost use Rattle.gitconf_text.specs.declared.parse.section.header.Error.TheVariants.{InvalidName, InvalidSubSection, Span};
     ghost use Rattle.gitconf_state.specs.Edit.{header_bytes, old_value};
@@ -27,7 +32,7 @@ impl Section {
     ghost use Rattle.gitconf_lines.specs.Below.{below_put};
     ghost use Rattle.gitconf_lines.specs.Editors.{line_put, set_put};
     ghost use Rattle.gitconf_views.specs.Alone.{is_refusal_of_header, with_items};
-    ghost use Rattle.gitconf_views.specs.Growth.{UsedGrows};
+    ghost use Rattle.gitconf_body.specs.Growth.{UsedGrows};
     ghost use Rattle.gitconf_lines.specs.Blanks.{given_editor, IsGiven};
 
     /// The line ending that its editor writes: that of its body's first newline, or LF. It stops at the first one.
@@ -35,6 +40,30 @@ impl Section {
         ensures { bytes_of_line_end result ≡ section_line_end self.now.section }
     {
         body_line_end(&self.buffer, &self.section.items)
+    }
+
+    /// Edits its items. All else stays as it is.
+    ///
+    /// # Errors
+    ///
+    /// Those of the edit. The section is then as it was.
+    fn edit_items<E: ItemsEdit>(&mut self, edit: &E) -> Result<E::Answer, E::Error>
+        requires edit { E.can_edit edit.now }
+        requires keeps { (items : List parts.Item) → list_all is_item items ≡ true → list_all is_item (E.changed edit.now items) ≡ true }
+        ensures ok { OnOk result (self.new.section ≡ with_items (E.changed edit.now) self.old.section) }
+        ensures err { OnErr result (self.new ≡ self.old) }
+        ensures tells { IfOk result (E.tells edit.now self.old.section.items) }
+        ensures grows { E.grows edit.now self.old.section.items result self.old.used self.new.used }
+        // What holds of every section.
+        ensures items { list_all is_item self.old.section.items ≡ true }
+    {
+        match edit.look(&self.buffer, &self.section.items) {
+            Ok(Some(found)) => {
+                edit_or_leave(edit, found, &mut self.buffer, &mut self.section.items)
+            }
+            Ok(None) => Ok(edit.unchanged()),
+            Err(refused) => Err(refused),
+        }
     }
 
     /// Pushes a line after the items: the editor's blanks, the key, and if a value is given `=` with the editor's blanks around it and
@@ -45,8 +74,8 @@ impl Section {
     ///
     /// # Errors
     ///
-    /// A [`span::Error`]: number 3 if and only if the buffer would be longer than 4294967295 bytes, before any growth, otherwise 27 when out
-    /// of memory. The section is then as it was, except that its buffer may have grown.
+    /// A [`span::Error`]: number 3 if and only if the buffer would be longer than 4294967295 bytes, otherwise 27 when out of memory. The
+    /// section is then as it was.
     pub fn push_entry(
         &mut self,
         editor: &Editor<'_>,
@@ -59,17 +88,16 @@ impl Section {
         requires key { is_value_name key.now ≡ true }
         ensures ok { OnOk result (self.new.section ≡ with_items
             (pushed (given_editor editor.now) key.now (option_copied value.entry) (option_copied comment.entry)) self.old.section) }
-        ensures err { OnErr result (self.new.section ≡ self.old.section) }
+        ensures err { OnErr result (self.new ≡ self.old) }
         ensures used { UsedGrows result (line_put editor.now key.now (option_copied value.entry) (option_copied comment.entry)) self.old.used self.new.used }
     {
-        push::push(
-            &mut self.buffer,
-            &mut self.section.items,
+        let line = PushLine {
             editor,
             key,
             value,
             comment,
-        )
+        };
+        self.edit_items(&line)
     }
 
     /// Pushes a line below that of the last entry, whatever its key, or below the header's line if there is no entry, before the comments
@@ -92,16 +120,11 @@ impl Section {
         requires key { is_value_name key.now ≡ true }
         ensures ok { OnOk result (self.new.section ≡ with_items
             (pushed_after_last (given_editor editor.now) key.now (option_copied value.entry)) self.old.section) }
-        ensures err { OnErr result (self.new.section ≡ self.old.section) }
+        ensures err { OnErr result (self.new ≡ self.old) }
         ensures used { UsedGrows result (below_put editor.now key.now (option_copied value.entry) self.old.section.items) self.old.used self.new.used }
     {
-        push_below::push_after_last(
-            &mut self.buffer,
-            &mut self.section.items,
-            editor,
-            key,
-            value,
-        )
+        let line = PushLineBelow { editor, key, value };
+        self.edit_items(&line)
     }
 
     /// Pushes the editor's line ending after the items, even if it is switched off after lines. All else stays as it is.
@@ -114,10 +137,10 @@ impl Section {
     pub fn push_newline(&mut self, editor: &Editor<'_>) -> Result<(), span::Error>
         requires editor { IsEditor (given_editor editor.now) }
         ensures ok { OnOk result (self.new.section ≡ with_items (line_end_pushed (given_editor editor.now)) self.old.section) }
-        ensures err { OnErr result (self.new.section ≡ self.old.section) }
+        ensures err { OnErr result (self.new ≡ self.old) }
         ensures used { UsedGrows result (length (bytes_of_line_end editor.now.line_end)) self.old.used self.new.used }
     {
-        push::push_newline(&mut self.buffer, &mut self.section.items, editor)
+        self.edit_items(&PushNewline { editor })
     }
 
     /// Gives the last entry of a key another value: what follows `=` is replaced, and `=` is added if there is none, with the
@@ -141,16 +164,10 @@ impl Section {
         requires key { is_value_name key.now ≡ true }
         ensures ok { OnOk result (self.new.section ≡ with_items (value_set (given_editor editor.now) key.now value.now) self.old.section) }
         ensures answer { IfOk result (λ o. option_map (λ v. v.items) o ≡ old_value key.now self.old.section.items) }
-        ensures err { OnErr result (self.new.section ≡ self.old.section) }
+        ensures err { OnErr result (self.new ≡ self.old) }
         ensures used { UsedGrows result (set_put editor.now key.now value.now self.old.section.items) self.old.used self.new.used }
     {
-        set::set(
-            &mut self.buffer,
-            &mut self.section.items,
-            editor,
-            key,
-            value,
-        )
+        self.edit_items(&SetEntry { editor, key, value })
     }
 
     /// Removes the last entry of a key, with the blanks directly before it and the line endings directly after it. All else stays as it
@@ -168,7 +185,7 @@ impl Section {
         ensures none { old_value key.now self.old.section.items ≡ None → IsOk result }
         ensures err { OnErr result (self.new ≡ self.old) }
     {
-        take_out::remove(&self.buffer, &mut self.section.items, key)
+        self.edit_items(&RemoveEntry { key })
     }
 
     /// Removes the marked entries of a key: the first of its entries goes if the first mark is `true`, and so on; those behind the last
@@ -184,7 +201,7 @@ impl Section {
         ensures answer { IfOk result (λ n. n ≡ marked_count key.now marks.now self.old.section.items) }
         ensures err { OnErr result (self.new ≡ self.old) }
     {
-        marked::remove_marked(&self.buffer, &mut self.section.items, key, marks)
+        self.edit_items(&RemoveMarkedEntries { key, marks })
     }
 
     /// Removes the last entry, whatever its key, with the blanks directly before it and everything after it; everything in the body
@@ -203,7 +220,7 @@ impl Section {
         ensures name { IfOk result (λ o. IfSome o (λ t. is_value_name t.0.items ≡ true)) }
         ensures err { OnErr result (self.new ≡ self.old) }
     {
-        take_out::pop(&self.buffer, &mut self.section.items)
+        self.edit_items(&PopEntry {})
     }
 
     /// Gives it a header that is made of a name and a subsection, as [`Section::new`] makes one. All else stays as it is. One pass over
@@ -212,8 +229,8 @@ impl Section {
     /// # Errors
     ///
     /// `InvalidName` if a byte of the name is not a letter, digit or dash, otherwise `InvalidSubSection` if the subsection holds LF or NUL;
-    /// otherwise `Span`, number 3, if and only if the buffer would be longer than 4294967295 bytes, before any growth, and `Memory` when
-    /// out of memory. The section is then as it was, except that its buffer may have grown.
+    /// otherwise `Span`, number 3, if and only if the buffer would be longer than 4294967295 bytes, and `Memory` when out of memory. The
+    /// section is then as it was.
     pub fn rename(&mut self, name: &str, subsection: Option<&[u8]>) -> Result<(), header::Error>
         ensures ok { OnOk result (self.new.section ≡ renamed name.now (option_copied subsection.entry) self.old.section) }
         ensures invalid_name { IsErrOf result InvalidName ↔ (is_made_name name.now ≡ false) }
@@ -222,8 +239,8 @@ impl Section {
         ensures too_large { IsErrOf result (Span 3) ↔ ((is_made_name name.now ≡ true) × (is_valid_or_none (option_copied subsection.entry) ≡ true)
             × (2 ^ 32 ≤ self.old.used + header_bytes name.now (option_copied subsection.entry))) }
         ensures known { IfErr result (λ e. is_refusal_of_header e ≡ true) }
-        ensures err { OnErr result (self.new.section ≡ self.old.section) }
-        ensures grown { self.new.used ≤ self.old.used + header_bytes name.now (option_copied subsection.entry) }
+        ensures err { OnErr result (self.new ≡ self.old) }
+        ensures put { OnOk result (self.new.used ≡ self.old.used + header_bytes name.now (option_copied subsection.entry)) }
     {
         let name = name.as_bytes();
         header::validate(name, subsection)?;

@@ -97,7 +97,7 @@ impl<'a> DetachedSectionMut<'a> {
     /// # Errors
     ///
     /// Refusal 6 if and only if the name is invalid; otherwise 3 if and only if the section's buffer would be longer than 4294967295 bytes,
-    /// before any growth, and 27 when out of memory. The section is then as it was, except that its buffer may have grown.
+    /// and 27 when out of memory. The section is then as it was.
     pub fn push(&mut self, value_name: &str, value: Option<&[u8]>) -> Result<(), value::Error>
         ensures same_section { lent self.new ≡ lent self.old }
         ensures same_editor { editor self.new ≡ editor self.old }
@@ -284,8 +284,8 @@ impl<'a> DetachedSectionMut<'a> {
         ensures too_large { IsErrOf result (Span 3) ↔ ((is_made_name name.now ≡ true) × (is_valid_or_none (option_map bstring_bytes subsection_name) ≡ true)
             × (2 ^ 32 ≤ (edited self.old).used + header_bytes name.now (option_map bstring_bytes subsection_name))) }
         ensures known { IfErr result (λ e. is_refusal_of_header e ≡ true) }
-        ensures err { OnErr result ((edited self.new).section ≡ (edited self.old).section) }
-        ensures grown { (edited self.new).used ≤ (edited self.old).used + header_bytes name.now (option_map bstring_bytes subsection_name) }
+        ensures err { OnErr result (edited self.new ≡ edited self.old) }
+        ensures put { OnOk result ((edited self.new).used ≡ (edited self.old).used + header_bytes name.now (option_map bstring_bytes subsection_name)) }
     {
         self.section.rename(name, bytes_of(&subsection_name))
     }

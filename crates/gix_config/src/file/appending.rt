@@ -20,9 +20,9 @@ impl File {
         ensures ok { OnOk result (self.new ≡ with_used self.new.used (apply (PushSection section) self.old)) }
         ensures told { IfOk result (λ f. f ≡ (self.old.next, spacing_of section.section.items)) }
         ensures stands { IfOk result (λ f. has_number f.0 self.new ≡ true) }
-        ensures err { OnErr result (self.new ≡ with_used self.new.used self.old) }
+        ensures err { OnErr result (self.new ≡ self.old) }
         ensures too_large { IsErrOf result 3 ↔ ((2 ^ 32 ≤ self.old.used + section.used) ⊎ (self.old.next ≡ no_number)) }
-        ensures grown { self.new.used ≤ self.old.used + section.used }
+        ensures put { OnOk result (self.new.used ≡ self.old.used + section.used) }
         ensures known { IfErr result (λ e. (e ≡ 3) ⊎ (e ≡ 27)) }
     {
         self.store.check_pushed(&section)?;
@@ -41,14 +41,13 @@ impl File {
     /// # Errors
     ///
     /// A [`span::Error`]: number 3 if and only if the buffer would be longer than 4294967295 bytes or fewer numbers are left than the other
-    /// has sections, before any growth, otherwise 27 when out of memory. The other is then dropped, and the file as it was, except that its
-    /// buffer may have grown.
+    /// has sections, otherwise 27 when out of memory. The other is then dropped, and the file as it was.
     pub fn append(&mut self, other: File) -> Result<(), span::Error>
         ensures ok { OnOk result (self.new ≡ with_used self.new.used (apply (Append other) self.old)) }
-        ensures err { OnErr result (self.new ≡ with_used self.new.used self.old) }
+        ensures err { OnErr result (self.new ≡ self.old) }
         ensures too_large { IsErrOf result 3
             ↔ ((2 ^ 32 ≤ self.old.used + appended_bytes other self.old) ⊎ (no_number < self.old.next + length other.sections)) }
-        ensures grown { self.new.used ≤ self.old.used + appended_bytes other self.old }
+        ensures put { OnOk result (self.new.used ≡ self.old.used + appended_bytes other self.old) }
         ensures known { IfErr result (λ e. (e ≡ 3) ⊎ (e ≡ 27)) }
     {
         self.store.append(other.store)

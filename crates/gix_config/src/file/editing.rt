@@ -176,17 +176,15 @@ impl File {
         ensures name { IsErrOf result InvalidName ↔ (is_made_name name.now ≡ false) }
         ensures subsection { IsErrOf result InvalidSubSection
             ↔ ((is_made_name name.now ≡ true) × (is_valid_or_none (option_copied subsection_name.entry) ≡ false)) }
-        ensures ok { OnOk result (self.new ≡ with_used self.new.used (apply (NewSection name.now (option_copied subsection_name.entry)) self.old)) }
+        ensures ok { OnOk result (self.new ≡ done (NewSection name.now (option_copied subsection_name.entry)) self.old) }
         ensures made { IfOk result (λ f. f ≡ (self.old.next, spacing_of [])) }
         ensures stands { IfOk result (λ f. has_number f.0 self.new ≡ true) }
-        ensures err { OnErr result (self.new ≡ with_used self.new.used self.old) }
-        ensures grown { self.new.used ≤ self.old.used + put_bytes (NewSection name.now (option_copied subsection_name.entry)) self.old }
+        ensures err { OnErr result (self.new ≡ self.old) }
         ensures too_large { IsErrAnd result (λ e. header_number e ≡ 3)
             ↔ ((is_made_name name.now ≡ true) × (is_valid_or_none (option_copied subsection_name.entry) ≡ true)
             × HasNoPlace name.now (option_copied subsection_name.entry) self.old) }
         ensures known { IfErr result (λ e. list_any (λ number. number == header_number e) header_numbers ≡ true) }
     {
-        // All other refusals come before any growth.
         self.store.check_new_section(name, subsection_name)?;
         let blanks = self.store.fresh_blanks()?;
         let id = self.store.new_section(name, subsection_name)?;
@@ -205,7 +203,7 @@ impl File {
         ensures invalid_subsection { IsErrOf result InvalidSubSection
             ↔ ((is_made_name name.now ≡ true) × (is_valid_or_none (option_copied subsection_name.entry) ≡ false)) }
         ensures ok { OnOk result (self.new ≡ with_used self.new.used (apply (Rename id name.now (option_copied subsection_name.entry)) self.old)) }
-        ensures err { OnErr result (self.new ≡ with_used self.new.used self.old) }
+        ensures err { OnErr result (self.new ≡ self.old) }
         ensures used { HeaderGrows name.now (option_copied subsection_name.entry) result self.old.used self.new.used }
         ensures stands { has_number id self.new ≡ true }
     {

@@ -22,8 +22,8 @@ impl File {
     /// # Errors
     ///
     /// Refusal 7 if no section has the name, 8 if none of these has the subsection; then 4 if a byte of the new name is not a letter,
-    /// digit or dash, 5 if the new subsection has LF or NUL, and 3 if the buffer would be longer than 4294967295 bytes, before any
-    /// growth; 27 when out of memory. The file is then as it was, except that its buffer may have grown.
+    /// digit or dash, 5 if the new subsection has LF or NUL, and 3 if the buffer would be longer than 4294967295 bytes;
+    /// 27 when out of memory. The file is then as it was.
     #[tactic(auto, using(std::proofs::lemmas::Fn::always_returns_same))]
     pub fn rename_section(
         &mut self,
@@ -34,8 +34,8 @@ impl File {
     ) -> Result<(), rename_section::Error>
         ensures exact { IsRenamed name.now (option_copied subsection_name.entry) (λ _. true) new_name.now
             (option_map bstring_bytes new_subsection_name) result self.old self.new }
-        ensures err { OnErr result (self.new ≡ with_used self.new.used self.old) }
-        ensures grown { self.new.used ≤ self.old.used + header_bytes new_name.now (option_map bstring_bytes new_subsection_name) }
+        ensures err { OnErr result (self.new ≡ self.old) }
+        ensures put { OnOk result (self.new.used ≡ self.old.used + header_bytes new_name.now (option_map bstring_bytes new_subsection_name)) }
     {
         self.rename_section_filter(name, subsection_name, new_name, new_subsection_name, |_| {
             true
@@ -63,8 +63,8 @@ impl File {
         // For any filter.
         ensures some { OnOk result (AreSomeRenamed name.now (option_copied subsection_name.entry) new_name.now
             (option_map bstring_bytes new_subsection_name) self.old self.new) }
-        ensures err { OnErr result (self.new ≡ with_used self.new.used self.old) }
-        ensures grown { self.new.used ≤ self.old.used + header_bytes new_name.now (option_map bstring_bytes new_subsection_name) }
+        ensures err { OnErr result (self.new ≡ self.old) }
+        ensures put { OnOk result (self.new.used ≡ self.old.used + header_bytes new_name.now (option_map bstring_bytes new_subsection_name)) }
     {
         self.store.rename_section_filter(
             name,

@@ -305,7 +305,7 @@ impl<'a> SectionMut<'a> {
             ↔ ((is_made_name name.now ≡ true) × (is_valid_or_none (option_map bstring_bytes subsection_name) ≡ false)) }
         ensures ok { OnOk result (edited self.new ≡ with_used (edited self.new).used
             (apply (Rename (number_of self.old) name.now (option_map bstring_bytes subsection_name)) (edited self.old))) }
-        ensures err { OnErr result (edited self.new ≡ with_used (edited self.new).used (edited self.old)) }
+        ensures err { OnErr result (edited self.new ≡ edited self.old) }
         ensures used { HeaderGrows name.now (option_map bstring_bytes subsection_name) result (edited self.old).used (edited self.new).used }
     {
         self.file

@@ -11,8 +11,8 @@ use Rattle.gitconf_lines.proofs.Entries.{last_shown}
 use Rattle.gitconf_body.proofs.Changing.{value_set_new, set_put_new}
 use Rattle.gitconf_body.proofs.set.set_at.Goals as goal
 
-pub returns-in_err-push_checked-clause-grows : goal.returns-in_err-push_checked-clause-grows
-returns-in_err-push_checked-clause-grows c =
+pub returns-in_err-push-clause-grows : goal.returns-in_err-push-clause-grows
+returns-in_err-push-clause-grows c =
     let none : list_any (λ i. is_entry_of c.args.key.now (item_of c.args.buffer.now.items i)) c.args.items.now.items ≡ false = search rules in
     let n = any_shown (is_entry_of c.args.key.now) (item_of c.args.buffer.now.items) c.args.items.now.items ∙ none in
     rw (set_put_new c.args.editor.now c.args.key.now c.args.value.now (items_of c.args.buffer.now.items c.args.items.now.items) n) (search (rules, grows_err))
@@ -21,7 +21,7 @@ pub returns-in_default-clause-ok : goal.returns-in_default-clause-ok
 returns-in_default-clause-ok c =
     let none : list_any (λ i. is_entry_of c.args.key.now (item_of c.args.buffer.now.items i)) c.args.items.now.items ≡ false = search rules in
     let n = any_shown (is_entry_of c.args.key.now) (item_of c.args.buffer.now.items) c.args.items.now.items ∙ none in
-    c.in_ok-push_checked.ensures.ok
+    c.in_ok-push.ensures.ok
     ∙ sym (value_set_new (editor_in c.args.buffer.now.items c.args.editor.now) c.args.key.now c.args.value.now (items_of c.args.buffer.now.items c.args.items.now.items) n)
 
 pub returns-in_default-clause-answer : goal.returns-in_default-clause-answer
@@ -35,7 +35,7 @@ returns-in_default-clause-grows c =
     let none : list_any (λ i. is_entry_of c.args.key.now (item_of c.args.buffer.now.items i)) c.args.items.now.items ≡ false = search rules in
     let n = any_shown (is_entry_of c.args.key.now) (item_of c.args.buffer.now.items) c.args.items.now.items ∙ none in
     let put = set_put_new c.args.editor.now c.args.key.now c.args.value.now (items_of c.args.buffer.now.items c.args.items.now.items) n in
-    grows_ok _ _ _ _ _ _ c.in_ok-push_checked.ensures.grows (omega (arith, put))
+    grows_ok _ _ _ _ _ _ c.in_ok-push.ensures.grows (omega (arith, put))
 
 pub returns-clause-answer : goal.returns-clause-answer
 returns-clause-answer c =

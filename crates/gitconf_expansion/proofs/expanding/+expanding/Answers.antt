@@ -14,7 +14,7 @@ use Rattle.gitconf_expansion.specs.Outcomes.{asks_of, told}
 use Rattle.gitconf_expansion.specs.Visits.{condition_of, paths_of, IsStep, IsVisited}
 use Rattle.gitconf_expansion.specs.declared.config_file.Visited.TheVariants as visits
 use Rattle.gitconf_expansion.proofs.OnePath.{FollowsTo, made, not_expanded, not_fetched, not_put, unnamed}
-use Rattle.gitconf_expansion.proofs.Steps.{as_it_was, expands, expands_no_more, gives_refused, leaves_refused, limited, none_of, some_spliced, visits_none, visits_plain, visits_refused, visits_wanting}
+use Rattle.gitconf_expansion.proofs.Steps.{expands, expands_no_more, gives_refused, leaves_refused, limited, none_of, some_spliced, visits_none, visits_plain, visits_refused, visits_wanting}
 use Rattle.gitconf_expansion.proofs.expanding.+expanding.Goals as goal
 
 pub expand-returns-then-left-eq0-clause-expanded : goal.expand-returns-then-left-eq0-clause-expanded
@@ -36,7 +36,7 @@ expand-returns-in_err-section-clause-expanded g w c =
       expands c.args.left asks parent (g.S.ConfigFile.done c.args.file.now) (g.S.ConfigFile.rest c.args.file.now) (Ended 27 file) c.if-left-eq0.false c.requires.fresh
           (c.loop-section.invariant.suffices (Ended 27 file) (visits_wanting (Expands (c.args.left - 1) asks) asks parent rest done c.in_err-section.ensures.more)),
       leaves_refused c.from_residual.result refusals.Memory 27 file (whole (g.S.ConfigFile.done c.visit.new.self) (g.S.ConfigFile.rest c.visit.new.self)) c.from_residual.ensures.1 refl
-          (as_it_was file (whole (g.S.ConfigFile.done c.visit.new.self) (g.S.ConfigFile.rest c.visit.new.self)) (λ i. whole (c.in_err-section.ensures.err i) (c.in_err-section.ensures.err_rest i))),
+          (λ i. whole (c.in_err-section.ensures.err i) (c.in_err-section.ensures.err_rest i)),
     )
 
 pub expand-returns-in_err-obey-clause-expanded : goal.expand-returns-in_err-obey-clause-expanded

@@ -1,11 +1,12 @@
-use Rattle.std.proofs.Common.{◌+◌, ◌≤◌, ◌^◌, length, IsErrOf, sym, subst}
-use Rattle.std.specs.Option.{option_copied}
-use Rattle.gitconf_items.specs.Items.{items_of}
-use Rattle.gitconf_lines.specs.Below.{below_put}
+use Rattle.std.proofs.Common.{rules, ◌≡◌}
+use Rattle.gitconf_lines.proofs.Buffers.{extended_fit}
 use Rattle.gitconf_lines.proofs.push_below.push_after_last.Goals as goal
 
-pub returns-clause-refused : goal.returns-clause-refused
-returns-clause-refused c = λ due.
-    let asked = subst (λ b. 2 ^ 32 ≤ length b + below_put c.args.editor.now c.args.key.now (option_copied c.args.value) (items_of b c.args.items.now.items)) (sym c.deref.ensures.value) due in
-    let told = subst (λ is. 2 ^ 32 ≤ length c.deref.result.now + below_put c.args.editor.now c.args.key.now (option_copied c.args.value) (items_of c.deref.result.now is)) (sym c.deref-2.ensures.value) asked in
-    absurd (let none = subst (λ r. IsErrOf r 3) c.in_ok-check_push_after_last.was (c.check_push_after_last.ensures.too_large.1 told) in cc)
+pub returns-in_err-below-clause-within : goal.returns-in_err-below-clause-within
+returns-in_err-below-clause-within c =
+    extended_fit c.args.buffer.now.items c.put_below.new.buffer.items c.args.items.now.items c.put_below.ensures.grows.extended c.requires.within
+
+pub returns-in_err-put_in-clause-within : goal.returns-in_err-put_in-clause-within
+returns-in_err-put_in-clause-within c =
+    let same : c.put_in.new.items.items ≡ c.args.items.now.items = search rules in
+    rw same (extended_fit c.args.buffer.now.items c.put_below.new.buffer.items c.args.items.now.items c.put_below.ensures.grows.extended c.requires.within)

@@ -56,7 +56,7 @@ impl File {
     ) -> Result<(), span::Error>
         requires { is_value_name key.now ≡ true }
         ensures ok { OnOk result (self.new ≡ with_used self.new.used (apply (one_rewriting key.now place value.now self.old) self.old)) }
-        ensures err { OnErr result (self.new ≡ with_used self.new.used self.old) }
+        ensures err { OnErr result (self.new ≡ self.old) }
         ensures used { PutsIn place.0 result (rewritten_put key.now value.now (items_of_numbered place.0 self.old)) self.old self.new }
         ensures missing { numbered place.0 self.old ≡ None → IsOk result }
     {

@@ -72,7 +72,7 @@ impl File {
     ghost use Rattle.gix_config.specs.contracts.file.File.{the_row};
     ghost use Rattle.gix_config.specs.Edited.{has_number};
     ghost use Rattle.gix_config.specs.Puts.{put_bytes};
-    ghost use Rattle.gix_config.specs.SectionEditors.{blanks_at, edited, editor_at, lent, told, IsEditorOfKey, IsFoundOrMade, IsFoundOrMadeOf, IsNumbered, IsPassingEditorOfKey, IsPickedOf, IsUnmade, IsUnput};
+    ghost use Rattle.gix_config.specs.SectionEditors.{blanks_at, edited, editor_at, lent, told, IsEditorOfKey, IsFoundOrMade, IsFoundOrMadeOf, IsNumbered, IsPassingEditorOfKey, IsPickedOf};
 
     /// The number and the blanks of the last section that has the name and subsection.
     fn blanks_by_names(
@@ -149,7 +149,7 @@ impl File {
             (λ keeps s. IsFoundOrMadeOf (λ _. self.new) (λ f. f) blanks_at name.now (option_copied subsection_name.entry)
             (picked name.now (option_copied subsection_name.entry) keeps s) self.old result) self.old }
         ensures stands { IfOk result (λ f. has_number f.0 self.new ≡ true) }
-        ensures err { OnErr result (IsUnmade name.now (option_copied subsection_name.entry) self.old self.new) }
+        ensures err { OnErr result (self.new ≡ self.old) }
     {
         match self.find_passing(name, subsection_name, filter) {
             Ok(Some(found)) => Ok(found),
@@ -166,7 +166,7 @@ impl File {
     ) -> Result<(SectionId, Blanks), header::Error>
         ensures exact { IsFoundOrMade (λ _. self.new) (λ f. f) blanks_at name.now (option_copied subsection_name.entry) (λ _. true) self.old result }
         ensures stands { IfOk result (λ f. has_number f.0 self.new ≡ true) }
-        ensures err { OnErr result (IsUnmade name.now (option_copied subsection_name.entry) self.old self.new) }
+        ensures err { OnErr result (self.new ≡ self.old) }
     {
         self.find_or_make(name, subsection_name, |_| true)
     }
@@ -316,16 +316,14 @@ impl File {
     /// # Errors
     ///
     /// Refusal 4 for a name that a section can't be made of, otherwise 5 for a subsection that it can't be made of; otherwise 3 if the file
-    /// would take more than 4294967295 bytes, or there is no number left, before any growth; otherwise 27 when out of memory. The file is
-    /// then as it was, except that its buffer may have grown.
+    /// would take more than 4294967295 bytes, or there is no number left; otherwise 27 when out of memory. The file is then as it was.
     pub fn new_section(
         &mut self,
         name: &str,
         subsection_name: Option<BString>,
     ) -> Result<SectionMut<'_>, header::Error>
         ensures same_file { IfOk result (λ e. lent e ≡ self.entry.ghost_name) }
-        ensures made { IfOk result (λ e. edited e ≡ with_used (edited e).used
-            (apply (NewSection name.now (option_map bstring_bytes subsection_name)) self.old)) }
+        ensures made { IfOk result (λ e. edited e ≡ done (NewSection name.now (option_map bstring_bytes subsection_name)) self.old) }
         ensures editor { IfOk result (λ e. told e ≡ editor_at self.old (new_section name.now (option_map bstring_bytes subsection_name) self.old)) }
         ensures name { IsErrOf result InvalidName ↔ (is_made_name name.now ≡ false) }
         ensures subsection { IsErrOf result InvalidSubSection
@@ -334,9 +332,7 @@ impl File {
             ↔ ((is_made_name name.now ≡ true) × (is_valid_or_none (option_map bstring_bytes subsection_name) ≡ true)
             × HasNoPlace name.now (option_map bstring_bytes subsection_name) self.old) }
         ensures known { IfErr result (λ e. list_any (λ number. number == header_number e) header_numbers ≡ true) }
-        ensures grown { IfOk result (λ e. (edited e).used ≤ self.old.used + put_bytes
-            (NewSection name.now (option_map bstring_bytes subsection_name)) self.old) }
-        ensures* refused { sem 𝓛 (RestsIfErr the_row self.entry lent result (IsUnmade name.now (option_map bstring_bytes subsection_name) self.old)) }
+        ensures* refused { sem 𝓛 (RestsIfErr the_row self.entry lent result (λ n. n ≡ self.old)) }
     {
         let line_end = self.line_end();
         let (id, blanks) = self.make_section(name, bytes_of(&subsection_name))?;
@@ -351,16 +347,16 @@ impl File {
     ///
     /// # Errors
     ///
-    /// A [`span::Error`]: number 3 if and only if the buffer would be longer than 4294967295 bytes or no number is left, before any growth,
-    /// otherwise 27 when out of memory. The section is then dropped, and the file as it was, except that its buffer may have grown.
+    /// A [`span::Error`]: number 3 if and only if the buffer would be longer than 4294967295 bytes or no number is left, otherwise 27 when out
+    /// of memory. The section is then dropped, and the file as it was.
     pub fn push_section(&mut self, section: Section) -> Result<SectionMut<'_>, span::Error>
         ensures same_file { IfOk result (λ e. lent e ≡ self.entry.ghost_name) }
         ensures put { IfOk result (λ e. edited e ≡ with_used (edited e).used (apply (PushSection section) self.old)) }
         ensures editor { IfOk result (λ e. told e ≡ (self.old.next, editor_of (edited e) section.section)) }
         ensures too_large { IsErrOf result 3 ↔ ((2 ^ 32 ≤ self.old.used + section.used) ⊎ (self.old.next ≡ no_number)) }
         ensures known { IfErr result (λ e. (e ≡ 3) ⊎ (e ≡ 27)) }
-        ensures grown { IfOk result (λ e. (edited e).used ≤ self.old.used + section.used) }
-        ensures* refused { sem 𝓛 (RestsIfErr the_row self.entry lent result (IsUnput section.used self.old)) }
+        ensures added { IfOk result (λ e. (edited e).used ≡ self.old.used + section.used) }
+        ensures* refused { sem 𝓛 (RestsIfErr the_row self.entry lent result (λ n. n ≡ self.old)) }
     {
         let (id, blanks) = self.put_section(section)?;
         let line_end = self.line_end();
@@ -371,8 +367,7 @@ impl File {
     ///
     /// # Errors
     ///
-    /// If a section is made, those of [`File::new_section`]; otherwise out of memory. The file is then as it was, except that its buffer may
-    /// have grown.
+    /// If a section is made, those of [`File::new_section`]; otherwise out of memory. The file is then as it was.
     pub fn section_mut_or_create_new(
         &mut self,
         name: &str,
@@ -380,7 +375,7 @@ impl File {
     ) -> Result<SectionMut<'_>, header::Error>
         ensures same_file { IfOk result (λ e. lent e ≡ self.entry.ghost_name) }
         ensures exact { IsFoundOrMade edited told (editor_at self.old) name.now (option_copied subsection_name.entry) (λ _. true) self.old result }
-        ensures* refused { sem 𝓛 (RestsIfErr the_row self.entry lent result (IsUnmade name.now (option_copied subsection_name.entry) self.old)) }
+        ensures* refused { sem 𝓛 (RestsIfErr the_row self.entry lent result (λ n. n ≡ self.old)) }
     {
         let line_end = self.line_end();
         let (id, blanks) = self.find_any_or_make(name, subsection_name)?;
@@ -404,7 +399,7 @@ impl File {
         ensures filtered { Filtered (λ keeps. ComputesKey F.FnMut keeps filter)
             (λ keeps s. IsFoundOrMadeOf edited told (editor_at self.old) name.now (option_copied subsection_name.entry)
             (picked name.now (option_copied subsection_name.entry) keeps s) self.old result) self.old }
-        ensures* refused { sem 𝓛 (RestsIfErr the_row self.entry lent result (IsUnmade name.now (option_copied subsection_name.entry) self.old)) }
+        ensures* refused { sem 𝓛 (RestsIfErr the_row self.entry lent result (λ n. n ≡ self.old)) }
     {
         let line_end = self.line_end();
         let (id, blanks) = self.find_or_make(name, subsection_name, filter)?;

@@ -34,11 +34,12 @@ returns-clause-too_large c =
     ((λ i. bytes_at (last i) (c.line_end-line_end.ensures i) other old) ∙ appended_bytes_at other old)
     c.put_at.ensures.too_large
 
-pub returns-clause-grown : goal.returns-clause-grown
-returns-clause-grown c =
+pub returns-clause-put : goal.returns-clause-put
+returns-clause-put c =
     let old = c.args.self.now in
     let other = c.args.other in
     let last : c.saturating_sub-last.result ≡ length old.sections - 1 =
     c.saturating_sub-last.ensures
     ∙ ap (λ n. n - 1) (c.len.ensures ∙ sym (length-map c.self.inside.sections.entries (section_state c.self.inside.buffer.items)) ∙ ap (λ (s : State). length s.sections) c.self.view_is) in
-    subst (λ n. c.put_at.new.self.used ≤ old.used + n) ((λ i. bytes_at (last i) (c.line_end-line_end.ensures i) other old) ∙ appended_bytes_at other old) c.put_at.ensures.grown
+    on_ok c.put_at.result (λ put. ap (λ (s : State). s.used) put
+    ∙ ap (λ n. old.used + n) ((λ i. bytes_at (last i) (c.line_end-line_end.ensures i) other old) ∙ appended_bytes_at other old)) c.put_at.ensures.ok

@@ -1,5 +1,5 @@
-use Rattle.std.proofs.Common.{rules, ◌≡◌, ◌<◌, Some, None, Ok, refl, sym, ap, subst, ◌∙◌, length}
-use Rattle.std.specs.Prelude.{IfSome, slice_get}
+use Rattle.std.proofs.Common.{rules, ◌≡◌, ◌<◌, Some, None, Ok, sym, ap, subst, ◌∙◌, length}
+use Rattle.std.specs.Prelude.{slice_get}
 use Rattle.gitconf_text.specs.Sections.{place_of}
 use Rattle.gitconf_table.proofs.SectionLemmas.{number_at-place}
 use Rattle.gitconf_state.specs.Edit.{with_used}

@@ -1,15 +1,14 @@
 -- The one proof that an edit of a section's items changes these and no others.
-use Rattle.std.proofs.Common.{rules, ◌≡◌, ◌<◌, Some, None, Ok, Err, refl, sym, ap, subst, ◌∙◌, length, arith, List, ℕ}
-use Rattle.std.specs.Prelude.{OnOk, OnErr, IfSome, slice_get, map}
+use Rattle.std.proofs.Common.{rules, ◌≡◌, ◌<◌, Some, Ok, Err, refl, sym, ap, subst, ◌∙◌, length, arith}
 use Rattle.std.proofs.lemmas.List.{length-map}
-use Rattle.gitconf_text.specs.Part as parts
-use Rattle.gitconf_state.specs.State.{SectionState, State}
+use Rattle.gitconf_state.specs.State.{State}
 use Rattle.gitconf_items.specs.Items.{items_of}
 use Rattle.gitconf_sections.specs.Section.{Section, with_items, viewed}
 use Rattle.gitconf_sections.proofs.Edits.{is_taken, taken_within}
 use Rattle.gitconf_views.specs.Store.{section_state, state_of, StoreFits}
 use Rattle.gitconf_entries.proofs.Outcomes.{either_way, if_ok, on_err, on_ok}
-use Rattle.gitconf_store.proofs.Edits.Editing.{as_err, items_within_at, same_items, unchanged_there}
+use Rattle.gitconf_state.specs.Edit.{with_used}
+use Rattle.gitconf_store.proofs.Edits.Editing.{as_err, items_within_at, on_both, unchanged_there}
 use Rattle.gitconf_store.proofs.Edits.Setting.{asked_at, changed_keeps, changed_view, kept_view, HasOthers}
 use Rattle.gitconf_store.proofs.store.Store.edit_items_at.Goals as goal
 
@@ -48,8 +47,8 @@ returns-in_err-items-clause-begun g c =
     c.self.inside.sections c.args.at (viewed c.at-section.result) c.at-section.ensures
     (subst (λ x. g.E.ItemsEdit.begins c.args.edit.now (items_of x c.at-section.result.items.now) (length x)) c.deref.ensures.value begun)))
 
-pub edit-edited-requires-clause-within : goal.edit-edited-requires-clause-within
-edit-edited-requires-clause-within g c =
+pub edit_or_leave-edited-requires-clause-within : goal.edit_or_leave-edited-requires-clause-within
+edit_or_leave-edited-requires-clause-within g c =
     let l = is_taken c.self.inside.sections c.take_items.new.self c.args.at c.deref_mut.result.now.items (c.in_ok-items.ensures.items ∙ ap (λ v. Some v.items) (sym c.deref_mut.ensures.value)) c.in_ok-items.ensures.ok in
     items_within_at c.self.inside.buffer.items c.self.inside.copies.items (with_items c.deref_mut.result.now.items l.kept) c.self.inside.sections.entries c.args.at c.self.invariant.sections_within l.here
 
@@ -63,42 +62,44 @@ put_items-requires g c =
 pub invariant_of-self-2 : goal.invariant_of-self-2
 invariant_of-self-2 g c =
     let l = is_taken c.self.inside.sections c.take_items.new.self c.args.at c.deref_mut.result.now.items (c.in_ok-items.ensures.items ∙ ap (λ v. Some v.items) (sym c.deref_mut.ensures.value)) c.in_ok-items.ensures.ok in
-    let back = l.back c.put_items.new.self c.edit-edited.new.items.items c.put_items.ensures in
+    let back = l.back c.put_items.new.self c.edit_or_leave-edited.new.items.items c.put_items.ensures in
     let s = with_items c.deref_mut.result.now.items l.kept in
-    let t : Section = with_items c.edit-edited.new.items.items l.kept in
-    let others : HasOthers (length c.edit-edited.new.buffer.items) s t = record { header = refl; meta = refl; held = refl; within = c.edit-edited.ensures.within } in
-    subst (StoreFits c.edit-edited.new.buffer.items c.self.inside.copies.items c.self.inside.front.items c.self.inside.meta.value) (sym back) (changed_keeps c.self.inside.buffer.items c.edit-edited.new.buffer.items c.self.inside.copies.items
+    let t : Section = with_items c.edit_or_leave-edited.new.items.items l.kept in
+    let others : HasOthers (length c.edit_or_leave-edited.new.buffer.items) s t = record { header = refl; meta = refl; held = refl; within = c.edit_or_leave-edited.ensures.within } in
+    subst (StoreFits c.edit_or_leave-edited.new.buffer.items c.self.inside.copies.items c.self.inside.front.items c.self.inside.meta.value) (sym back) (changed_keeps c.self.inside.buffer.items c.edit_or_leave-edited.new.buffer.items c.self.inside.copies.items
     c.self.inside.front.items c.self.inside.meta.value c.self.inside.sections c.args.at s t (g.E.ItemsEdit.changed c.args.edit.now)
-    c.edit-edited.ensures.extended c.edit-edited.ensures.room others c.self.invariant l.here c.requires.keeps (either_way c.edit-edited.result c.edit-edited.ensures.ok c.edit-edited.ensures.err))
+    c.edit_or_leave-edited.ensures.extended c.edit_or_leave-edited.ensures.room others c.self.invariant l.here c.requires.keeps (either_way c.edit_or_leave-edited.result c.edit_or_leave-edited.ensures.ok c.edit_or_leave-edited.ensures.err))
 
 pub returns-clause-ok : goal.returns-clause-ok
 returns-clause-ok g c =
     let l = is_taken c.self.inside.sections c.take_items.new.self c.args.at c.deref_mut.result.now.items (c.in_ok-items.ensures.items ∙ ap (λ v. Some v.items) (sym c.deref_mut.ensures.value)) c.in_ok-items.ensures.ok in
-    let whole = ap (state_of c.edit-edited.new.buffer.items c.self.inside.front.items c.self.inside.meta.value) (l.back c.put_items.new.self c.edit-edited.new.items.items c.put_items.ensures) in
+    let whole = ap (state_of c.edit_or_leave-edited.new.buffer.items c.self.inside.front.items c.self.inside.meta.value) (l.back c.put_items.new.self c.edit_or_leave-edited.new.items.items c.put_items.ensures) in
     let s = with_items c.deref_mut.result.now.items l.kept in
-    let t : Section = with_items c.edit-edited.new.items.items l.kept in
-    let others : HasOthers (length c.edit-edited.new.buffer.items) s t = record { header = refl; meta = refl; held = refl; within = c.edit-edited.ensures.within } in
-    rw (← c.self.view_is) (on_ok c.edit-edited.result (λ set. whole ∙ changed_view c.self.inside.buffer.items c.edit-edited.new.buffer.items c.self.inside.copies.items c.self.inside.front.items c.self.inside.meta.value
-    c.self.inside.sections c.args.at s t (g.E.ItemsEdit.changed c.args.edit.now) c.edit-edited.ensures.extended others c.self.invariant.front_within c.self.invariant.sections_within l.here set) c.edit-edited.ensures.ok)
+    let t : Section = with_items c.edit_or_leave-edited.new.items.items l.kept in
+    let others : HasOthers (length c.edit_or_leave-edited.new.buffer.items) s t = record { header = refl; meta = refl; held = refl; within = c.edit_or_leave-edited.ensures.within } in
+    rw (← c.self.view_is) (on_ok c.edit_or_leave-edited.result (λ set. whole ∙ changed_view c.self.inside.buffer.items c.edit_or_leave-edited.new.buffer.items c.self.inside.copies.items c.self.inside.front.items c.self.inside.meta.value
+    c.self.inside.sections c.args.at s t (g.E.ItemsEdit.changed c.args.edit.now) c.edit_or_leave-edited.ensures.extended others c.self.invariant.front_within c.self.invariant.sections_within l.here set) c.edit_or_leave-edited.ensures.ok)
 
 pub returns-clause-err : goal.returns-clause-err
 returns-clause-err g c =
     let l = is_taken c.self.inside.sections c.take_items.new.self c.args.at c.deref_mut.result.now.items (c.in_ok-items.ensures.items ∙ ap (λ v. Some v.items) (sym c.deref_mut.ensures.value)) c.in_ok-items.ensures.ok in
-    let whole = ap (state_of c.edit-edited.new.buffer.items c.self.inside.front.items c.self.inside.meta.value) (l.back c.put_items.new.self c.edit-edited.new.items.items c.put_items.ensures) in
+    let whole = ap (state_of c.edit_or_leave-edited.new.buffer.items c.self.inside.front.items c.self.inside.meta.value) (l.back c.put_items.new.self c.edit_or_leave-edited.new.items.items c.put_items.ensures) in
     let s = with_items c.deref_mut.result.now.items l.kept in
-    let t : Section = with_items c.edit-edited.new.items.items l.kept in
-    let others : HasOthers (length c.edit-edited.new.buffer.items) s t = record { header = refl; meta = refl; held = refl; within = c.edit-edited.ensures.within } in
-    rw (← c.self.view_is) (on_err c.edit-edited.result (λ kept. whole ∙ kept_view c.self.inside.buffer.items c.edit-edited.new.buffer.items c.self.inside.copies.items c.self.inside.front.items c.self.inside.meta.value
-    c.self.inside.sections c.args.at s t c.edit-edited.ensures.extended others c.self.invariant.front_within c.self.invariant.sections_within l.here kept) c.edit-edited.ensures.err)
+    let t : Section = with_items c.edit_or_leave-edited.new.items.items l.kept in
+    let others : HasOthers (length c.edit_or_leave-edited.new.buffer.items) s t = record { header = refl; meta = refl; held = refl; within = c.edit_or_leave-edited.ensures.within } in
+    let both = on_both _ _ c.edit_or_leave-edited.result c.edit_or_leave-edited.ensures.err c.edit_or_leave-edited.ensures.left in
+    rw (← c.self.view_is) (on_err c.edit_or_leave-edited.result (λ kept. whole ∙ kept_view c.self.inside.buffer.items c.edit_or_leave-edited.new.buffer.items c.self.inside.copies.items c.self.inside.front.items c.self.inside.meta.value
+    c.self.inside.sections c.args.at s t c.edit_or_leave-edited.ensures.extended others c.self.invariant.front_within c.self.invariant.sections_within l.here kept.0
+    ∙ ap (λ b. with_used (length b) (state_of c.self.inside.buffer.items c.self.inside.front.items c.self.inside.meta.value c.self.inside.sections)) kept.1) both)
 
 pub returns-clause-tells : goal.returns-clause-tells
 returns-clause-tells g c =
     let l = is_taken c.self.inside.sections c.take_items.new.self c.args.at c.deref_mut.result.now.items (c.in_ok-items.ensures.items ∙ ap (λ v. Some v.items) (sym c.deref_mut.ensures.value)) c.in_ok-items.ensures.ok in
-    rw (← c.self.view_is) (if_ok c.edit-edited.result (λ a told. asked_at (λ items. g.E.ItemsEdit.tells c.args.edit.now items a) c.self.inside.buffer.items c.self.inside.front.items c.self.inside.meta.value
-    c.self.inside.sections c.args.at (with_items c.deref_mut.result.now.items l.kept) l.here told) c.edit-edited.ensures.tells)
+    rw (← c.self.view_is) (if_ok c.edit_or_leave-edited.result (λ a told. asked_at (λ items. g.E.ItemsEdit.tells c.args.edit.now items a) c.self.inside.buffer.items c.self.inside.front.items c.self.inside.meta.value
+    c.self.inside.sections c.args.at (with_items c.deref_mut.result.now.items l.kept) l.here told) c.edit_or_leave-edited.ensures.tells)
 
 pub returns-clause-grows : goal.returns-clause-grows
 returns-clause-grows g c =
     let l = is_taken c.self.inside.sections c.take_items.new.self c.args.at c.deref_mut.result.now.items (c.in_ok-items.ensures.items ∙ ap (λ v. Some v.items) (sym c.deref_mut.ensures.value)) c.in_ok-items.ensures.ok in
-    rw (← c.self.view_is) (asked_at (λ items. g.E.ItemsEdit.grows c.args.edit.now items c.edit-edited.result (length c.self.inside.buffer.items) (length c.edit-edited.new.buffer.items)) c.self.inside.buffer.items
-    c.self.inside.front.items c.self.inside.meta.value c.self.inside.sections c.args.at (with_items c.deref_mut.result.now.items l.kept) l.here c.edit-edited.ensures.grows)
+    rw (← c.self.view_is) (asked_at (λ items. g.E.ItemsEdit.grows c.args.edit.now items c.edit_or_leave-edited.result (length c.self.inside.buffer.items) (length c.edit_or_leave-edited.new.buffer.items)) c.self.inside.buffer.items
+    c.self.inside.front.items c.self.inside.meta.value c.self.inside.sections c.args.at (with_items c.deref_mut.result.now.items l.kept) l.here c.edit_or_leave-edited.ensures.grows)

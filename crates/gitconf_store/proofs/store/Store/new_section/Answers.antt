@@ -4,6 +4,7 @@ use Rattle.std.specs.Option.{option_copied}
 use Rattle.gitconf_text.specs.Names.{is_made_name, is_valid_or_none}
 use Rattle.gitconf_text.specs.Sections.{with_last}
 use Rattle.gitconf_items.specs.Events.{header_of}
+use Rattle.gitconf_items.specs.ShownEvents.{IsExtended}
 use Rattle.gitconf_text.specs.Part.{LineEndsItem}
 use Rattle.gitconf_state.specs.Edit.{made_header, with_used}
 use Rattle.gitconf_state.specs.Edits as states
@@ -12,9 +13,9 @@ use Rattle.gitconf_state.proofs.Edits.Items.{new_section_is}
 use Rattle.gitconf_state.specs.LineEnds.{file_line_end}
 use Rattle.gitconf_text.specs.LineEnds.{bytes_of_line_end}
 use Rattle.gitconf_sections.specs.Section.{Section, made}
-use Rattle.gitconf_views.specs.Store.{state_of}
+use Rattle.gitconf_views.specs.Store.{state_of, StoreFits}
 use Rattle.gitconf_entries.proofs.Outcomes.{if_err_at_all}
-use Rattle.gitconf_store.proofs.Headers.Making.{IsMadeWith, longer_state, longer_fits, made_section, made_state, made_fits}
+use Rattle.gitconf_store.proofs.Headers.Making.{IsMadeWith, longer_fits, made_section, made_state, made_fits, same_fits}
 use Rattle.gitconf_store.proofs.store.Store.new_section.Goals as goal
 
 pub invariant_of-self : goal.invariant_of-self
@@ -24,34 +25,37 @@ invariant_of-self c =
 
 pub returns-in_err-section-clause-err : goal.returns-in_err-section-clause-err
 returns-in_err-section-clause-err c =
-    rw (← c.self.view_is) (if_err_at_all c.from_residual-in_err-section.result
-    (longer_state c.self.inside.buffer.items c.new_section.new.buffer.items c.self.inside.copies.items c.self.inside.front.items c.self.inside.meta.value c.self.inside.sections
-    c.new_section.ensures.grows.extended c.self.invariant))
+    let same : c.new_section.new.buffer.items ≡ c.self.inside.buffer.items = search rules in
+    rw (← c.self.view_is) (if_err_at_all c.from_residual-in_err-section.result (ap (λ x. state_of x c.self.inside.front.items c.self.inside.meta.value c.self.inside.sections) same))
 
 pub invariant_of-self-in_err-meta : goal.invariant_of-self-in_err-meta
 invariant_of-self-in_err-meta c =
-    longer_fits c.self.inside.buffer.items c.new_section.new.buffer.items c.self.inside.copies.items c.new_section.new.copies.items c.self.inside.front.items c.self.inside.meta.value c.self.inside.sections
-    c.new_section.ensures.grows.extended c.new_section.ensures.extended c.new_section.ensures.grows.room c.self.invariant
+    let from : length c.self.inside.buffer.items ≡ c.len-len.result = search rules in
+    same_fits c.self.inside.buffer.items c.take_back.new.buffer.items c.self.inside.copies.items c.new_section.new.copies.items c.self.inside.front.items c.self.inside.meta.value c.self.inside.sections
+    (c.in_err-meta.ensures.err c.self.inside.buffer.items from c.new_section.ensures.grows.extended) c.new_section.ensures.extended c.self.invariant
 
 pub returns-in_err-meta-clause-err : goal.returns-in_err-meta-clause-err
 returns-in_err-meta-clause-err c =
+    let from : length c.self.inside.buffer.items ≡ c.len-len.result = search rules in
     rw (← c.self.view_is) (if_err_at_all c.from_residual-in_err-meta.result
-    (longer_state c.self.inside.buffer.items c.new_section.new.buffer.items c.self.inside.copies.items c.self.inside.front.items c.self.inside.meta.value c.self.inside.sections
-    c.new_section.ensures.grows.extended c.self.invariant))
+    (ap (λ x. state_of x c.self.inside.front.items c.self.inside.meta.value c.self.inside.sections) (c.in_err-meta.ensures.err c.self.inside.buffer.items from c.new_section.ensures.grows.extended)))
 
 pub invariant_of-self-in_err-id : goal.invariant_of-self-in_err-id
 invariant_of-self-in_err-id c =
-    let same : c.push.new.self ≡ c.self.inside.sections = search rules in
-    rw same (longer_fits c.self.inside.buffer.items c.new_section.new.buffer.items c.self.inside.copies.items c.new_section.new.copies.items c.self.inside.front.items c.self.inside.meta.value c.self.inside.sections
-    c.new_section.ensures.grows.extended c.new_section.ensures.extended c.new_section.ensures.grows.room c.self.invariant)
+    let from : length c.self.inside.buffer.items ≡ c.len-len.result = search rules in
+    let more = subst (λ x. IsExtended c.self.inside.buffer.items x) (sym c.in_ok-meta.ensures.ok) c.new_section.ensures.grows.extended in
+    let same : c.push-pushed.new.self ≡ c.self.inside.sections = search rules in
+    rw same (same_fits c.self.inside.buffer.items c.take_back-2.new.buffer.items c.self.inside.copies.items c.new_section.new.copies.items c.self.inside.front.items c.self.inside.meta.value c.self.inside.sections
+    (c.in_err-id.ensures.err c.self.inside.buffer.items from more) c.new_section.ensures.extended c.self.invariant)
 
 pub returns-in_err-id-clause-err : goal.returns-in_err-id-clause-err
 returns-in_err-id-clause-err c =
-    let same : c.push.new.self ≡ c.self.inside.sections = search rules in
+    let from : length c.self.inside.buffer.items ≡ c.len-len.result = search rules in
+    let more = subst (λ x. IsExtended c.self.inside.buffer.items x) (sym c.in_ok-meta.ensures.ok) c.new_section.ensures.grows.extended in
+    let same : c.push-pushed.new.self ≡ c.self.inside.sections = search rules in
     rw (← c.self.view_is) (if_err_at_all c.from_residual-in_err-id.result
-    (ap (state_of c.new_section.new.buffer.items c.self.inside.front.items c.self.inside.meta.value) same
-    ∙ longer_state c.self.inside.buffer.items c.new_section.new.buffer.items c.self.inside.copies.items c.self.inside.front.items c.self.inside.meta.value c.self.inside.sections
-    c.new_section.ensures.grows.extended c.self.invariant))
+    (ap (state_of c.take_back-2.new.buffer.items c.self.inside.front.items c.self.inside.meta.value) same
+    ∙ ap (λ x. state_of x c.self.inside.front.items c.self.inside.meta.value c.self.inside.sections) (c.in_err-id.ensures.err c.self.inside.buffer.items from more)))
 
 pub invariant_of-self-2 : goal.invariant_of-self-2
 invariant_of-self-2 c =
@@ -71,14 +75,16 @@ invariant_of-self-2 c =
     } in
     let named : is_made_name name ≡ true = search rules in
     let valid : is_valid_or_none subsection ≡ true = search rules in
-    let after : c.push.new.self ≡ with_last name subsection s c.self.inside.sections = search rules in
+    let after : c.push-pushed.new.self ≡ with_last name subsection s c.self.inside.sections = search rules in
     let state : State = state_of c.self.inside.buffer.items c.self.inside.front.items c.self.inside.meta.value c.self.inside.sections in
     let line_end : bytes_of_line_end c.line_end-line_end.result ≡ file_line_end state = c.line_end-line_end.ensures ∙ ap file_line_end (sym c.self.view_is) in
     let all : list_all is_item items ≡ true =
     subst (λ l. list_all is_item (LineEndsItem l ∷ []) ≡ true) (sym line_end) (new_section_is name subsection state named valid).items in
-    made_fits c.self.inside.buffer.items c.new_section.new.buffer.items c.self.inside.copies.items c.new_section.new.copies.items c.self.inside.front.items c.self.inside.meta.value c.self.inside.sections c.push.new.self
+    let kept : c.take_back-2.new.buffer.items ≡ c.new_section.new.buffer.items = c.in_ok-id.ensures.ok ∙ c.in_ok-meta.ensures.ok in
+    subst (λ x. StoreFits x c.new_section.new.copies.items c.self.inside.front.items c.self.inside.meta.value c.push-pushed.new.self) (sym kept)
+    (made_fits c.self.inside.buffer.items c.new_section.new.buffer.items c.self.inside.copies.items c.new_section.new.copies.items c.self.inside.front.items c.self.inside.meta.value c.self.inside.sections c.push-pushed.new.self
     s name subsection items
-    c.new_section.ensures.grows.extended c.new_section.ensures.extended c.new_section.ensures.grows.room c.self.invariant made after named valid all
+    c.new_section.ensures.grows.extended c.new_section.ensures.extended c.new_section.ensures.grows.room c.self.invariant made after named valid all)
 
 pub returns-clause-ok : goal.returns-clause-ok
 returns-clause-ok c =
@@ -96,10 +102,14 @@ returns-clause-ok c =
       within = c.in_ok-section.ensures.within;
       held = refl;
     } in
-    let after : c.push.new.self ≡ with_last name subsection s c.self.inside.sections = search rules in
+    let after : c.push-pushed.new.self ≡ with_last name subsection s c.self.inside.sections = search rules in
     let line_end : bytes_of_line_end c.line_end-line_end.result ≡ file_line_end (state_of c.self.inside.buffer.items c.self.inside.front.items c.self.inside.meta.value c.self.inside.sections) =
     c.line_end-line_end.ensures ∙ ap file_line_end (sym c.self.view_is) in
-    rw (← c.self.view_is) (made_state c.self.inside.buffer.items c.new_section.new.buffer.items c.self.inside.copies.items c.new_section.new.copies.items c.self.inside.front.items c.self.inside.meta.value c.self.inside.sections c.push.new.self
+    let kept : c.take_back-2.new.buffer.items ≡ c.new_section.new.buffer.items = c.in_ok-id.ensures.ok ∙ c.in_ok-meta.ensures.ok in
+    let st : State = state_of c.self.inside.buffer.items c.self.inside.front.items c.self.inside.meta.value c.self.inside.sections in
+    let with_it : state_of c.new_section.new.buffer.items c.self.inside.front.items c.self.inside.meta.value c.push-pushed.new.self ≡ with_used (length c.new_section.new.buffer.items) (states.with_last (made_section name subsection (LineEndsItem (file_line_end st) ∷ []) st) st) =
+    made_state c.self.inside.buffer.items c.new_section.new.buffer.items c.self.inside.copies.items c.new_section.new.copies.items c.self.inside.front.items c.self.inside.meta.value c.self.inside.sections c.push-pushed.new.self
     s name subsection items c.new_section.ensures.grows.extended c.self.invariant made after
     ∙ ap (λ l. with_used (length c.new_section.new.buffer.items) (states.with_last (made_section name subsection (LineEndsItem l ∷ [])
-    (state_of c.self.inside.buffer.items c.self.inside.front.items c.self.inside.meta.value c.self.inside.sections)) (state_of c.self.inside.buffer.items c.self.inside.front.items c.self.inside.meta.value c.self.inside.sections))) line_end)
+    (state_of c.self.inside.buffer.items c.self.inside.front.items c.self.inside.meta.value c.self.inside.sections)) (state_of c.self.inside.buffer.items c.self.inside.front.items c.self.inside.meta.value c.self.inside.sections))) line_end in
+    rw (← c.self.view_is) (subst (λ x. state_of x c.self.inside.front.items c.self.inside.meta.value c.push-pushed.new.self ≡ with_used (length x) (states.with_last (made_section name subsection (LineEndsItem (file_line_end st) ∷ []) st) st)) (sym kept) with_it)

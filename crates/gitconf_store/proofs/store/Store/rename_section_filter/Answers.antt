@@ -61,7 +61,7 @@ returns-clause-exact g c = λ keeps h.
     let told = c.in_ok-places.ensures.exact keeps h in
     let some = some_passes test old.sections c.in_ok-places.places.items told (λ none. let zero : length c.in_ok-places.places.items ≡ 0 = ap length none in let empty : c.is_empty.result ≡ true = search rules in let no = c.if-is_empty.false in absurd (cc)) in
     is_done c.args.name.now (option_copied c.args.subsection_name) keeps c.args.new_name.now (option_copied c.args.new_subsection_name) old c.put_header.new.self c.check_header.result fine c.check_header.ensures some
-    (c.in_ok-put_header.ensures.ok (map test old.sections) (c.deref.ensures.value ∙ told))
+    (c.in_ok-put_header.ensures.ok (map test old.sections) (c.deref.ensures.value ∙ told)) c.in_ok-put_header.ensures.used.put
 
 pub returns-clause-some : goal.returns-clause-some
 returns-clause-some g c =

@@ -4,6 +4,7 @@ use Rattle.gitconf_text.specs.Names.{is_made_name, is_valid_or_none}
 use Rattle.gitconf_items.specs.Events.{header_of}
 use Rattle.gitconf_state.specs.Edit.{made_header}
 use Rattle.gitconf_state.specs.Edits.{renamed, Detached}
+use Rattle.gitconf_views.specs.Alone.{detached_of}
 use Rattle.gitconf_views.proofs.AloneEdits.{HasOwn, kept_alone, longer_stands, renamed_alone, renamed_stands}
 use Rattle.gitconf_entries.proofs.Outcomes.{if_err_at_all}
 use Rattle.gitconf_lines.proofs.Buffers.{extended_fit}
@@ -21,7 +22,10 @@ returns-in_err-self-inside-clause-err c =
     let s = c.self.inside.section in
     let x = c.put_header.ensures.grows.extended in
     let others : HasOwn (length new) s s = record { header = refl; meta = refl; within = extended_fit b new s.items.items x c.self.invariant.within } in
-    if_err_at_all _ (kept_alone b new c.self.inside.copies.items c.self.inside.id s s x others c.self.invariant refl ∙ ap (λ (d : Detached). d.section) c.self.view_is)
+    let same : new ≡ b = search rules in
+    let stays : detached_of new c.self.inside.id s ≡ detached_of b c.self.inside.id s =
+    λ i. record { section = kept_alone b new c.self.inside.copies.items c.self.inside.id s s x others c.self.invariant refl i; used = length (same i) } in
+    rw (← c.self.view_is) (if_err_at_all _ stays)
 
 pub invariant_of-self-2 : goal.invariant_of-self-2
 invariant_of-self-2 c =

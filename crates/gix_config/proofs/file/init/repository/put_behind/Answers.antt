@@ -24,4 +24,4 @@ pub returns-clause-put : goal.returns-clause-put
 returns-clause-put g c =
     let asks = asks_of c.args.options.now (g.F.Files.table c.args.files.now) in
     then_put (IsExpanded asks c.args.file) c.args.target.now c.in_ok-file.file c.append.new.self (expanded_number asks c.args.file (Ok c.in_ok-file.file) c.in_ok-file.ensures.expanded) c.in_ok-append.ensures.ok
-    c.in_ok-append.ensures.grown (λ large. let e = c.in_ok-append.ensures.too_large.1 large in absurd (cc))
+    c.in_ok-append.ensures.put (λ large. let e = c.in_ok-append.ensures.too_large.1 large in absurd (cc))

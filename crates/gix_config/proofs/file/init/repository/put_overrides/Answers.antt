@@ -32,4 +32,4 @@ pub returns-clause-put : goal.returns-clause-put
 returns-clause-put g c =
     let first = IsOverrides (g.E.Env.variables c.args.env.now) c.args.places.now (g.F.Files.table c.args.files.now) in
     then_put first c.args.target.now c.in_ok-file.file c.append.new.self c.in_ok-file.ensures.made c.in_ok-append.ensures.ok
-    c.in_ok-append.ensures.grown (λ large. let e = c.in_ok-append.ensures.too_large.1 large in absurd (cc))
+    c.in_ok-append.ensures.put (λ large. let e = c.in_ok-append.ensures.too_large.1 large in absurd (cc))
