@@ -11,7 +11,7 @@ use Rattle.gitconf_read.specs.EventResult.{IsRefused}
 use Rattle.gitconf_read.specs.ParseError.{Refusal}
 use Rattle.gitconf_state.specs.State.{State}
 use Rattle.gitconf_expansion.specs.Expansion.{Asks, Ended, Expands, IsLoaded, Leaves, On, Reached, Resolves}
-use Rattle.gitconf_expansion.proofs.Steps.{as_it_was, expands_wanting, leaves_refused}
+use Rattle.gitconf_expansion.proofs.Steps.{expands_wanting, leaves_refused}
 use Rattle.gitconf_loaders.specs.Resolving.{IsMadeOf}
 
 parse_number : (e : Refusal) → init_number (init_of_parse e) ≡ e.number
@@ -68,4 +68,4 @@ resolves asks old new result some (r, expands, leaves) = (r, rw (some_depth asks
 -- memory ran out before anything was done
 pub resolves_wanting : (asks : Asks) (old : State) (result : Result Unit Error) → asks.rules.max_depth ≢ 0 → IsErrAnd result (λ r. r ≡ refusals.Memory) → Resolves includes_number asks old result old
 resolves_wanting asks old result some err =
-    resolves asks old old result some (Ended 27 old, expands_wanting asks.rules.max_depth asks None old some, leaves_refused result refusals.Memory 27 old old err refl (as_it_was old old refl))
+    resolves asks old old result some (Ended 27 old, expands_wanting asks.rules.max_depth asks None old some, leaves_refused result refusals.Memory 27 old old err refl refl)

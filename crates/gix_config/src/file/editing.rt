@@ -25,7 +25,7 @@ impl File {
     ghost use Rattle.gitconf_store.specs.Editors.{given_editor, IsGiven};
     ghost use Rattle.gitconf_views.specs.Views.{shown};
     ghost use Rattle.gix_config.specs.Edited.{has_number, IsEdited};
-    ghost use Rattle.gix_config.specs.Puts.{put_bytes};
+    ghost use Rattle.gix_config.specs.Puts.{done};
 
     /// [`Store::push_entry`](gitconf_store::store::Store::push_entry).
     pub(crate) fn push_entry(
