@@ -12,7 +12,7 @@ IsTooLarge other old = (2 ^ 32 ≤ old.used + appended_bytes other old) ⊎ (no_
 
 -- Number 0 where the other file was appended, 3 where it is too large; else memory ran out.
 pub record IsAppended (other old new : State) (number : ℕ) : Type 0 where
-  pub done : number ≡ 0 → new ≡ with_used new.used (apply (Append other) old)
+  pub done : number ≡ 0 → new ≡ with_used (old.used + appended_bytes other old) (apply (Append other) old)
   pub fits : number ≡ 0 → IsTooLarge other old → ⊥
   pub too_large : number ≡ 3 → IsTooLarge other old
   pub short : (number ≡ 0 → ⊥) → (number ≡ 3 → ⊥) → number ≡ 27

@@ -5,15 +5,14 @@ use Rattle.bstr.specs.Owned.{bstring_bytes}
 use Rattle.gitconf_base.specs.Key.{Key}
 use Rattle.gitconf_handles.specs.Blocks.{Holds}
 use Rattle.gitconf_handles.specs.declared.block.Block.{Block}
-use Rattle.gitconf_state.specs.Edit.{with_used}
 use Rattle.gitconf_state.specs.State.{State}
 use Rattle.gitconf_store.specs.Edits.{IsSet}
 use Rattle.gitconf_store.specs.SetErrors.{set_number}
 use Rattle.gitconf_store.specs.declared.set_raw_value.Error as set_raw_value
 
--- a refused edit leaves the file as it was, but for the bytes of its buffer
+-- a refused edit leaves the file as it was
 abbrev pub IsEditedFile : (number : ℕ) → (old new : State) → Type 0
-IsEditedFile number old new = (number ≡ 0 → ⊥) → new ≡ with_used new.used old
+IsEditedFile number old new = (number ≡ 0 → ⊥) → new ≡ old
 
 -- what is told of a value that was set: whether there was one, with its raw text; or the number of the refusal
 abbrev pub Tells : Result (Option BString) set_raw_value.Error → (number : ℕ) → (had : Bool) → Block → Type 0

@@ -2,7 +2,6 @@
 use Rattle.std.specs.List.{list_any}
 use Rattle.std.specs.Prelude.{◌≡◌, ◌≢◌, ◌↔◌, ◌==◌, ◌⊎◌, ℕ, true, false, List, Option, Some, None, Result, Ok, Err, IfErr, IsErrAnd, IsErrOf, OnErr, OnOk}
 use Rattle.gitconf_finding.specs.Picks.{picked}
-use Rattle.gitconf_state.specs.Edit.{with_used}
 use Rattle.gitconf_state.specs.Edits.{NewSection, RemoveSection, apply}
 use Rattle.gitconf_state.specs.State.{State}
 use Rattle.gitconf_store.specs.NewSections.{HasNoPlace}
@@ -14,6 +13,7 @@ use Rattle.gitconf_text.specs.Names.{is_made_name, is_valid_or_none}
 use Rattle.gitconf_text.specs.declared.parse.section.header.Error.{Error as HeaderError}
 use Rattle.gitconf_text.specs.declared.parse.section.header.Error.TheVariants.{InvalidName, InvalidSubSection}
 use Rattle.gitconf_text.specs.SectionKeys.{SectionKey}
+use Rattle.gix_config.specs.Puts.{done}
 
 -- number 0 where the last section of the names was removed, 100 if there is none, else memory ran out
 pub record IsRemoved (key : SectionKey) (old new : State) (number : ℕ) : Type 0 where
@@ -23,8 +23,8 @@ pub record IsRemoved (key : SectionKey) (old new : State) (number : ℕ) : Type 
 
 -- a section was made after all others, or refused: first for its names, then because there is no place for it
 pub record IsMadeNew (name : List ℕ) (subsection : Option (List ℕ)) (result : Result (Unit {0}) HeaderError) (old new : State) : Type 0 where
-  pub made : OnOk result (new ≡ with_used new.used (apply (NewSection name subsection) old))
-  pub unmade : OnErr result (new ≡ with_used new.used old)
+  pub made : OnOk result (new ≡ done (NewSection name subsection) old)
+  pub unmade : OnErr result (new ≡ old)
   pub invalid_name : IsErrOf result InvalidName ↔ (is_made_name name ≡ false)
   pub invalid_subsection : IsErrOf result InvalidSubSection ↔ ((is_made_name name ≡ true) × (is_valid_or_none subsection ≡ false))
   pub too_large : IsErrAnd result (λ e. header_number e ≡ 3)
