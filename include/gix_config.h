@@ -30,13 +30,43 @@ enum {
     GIX_CONFIG_WRONG_HANDLE = 102
 };
 
+/* Where sections come from, and how far that is trusted. The numbers of sources add up. */
+enum {
+    /* The configuration that was installed with git. */
+    GIX_CONFIG_SOURCE_GIT_INSTALLATION = 1,
+    /* The configuration of the whole machine. */
+    GIX_CONFIG_SOURCE_SYSTEM = 2,
+    /* The user's configuration in `git/config` of the folder for configuration. */
+    GIX_CONFIG_SOURCE_GIT = 4,
+    /* The user's configuration in `.gitconfig` of the home folder. */
+    GIX_CONFIG_SOURCE_USER = 8,
+    /* The repository's configuration. */
+    GIX_CONFIG_SOURCE_LOCAL = 16,
+    /* The configuration of one worktree. */
+    GIX_CONFIG_SOURCE_WORKTREE = 32,
+    /* Variables of the environment. */
+    GIX_CONFIG_SOURCE_ENV = 64,
+    /* Options of the command line. */
+    GIX_CONFIG_SOURCE_CLI = 128,
+    /* The calling program: also a text that it parses. */
+    GIX_CONFIG_SOURCE_API = 256,
+    /* Variables of the environment that override everything else. */
+    GIX_CONFIG_SOURCE_ENV_OVERRIDE = 512,
+    /* All of these. */
+    GIX_CONFIG_SOURCES_ALL = 1023,
+    /* Someone else owns the file. */
+    GIX_CONFIG_TRUST_REDUCED = 0,
+    /* Who runs the program owns the file, or it comes from none. */
+    GIX_CONFIG_TRUST_FULL = 1
+};
+
 /* A place for a file, {0} at first. It is never copied, and closed with gix_config_file_close. */
 typedef struct gix_config_file {
     void *at;
 } gix_config_file;
 
-/* A place for a list of texts or entries, {0} at first. It is never copied, and closed with
- * gix_config_list_close. */
+/* A place for a list of texts, entries, sections or differences, {0} at first. It is never copied, and closed
+ * with gix_config_list_close. */
 typedef struct gix_config_list {
     void *at;
 } gix_config_list;
@@ -98,6 +128,37 @@ typedef struct gix_config_entry {
     gix_config_text value;
 } gix_config_entry;
 
+/* Where the names of a section lie: in the list that it was taken from, until that is closed. And where the
+ * section comes from. */
+typedef struct gix_config_listed_section {
+    /* The name, as it is spelled. */
+    gix_config_text name;
+    /* Whether there is a subsection. */
+    bool has_subsection;
+    /* The subsection's name, if there is one. */
+    gix_config_text subsection;
+    /* Whether it comes from a file with a path. */
+    bool has_path;
+    /* The path of its file, if there is one. */
+    gix_config_text path;
+    /* The place that it was read from: one of the sources' numbers. */
+    uint32_t source;
+    /* How many includes led to its file: 0 for a file that was not included. */
+    uint32_t level;
+    /* How far it is trusted: one of the numbers of trust. */
+    uint32_t trust;
+    /* How many entries it has. */
+    size_t entries;
+} gix_config_listed_section;
+
+/* Where the parts of a difference lie: in the list that it was taken from, until that is closed. */
+typedef struct gix_config_difference {
+    /* Whether the entry is the second file's. */
+    bool is_other;
+    /* The entry. */
+    gix_config_entry entry;
+} gix_config_difference;
+
 /* Where a text can't be read on. */
 typedef struct gix_config_place {
     /* The line, from 1. */
@@ -108,12 +169,82 @@ typedef struct gix_config_place {
     size_t offset;
 } gix_config_place;
 
+/* Which sections are asked: those of some sources that are trusted enough. */
+typedef struct gix_config_filter {
+    /* The sources, as the sum of their numbers. */
+    uint32_t sources;
+    /* The least trust. */
+    uint32_t least_trust;
+} gix_config_filter;
+
+/* The folders that the shorthands of paths stand for. One that is not known refuses the paths that need it. */
+typedef struct gix_config_folders {
+    /* Whether it is known where git is installed. */
+    bool has_installation;
+    /* The folder where git is installed, for `%(prefix)/`. */
+    gix_config_text installation;
+    /* Whether the user's home folder is known. */
+    bool has_home;
+    /* The user's home folder, for `~/`. */
+    gix_config_text home;
+} gix_config_folders;
+
+/* How a text is laid out. gix_config_layout_default fills it. */
+typedef struct gix_config_layout {
+    /* Whether the blanks stay that are before a comment on a line of its own before the first header. */
+    bool keeps_root_blanks;
+    /* If they don't stay: whether tabs come in their place, else spaces. */
+    bool has_root_tabs;
+    /* And how many. */
+    size_t root_indent;
+    /* Whether tabs come before a name or a comment that begins a line after a header, else spaces. */
+    bool has_tabs;
+    /* And how many. */
+    size_t indent;
+    /* Whether there is a space on either side of `=`. */
+    bool spaces_around_separator;
+    /* Whether lines end as the first line of the text does. */
+    bool detects_newline;
+    /* If not: whether they end with CR and LF, else with LF. */
+    bool is_crlf;
+    /* Whether a text that isn't empty ends with one line ending. */
+    bool ensures_trailing_newline;
+    /* Whether blank lines before the first line that isn't blank are limited. */
+    bool limits_leading_blank_lines;
+    /* How many stay then. */
+    size_t max_leading_blank_lines;
+    /* Whether blank lines that stand together after that line are limited. */
+    bool limits_blank_lines;
+    /* How many stay then. */
+    size_t max_blank_lines;
+} gix_config_layout;
+
 /* Appends a copy of another file: its sections come after those of the file, and what is before its first
  * section after the file's last. The other file stays as it is.
  *
  * 3 if the file would be too long. 102 if a handle has no file, 27 when out of memory. The file is then as it
  * was. */
 uint32_t gix_config_file_append(gix_config_file *file, gix_config_file *other_file);
+
+/* Tells whether two files are equal: the same sections in order, with the same keys that mean the same. Names
+ * are compared without ASCII case. Comments, blanks, what comes before the first section and where sections come
+ * from aren't compared.
+ *
+ * 102 if a handle has no file; the boolean is then as it was. */
+uint32_t gix_config_file_equal(gix_config_file *file, gix_config_file *other_file, bool *equal);
+
+/* Hands out what two files say differently, sorted by key: of each key of which they say different things the
+ * entries of the file, in order, and then those of the other file. What was in the list's handle is closed. The
+ * list is empty if and only if both say the same of every key: their entries of it mean the same in order, and
+ * look-ups of it find the same value.
+ *
+ * 102 if a handle of a file has none, 27 when out of memory; the list's handle is then as it was. */
+uint32_t gix_config_differences(gix_config_file *file, gix_config_file *other_file, gix_config_list *list);
+
+/* Tells where the parts of a difference of a list lie, counted from 0. They lie there until the list is closed.
+ *
+ * 100 for a number past the end, 102 if the handle has no list of differences; the place is then as it was. */
+uint32_t gix_config_list_difference(gix_config_list *list, size_t index, gix_config_difference *difference);
 
 /* Adds an entry to the last section of the key's names, after all others that it has: also one of a name that is
  * there already. Without a value it is the name alone, which is true as a boolean.
@@ -155,7 +286,50 @@ void gix_config_bytes_free(gix_config_bytes *bytes);
  * call answers. */
 void gix_config_refusal_text(uint32_t number, gix_config_text *text);
 
-/* Tells how many texts or entries are in a list: 0 if the handle has no list. */
+/* As gix_config_value, in the sections that the filter keeps: the numbers 7 and 8 are those of gix_config_value,
+ * and 9 is also that none of the sections that are kept has such a value. */
+uint32_t gix_config_value_filter(gix_config_file *file, const gix_config_key *key,
+    const gix_config_filter *filter, gix_config_bytes *value);
+
+/* As gix_config_values, in the sections that the filter keeps. The numbers are those of gix_config_value_filter. */
+uint32_t gix_config_values_filter(gix_config_file *file, const gix_config_key *key,
+    const gix_config_filter *filter, gix_config_list *list);
+
+/* As gix_config_boolean, in the sections that the filter keeps. The numbers are the same. */
+uint32_t gix_config_boolean_filter(gix_config_file *file, const gix_config_key *key,
+    const gix_config_filter *filter, bool *value);
+
+/* As gix_config_integer, in the sections that the filter keeps. The numbers are the same. */
+uint32_t gix_config_integer_filter(gix_config_file *file, const gix_config_key *key,
+    const gix_config_filter *filter, int64_t *value);
+
+/* Hands out the text of what comes before the first section, and of the sections that the filter keeps. What the
+ * block had is freed.
+ *
+ * 102 if the handle has no file, 27 when out of memory; the block is then as it was. */
+uint32_t gix_config_file_text_filter(gix_config_file *file, const gix_config_filter *filter,
+    gix_config_bytes *text);
+
+/* Fills in the usual layout: a tab before names, ` = `, the line ending of the text, one line ending at the end,
+ * and all blank lines. */
+void gix_config_layout_default(gix_config_layout *layout);
+
+/* Hands out a text laid out: its lines written again, with the same sections, entries and comments. What the
+ * block had is freed.
+ *
+ * Refusal 1 for a text that can't be read on at some place, 2 for one of more than 4294967295 bytes; then the
+ * place says where, else it is as it was. 27 when out of memory. The block is as it was after any number but 0. */
+uint32_t gix_config_normalize(const uint8_t *text, size_t text_len, const gix_config_layout *layout,
+    gix_config_bytes *laid_out, gix_config_place *place);
+
+/* Tells whether a path pattern matches a text, as in the conditions of includes. With `ignore_case` letters are
+ * compared without ASCII case.
+ *
+ * 27 when out of memory; the boolean is then as it was. */
+uint32_t gix_config_wildmatch(const uint8_t *pattern, size_t pattern_len, const uint8_t *text,
+    size_t text_len, bool ignore_case, bool *is_match);
+
+/* Tells how many texts, entries, sections or differences are in a list: 0 if the handle has no list. */
 size_t gix_config_list_len(gix_config_list *list);
 
 /* Tells where a text of a list lies, counted from 0. It lies there until the list is closed.
@@ -206,6 +380,35 @@ void gix_config_file_close(gix_config_file *file);
  *
  * 102 if the handle has no file, 27 when out of memory; the other handle is then as it was. */
 uint32_t gix_config_file_clone(gix_config_file *file, gix_config_file *other_file);
+
+/* Hands out the last value of a key as a path, with the shorthand at its front replaced: `%(prefix)/` by the
+ * folder where git is installed, `~/` by the user's home folder. What the block had is freed.
+ *
+ * 100 if there is none. 12 for an empty value, or one that needs a folder that is not known, as those of other
+ * users; 13 for a path that is not UTF-8, 14 for the name of a user that is not. 101 if the section's or the
+ * value's name, or a folder that is known, is not UTF-8, 102 if the handle has no file, 27 when out of memory.
+ * The block is then as it was. */
+uint32_t gix_config_path(gix_config_file *file, const gix_config_key *key, const gix_config_folders *folders,
+    gix_config_bytes *path);
+
+/* Hands out the sections of a file, in order: their names, where they come from, and how many entries each has.
+ * What was in the list's handle is closed.
+ *
+ * 102 if the handle has no file, 27 when out of memory; the list's handle is then as it was. */
+uint32_t gix_config_sections(gix_config_file *file, gix_config_list *list);
+
+/* Tells where the names of a section of a list lie, counted from 0, where it comes from, and how many entries it
+ * has. They lie there until the list is closed.
+ *
+ * 100 for a number past the end, 102 if the handle has no list of sections; the place is then as it was. */
+uint32_t gix_config_list_section(gix_config_list *list, size_t index, gix_config_listed_section *section);
+
+/* Hands out the entries of a section, counted from 0 as in the list of gix_config_sections, in order. What was
+ * in the list's handle is closed.
+ *
+ * 100 for a number past the end, 102 if the handle has no file, 27 when out of memory; the list's handle is then
+ * as it was. */
+uint32_t gix_config_section_entries(gix_config_file *file, size_t index, gix_config_list *list);
 
 /* Removes the last section that has the name, without ASCII case, and exactly the subsection.
  *

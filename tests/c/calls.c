@@ -54,6 +54,147 @@ static void entries(gix_config_file *file)
     gix_config_list_close(&list);
 }
 
+static void sections(gix_config_file *file)
+{
+    gix_config_list list = { NULL }, of_section = { NULL };
+    gix_config_listed_section section;
+    gix_config_entry entry;
+    CHECK(gix_config_sections(file, &list) == GIX_CONFIG_DONE && gix_config_list_len(&list) == 2);
+    CHECK(gix_config_list_section(&list, 0, &section) == GIX_CONFIG_DONE);
+    CHECK(is_text(section.name.at, section.name.len, "core") && !section.has_subsection && section.subsection.at == NULL);
+    CHECK(section.source == GIX_CONFIG_SOURCE_API && section.trust == GIX_CONFIG_TRUST_FULL && section.level == 0 && !section.has_path && section.entries == 3);
+    CHECK(gix_config_list_section(&list, 1, &section) == GIX_CONFIG_DONE && section.has_subsection && section.entries == 2);
+    CHECK(is_text(section.name.at, section.name.len, "remote") && is_text(section.subsection.at, section.subsection.len, "or.igin"));
+    CHECK(gix_config_list_section(&list, 2, &section) == GIX_CONFIG_NOTHING_THERE && is_text(section.name.at, section.name.len, "remote"));
+    CHECK(gix_config_list_entry(&list, 0, &entry) == GIX_CONFIG_WRONG_HANDLE);
+
+    CHECK(gix_config_section_entries(file, 0, &of_section) == GIX_CONFIG_DONE && gix_config_list_len(&of_section) == 3);
+    CHECK(gix_config_list_entry(&of_section, 2, &entry) == GIX_CONFIG_DONE && is_text(entry.value.at, entry.value.len, "2k"));
+    CHECK(gix_config_section_entries(file, 1, &of_section) == GIX_CONFIG_DONE && gix_config_list_len(&of_section) == 2);
+    CHECK(gix_config_list_entry(&of_section, 0, &entry) == GIX_CONFIG_DONE && is_text(entry.value.at, entry.value.len, "a b c"));
+    CHECK(is_text(entry.subsection.at, entry.subsection.len, "or.igin") && is_text(entry.name.at, entry.name.len, "url"));
+    CHECK(gix_config_section_entries(file, 2, &of_section) == GIX_CONFIG_NOTHING_THERE && gix_config_list_len(&of_section) == 2);
+    CHECK(gix_config_list_section(&of_section, 0, &section) == GIX_CONFIG_WRONG_HANDLE);
+    gix_config_list_close(&list);
+    gix_config_list_close(&of_section);
+}
+
+/* Filters that keep all, and that keep nothing for its source and for its trust. */
+static void filters(gix_config_file *file)
+{
+    gix_config_filter all = { GIX_CONFIG_SOURCES_ALL, GIX_CONFIG_TRUST_REDUCED }, api = { GIX_CONFIG_SOURCE_API, GIX_CONFIG_TRUST_FULL };
+    gix_config_filter others = { GIX_CONFIG_SOURCES_ALL - GIX_CONFIG_SOURCE_API, GIX_CONFIG_TRUST_REDUCED }, untrusted = { GIX_CONFIG_SOURCE_API, 2 };
+    gix_config_key url = key_of("remote", "or.igin", "url"), bare = key_of("core", NULL, "bare"), n = key_of("core", NULL, "n"), no_section = key_of("nope", NULL, "x");
+    gix_config_bytes bytes = { NULL, 0, NULL };
+    gix_config_list list = { NULL };
+    bool boolean = false;
+    int64_t integer = 0;
+    CHECK(gix_config_value_filter(file, &url, &all, &bytes) == GIX_CONFIG_DONE && is_text(bytes.at, bytes.len, "d"));
+    CHECK(gix_config_value_filter(file, &url, &api, &bytes) == GIX_CONFIG_DONE && is_text(bytes.at, bytes.len, "d"));
+    CHECK(gix_config_value_filter(file, &url, &others, &bytes) == 9 && gix_config_value_filter(file, &url, &untrusted, &bytes) == 9);
+    CHECK(gix_config_value_filter(file, &no_section, &others, &bytes) == 7);
+    CHECK(gix_config_values_filter(file, &url, &api, &list) == GIX_CONFIG_DONE && gix_config_list_len(&list) == 2);
+    CHECK(gix_config_values_filter(file, &url, &others, &list) == 9 && gix_config_list_len(&list) == 2);
+    CHECK(gix_config_boolean_filter(file, &bare, &api, &boolean) == GIX_CONFIG_DONE && boolean);
+    CHECK(gix_config_boolean_filter(file, &bare, &untrusted, &boolean) == GIX_CONFIG_NOTHING_THERE);
+    CHECK(gix_config_integer_filter(file, &n, &all, &integer) == GIX_CONFIG_DONE && integer == 2048);
+    CHECK(gix_config_integer_filter(file, &n, &others, &integer) == GIX_CONFIG_NOTHING_THERE && integer == 2048);
+    CHECK(gix_config_file_text_filter(file, &api, &bytes) == GIX_CONFIG_DONE && is_text(bytes.at, bytes.len, TEXT));
+    CHECK(gix_config_file_text_filter(file, &others, &bytes) == GIX_CONFIG_DONE && is_text(bytes.at, bytes.len, "# mine\n"));
+    gix_config_list_close(&list);
+    gix_config_bytes_free(&bytes);
+}
+
+static void paths(void)
+{
+    gix_config_file file = { NULL };
+    gix_config_bytes path = { NULL, 0, NULL };
+    gix_config_place place = { 0, 0, 0 };
+    gix_config_folders none = { false, text_of(""), false, text_of("") }, both = { true, text_of("/git"), true, text_of("/home/ada") };
+    gix_config_key home = key_of("a", NULL, "home"), git = key_of("a", NULL, "git"), plain = key_of("a", NULL, "plain"), user = key_of("a", NULL, "user");
+    gix_config_key empty = key_of("a", NULL, "empty"), latin = key_of("a", NULL, "latin"), missing = key_of("a", NULL, "missing");
+    CHECK(parse("[a]\nhome = ~/x\ngit = %(prefix)/etc\nplain = /y\nuser = ~bob/z\nempty =\nlatin = /\xff\n", false, &file, &place) == GIX_CONFIG_DONE);
+    CHECK(gix_config_path(&file, &home, &both, &path) == GIX_CONFIG_DONE && is_text(path.at, path.len, "/home/ada/x"));
+    CHECK(gix_config_path(&file, &git, &both, &path) == GIX_CONFIG_DONE && is_text(path.at, path.len, "/git/etc"));
+    CHECK(gix_config_path(&file, &plain, &none, &path) == GIX_CONFIG_DONE && is_text(path.at, path.len, "/y"));
+    CHECK(gix_config_path(&file, &home, &none, &path) == 12 && gix_config_path(&file, &git, &none, &path) == 12);
+    CHECK(gix_config_path(&file, &user, &both, &path) == 12 && gix_config_path(&file, &empty, &both, &path) == 12);
+    CHECK(gix_config_path(&file, &latin, &both, &path) == 13 && is_text(path.at, path.len, "/y"));
+    CHECK(gix_config_path(&file, &missing, &both, &path) == GIX_CONFIG_NOTHING_THERE);
+    gix_config_bytes_free(&path);
+    gix_config_file_close(&file);
+}
+
+static void compared(void)
+{
+    gix_config_file file = { NULL }, other_file = { NULL };
+    gix_config_list list = { NULL };
+    gix_config_place place = { 0, 0, 0 };
+    gix_config_difference difference;
+    bool equal = false;
+    CHECK(parse("# one\n[A]\n\tk = 1\n\tbare\n", false, &file, &place) == GIX_CONFIG_DONE);
+    CHECK(parse("[a]\nK = \"1\"\nbare\n", false, &other_file, &place) == GIX_CONFIG_DONE);
+    CHECK(gix_config_file_equal(&file, &other_file, &equal) == GIX_CONFIG_DONE && equal);
+    CHECK(gix_config_differences(&file, &other_file, &list) == GIX_CONFIG_DONE && gix_config_list_len(&list) == 0);
+    CHECK(parse("[a]\nk = 2\n[b \"s\"]\nbare\n", false, &other_file, &place) == GIX_CONFIG_DONE);
+    CHECK(gix_config_file_equal(&file, &other_file, &equal) == GIX_CONFIG_DONE && !equal);
+    CHECK(gix_config_differences(&file, &other_file, &list) == GIX_CONFIG_DONE && gix_config_list_len(&list) == 4);
+    CHECK(gix_config_list_difference(&list, 0, &difference) == GIX_CONFIG_DONE && !difference.is_other);
+    CHECK(is_text(difference.entry.name.at, difference.entry.name.len, "bare") && !difference.entry.has_value);
+    CHECK(gix_config_list_difference(&list, 1, &difference) == GIX_CONFIG_DONE && !difference.is_other);
+    CHECK(is_text(difference.entry.name.at, difference.entry.name.len, "k") && is_text(difference.entry.value.at, difference.entry.value.len, "1"));
+    CHECK(gix_config_list_difference(&list, 2, &difference) == GIX_CONFIG_DONE && difference.is_other);
+    CHECK(is_text(difference.entry.section.at, difference.entry.section.len, "a") && is_text(difference.entry.value.at, difference.entry.value.len, "2"));
+    CHECK(gix_config_list_difference(&list, 3, &difference) == GIX_CONFIG_DONE && difference.is_other && difference.entry.has_subsection);
+    CHECK(gix_config_list_difference(&list, 4, &difference) == GIX_CONFIG_NOTHING_THERE && difference.entry.has_subsection);
+    gix_config_list_close(&list);
+    gix_config_file_close(&file);
+    gix_config_file_close(&other_file);
+}
+
+static uint32_t normalize(const char *words, const gix_config_layout *layout, gix_config_bytes *laid_out, gix_config_place *place)
+{
+    return gix_config_normalize((const uint8_t *)words, strlen(words), layout, laid_out, place);
+}
+
+static void layouts(void)
+{
+    gix_config_layout layout;
+    gix_config_bytes laid_out = { NULL, 0, NULL };
+    gix_config_place place = { 7, 8, 9 };
+    gix_config_layout_default(&layout);
+    CHECK(normalize("  # c\n[a]\nk=v\n\n\n\nb", &layout, &laid_out, &place) == GIX_CONFIG_DONE);
+    CHECK(is_text(laid_out.at, laid_out.len, "# c\n[a]\n\tk = v\n\n\n\n\tb\n"));
+    layout.has_tabs = false;
+    layout.indent = 2;
+    layout.spaces_around_separator = false;
+    layout.detects_newline = false;
+    layout.is_crlf = true;
+    layout.limits_blank_lines = true;
+    layout.max_blank_lines = 1;
+    layout.keeps_root_blanks = true;
+    CHECK(normalize("  # c\n[a]\nk = v\n\n\n\nb", &layout, &laid_out, &place) == GIX_CONFIG_DONE);
+    CHECK(is_text(laid_out.at, laid_out.len, "  # c\r\n[a]\r\n  k=v\r\n\r\n  b\r\n"));
+    CHECK(place.line == 7 && place.column == 8 && place.offset == 9);
+    CHECK(normalize("[a]\n  = 1\n", &layout, &laid_out, &place) == 1 && place.line == 2 && place.column == 3 && place.offset == 6);
+    CHECK(laid_out.len == 34);
+    gix_config_bytes_free(&laid_out);
+}
+
+static bool matches(const char *pattern, const char *words, bool ignore_case)
+{
+    bool is_match = false;
+    CHECK(gix_config_wildmatch((const uint8_t *)pattern, strlen(pattern), (const uint8_t *)words, strlen(words), ignore_case, &is_match) == GIX_CONFIG_DONE);
+    return is_match;
+}
+
+static void patterns(void)
+{
+    CHECK(matches("/a/**/x", "/a/b/c/x", false) && matches("/a/*/x", "/a/b/x", false));
+    CHECK(!matches("/a/*/x", "/a/b/c/x", false) && !matches("/A", "/a", false) && matches("/A", "/a", true));
+    CHECK(matches("", "", false) && !matches("[b-d]", "a", false) && matches("[b-d]", "c", false));
+}
+
 static bool ends_with(const gix_config_bytes *text, const char *words)
 {
     size_t len = strlen(words);
@@ -151,6 +292,8 @@ int main(void)
     CHECK(gix_config_file_clone(&file, &other_file) == GIX_CONFIG_DONE);
     look_ups(&file);
     entries(&file);
+    sections(&file);
+    filters(&file);
     edits(&file);
     CHECK(gix_config_file_text(&other_file, &text) == GIX_CONFIG_DONE && is_text(text.at, text.len, TEXT));
     look_ups(&other_file);
@@ -159,6 +302,10 @@ int main(void)
     look_ups(&file);
     texts_alone();
     appended();
+    paths();
+    compared();
+    layouts();
+    patterns();
     gix_config_bytes_free(&text);
     gix_config_file_close(&file);
     gix_config_file_close(&other_file);

@@ -19,12 +19,23 @@ static int calls(bool lossy)
     gix_config_place place = { 0, 0, 0 };
     gix_config_key editor = key_of("core", NULL, "editor"), url = key_of("remote", "or\"igin", "url"), made = key_of("made", "x", "k");
     gix_config_section core = section_of("core", NULL), more = section_of("more", "sub"), made_section = section_of("made", "x");
+    gix_config_filter all = { GIX_CONFIG_SOURCES_ALL, GIX_CONFIG_TRUST_REDUCED };
+    gix_config_folders folders = { false, text_of(""), false, text_of("") };
+    gix_config_layout layout;
     bool had = false;
+    gix_config_layout_default(&layout);
     int count = refused(text_value(TEXT, &url, &bytes, &place)) + refused(text_values(TEXT, &url, &list, &place));
     count += refused(parse(TEXT, lossy, &file, &place));
     if (file.at != NULL) {
         count += refused(gix_config_value(&file, &editor, &bytes));
         count += refused(gix_config_values(&file, &url, &list));
+        count += refused(gix_config_values_filter(&file, &url, &all, &list));
+        count += refused(gix_config_value_filter(&file, &editor, &all, &bytes));
+        count += refused(gix_config_file_text_filter(&file, &all, &bytes));
+        count += refused(gix_config_path(&file, &editor, &folders, &bytes));
+        count += refused(gix_config_sections(&file, &list));
+        count += refused(gix_config_normalize((const uint8_t *)TEXT, strlen(TEXT), &layout, &bytes, &place));
+        count += refused(gix_config_wildmatch((const uint8_t *)"/a/**/x", 7, (const uint8_t *)"/a/b/x", 6, false, &had));
         count += refused(gix_config_file_clone(&file, &other_file));
         if (other_file.at != NULL)
             count += refused(gix_config_file_append(&other_file, &file));
@@ -46,33 +57,54 @@ static int calls(bool lossy)
     return count;
 }
 
-/* The room for a name in lower case is asked for ahead; where it is refused, the name grows without it. */
-enum { ENTRIES = 3, ASKED_AHEAD = 2 * ENTRIES };
+/* A call that hands out a list of entries. */
+typedef uint32_t (*listing)(gix_config_file *file, gix_config_file *other_file, gix_config_list *list);
 
-/* The same for the list of all entries, which is whole or not there. */
-static int refused_entries(gix_config_file *file, long growth)
+static uint32_t all_entries(gix_config_file *file, gix_config_file *other_file, gix_config_list *list)
+{
+    (void)other_file;
+    return gix_config_entries(file, list);
+}
+
+static uint32_t entries_of_second(gix_config_file *file, gix_config_file *other_file, gix_config_list *list)
+{
+    (void)other_file;
+    return gix_config_section_entries(file, 1, list);
+}
+
+/* The lists are whole, or not there. */
+static int refused_list(listing call, gix_config_file *file, gix_config_file *other_file, size_t len, long growth)
 {
     gix_config_list list = { NULL };
     growths = 0;
     refused_growth = growth;
-    int count = refused(gix_config_entries(file, &list));
+    int count = refused(call(file, other_file, &list));
     refused_growth = -1;
-    CHECK(count == 0 ? gix_config_list_len(&list) == ENTRIES : list.at == NULL);
+    CHECK(count == 0 ? gix_config_list_len(&list) == len : list.at == NULL);
     gix_config_list_close(&list);
     return count;
 }
 
-static void entries(bool lossy)
+/* The room for each of an entry's two names in lower case is asked for ahead; where it is refused, the name grows without it. */
+static void listed(listing call, gix_config_file *file, gix_config_file *other_file, size_t len)
 {
-    gix_config_file file = { NULL };
-    gix_config_place place = { 0, 0, 0 };
-    CHECK(parse(TEXT, lossy, &file, &place) == GIX_CONFIG_DONE);
-    CHECK(refused_entries(&file, -1) == 0);
-    long all = growths, count = 0;
+    CHECK(refused_list(call, file, other_file, len, -1) == 0);
+    long all = growths, count = 0, asked_ahead = 2 * (long)len;
     for (long growth = 0; growth < all; growth++)
-        count += refused_entries(&file, growth);
-    CHECK(count == all - ASKED_AHEAD);
+        count += refused_list(call, file, other_file, len, growth);
+    CHECK(count == all - asked_ahead);
+}
+
+static void lists(bool lossy)
+{
+    gix_config_file file = { NULL }, other_file = { NULL };
+    gix_config_place place = { 0, 0, 0 };
+    CHECK(parse(TEXT, lossy, &file, &place) == GIX_CONFIG_DONE && parse("", lossy, &other_file, &place) == GIX_CONFIG_DONE);
+    listed(all_entries, &file, &other_file, 3);
+    listed(entries_of_second, &file, &other_file, 2);
+    listed(gix_config_differences, &file, &other_file, 3);
     gix_config_file_close(&file);
+    gix_config_file_close(&other_file);
 }
 
 int main(void)
@@ -83,7 +115,7 @@ int main(void)
         CHECK(calls(lossy != 0) == 0);
         long all = growths;
         CHECK(all > 20);
-        entries(lossy != 0);
+        lists(lossy != 0);
         for (long growth = 0; growth < all; growth++) {
             growths = 0;
             refused_growth = growth;

@@ -26,6 +26,18 @@ static void without_file(gix_config_file *file)
     CHECK(gix_config_section_rename(file, &section, &section) == GIX_CONFIG_WRONG_HANDLE);
     CHECK(gix_config_section_remove(file, &section) == GIX_CONFIG_WRONG_HANDLE);
     CHECK(gix_config_file_append(file, &other_file) == GIX_CONFIG_WRONG_HANDLE);
+    gix_config_filter filter = { GIX_CONFIG_SOURCES_ALL, GIX_CONFIG_TRUST_REDUCED };
+    gix_config_folders folders = { false, text_of(""), false, text_of("") };
+    CHECK(gix_config_sections(file, &list) == GIX_CONFIG_WRONG_HANDLE);
+    CHECK(gix_config_section_entries(file, 0, &list) == GIX_CONFIG_WRONG_HANDLE);
+    CHECK(gix_config_value_filter(file, &key, &filter, &bytes) == GIX_CONFIG_WRONG_HANDLE);
+    CHECK(gix_config_values_filter(file, &key, &filter, &list) == GIX_CONFIG_WRONG_HANDLE);
+    CHECK(gix_config_boolean_filter(file, &key, &filter, &boolean) == GIX_CONFIG_WRONG_HANDLE && boolean);
+    CHECK(gix_config_integer_filter(file, &key, &filter, &integer) == GIX_CONFIG_WRONG_HANDLE && integer == 5);
+    CHECK(gix_config_file_text_filter(file, &filter, &bytes) == GIX_CONFIG_WRONG_HANDLE);
+    CHECK(gix_config_path(file, &key, &folders, &bytes) == GIX_CONFIG_WRONG_HANDLE);
+    CHECK(gix_config_file_equal(file, &other_file, &boolean) == GIX_CONFIG_WRONG_HANDLE && boolean);
+    CHECK(gix_config_differences(file, &other_file, &list) == GIX_CONFIG_WRONG_HANDLE);
     CHECK(file->at == at && bytes.at == NULL && bytes.len == 0 && bytes.owner == NULL && list.at == NULL && other_file.at == NULL);
 }
 
@@ -35,7 +47,11 @@ static void without_list(gix_config_list *list)
     void *at = list->at;
     gix_config_text text = { NULL, 7 };
     gix_config_entry entry = { { NULL, 0 }, false, { NULL, 0 }, { NULL, 7 }, false, { NULL, 0 } };
+    gix_config_listed_section section = { { NULL, 7 }, false, { NULL, 0 }, false, { NULL, 0 }, 5, 6, 7, 8 };
+    gix_config_difference difference = { true, { { NULL, 7 }, false, { NULL, 0 }, { NULL, 0 }, false, { NULL, 0 } } };
     CHECK(gix_config_list_len(list) == 0);
+    CHECK(gix_config_list_section(list, 0, &section) == GIX_CONFIG_WRONG_HANDLE && section.name.len == 7 && section.entries == 8);
+    CHECK(gix_config_list_difference(list, 0, &difference) == GIX_CONFIG_WRONG_HANDLE && difference.is_other && difference.entry.section.len == 7);
     CHECK(gix_config_list_entry(list, 0, &entry) == GIX_CONFIG_WRONG_HANDLE && entry.name.at == NULL && entry.name.len == 7);
     CHECK(gix_config_list_at(list, 0, &text) == GIX_CONFIG_WRONG_HANDLE && text.at == NULL && text.len == 7);
     CHECK(list->at == at);
@@ -82,6 +98,15 @@ static void names_that_are_no_text(void)
     gix_config_file other_file = { NULL };
     gix_config_list list = { NULL };
     CHECK(gix_config_file_append(&file, &other_file) == GIX_CONFIG_WRONG_HANDLE);
+    bool equal = true;
+    CHECK(gix_config_file_equal(&file, &other_file, &equal) == GIX_CONFIG_WRONG_HANDLE && equal);
+    CHECK(gix_config_differences(&file, &other_file, &list) == GIX_CONFIG_WRONG_HANDLE && list.at == NULL);
+    gix_config_filter filter = { GIX_CONFIG_SOURCES_ALL, GIX_CONFIG_TRUST_REDUCED };
+    gix_config_folders folders = { false, text_of("\xff"), false, text_of("") }, wrong_home = { false, text_of(""), true, text_of("\xff") };
+    CHECK(gix_config_value_filter(&file, &section, &filter, &bytes) == GIX_CONFIG_NOT_UTF8);
+    CHECK(gix_config_path(&file, &name, &folders, &bytes) == GIX_CONFIG_NOT_UTF8);
+    CHECK(gix_config_path(&file, &subsection, &wrong_home, &bytes) == GIX_CONFIG_NOT_UTF8);
+    CHECK(gix_config_path(&file, &subsection, &folders, &bytes) == GIX_CONFIG_DONE && is_text(bytes.at, bytes.len, "2"));
     CHECK(text_value("[a]", &section, &bytes, &place) == GIX_CONFIG_NOT_UTF8 && bytes.len == 1);
     CHECK(text_values("[a]", &name, &list, &place) == GIX_CONFIG_NOT_UTF8 && list.at == NULL);
     gix_config_bytes_free(&bytes);
@@ -98,6 +123,10 @@ static void empty_texts(void)
     CHECK(parse("", false, &file, &place) == GIX_CONFIG_DONE);
     CHECK(gix_config_file_text(&file, &bytes) == GIX_CONFIG_DONE && bytes.len == 0);
     CHECK(gix_config_value(&file, &key, &bytes) == 7);
+    gix_config_list list = { NULL };
+    CHECK(gix_config_sections(&file, &list) == GIX_CONFIG_DONE && list.at != NULL && gix_config_list_len(&list) == 0);
+    CHECK(gix_config_section_entries(&file, 0, &list) == GIX_CONFIG_NOTHING_THERE);
+    gix_config_list_close(&list);
     gix_config_bytes_free(&bytes);
     gix_config_file_close(&file);
 }

@@ -5,7 +5,7 @@
     >>> config["remote", "origin", "url"]
     'https://example.org/a.git'
 """
-from gixcfg._config import Config, Entry, Key
+from gixcfg._config import Config, Entry, Key, Section
 from gixcfg._errors import ConfigError, KeyNotFound, Locked, NotOfType, ParseError, Refused
 
-__all__ = ["Config", "ConfigError", "Entry", "Key", "KeyNotFound", "Locked", "NotOfType", "ParseError", "Refused"]
+__all__ = ["Config", "ConfigError", "Entry", "Key", "KeyNotFound", "Locked", "NotOfType", "ParseError", "Refused", "Section"]

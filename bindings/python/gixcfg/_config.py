@@ -1,6 +1,7 @@
 """A file of configuration."""
 import contextlib
 import ctypes
+import itertools
 import os
 import weakref
 from typing import Iterator, List, NamedTuple, NoReturn, Optional, Tuple, Union, cast
@@ -60,6 +61,14 @@ class Entry(NamedTuple):
     subsection: Optional[str]
     name: str
     value: Optional[str]
+
+
+class Section(NamedTuple):
+    """A section of a file: its name as it is spelled, its subsection, and its entries in order."""
+
+    name: str
+    subsection: Optional[str]
+    entries: List[Entry]
 
 
 class Config:
@@ -210,6 +219,23 @@ class Config:
             return found
         finally:
             c.LIBRARY.gix_config_list_close(entries)
+
+    def sections(self) -> List[Section]:
+        """All sections, in the file's order, also those without entries and those of a name that others have too."""
+        left = iter(self.entries())
+        sections, section = c.Handle(), c.Section()
+        number = c.LIBRARY.gix_config_sections(self._file, sections)
+        if number != c.DONE:
+            _refuse(number)
+        try:
+            found = []
+            for index in range(c.LIBRARY.gix_config_list_len(sections)):
+                c.LIBRARY.gix_config_list_section(sections, index, section)
+                subsection = _decoded(c.bytes_at(section.subsection)) if section.has_subsection else None
+                found.append(Section(_decoded(c.bytes_at(section.name)), subsection, list(itertools.islice(left, section.entries))))
+            return found
+        finally:
+            c.LIBRARY.gix_config_list_close(sections)
 
     def __iter__(self) -> Iterator[Entry]:
         """The entries, as they are now."""

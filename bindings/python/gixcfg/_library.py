@@ -41,6 +41,13 @@ class Entry(ctypes.Structure):
     ]
 
 
+class Section(ctypes.Structure):
+    _fields_ = [
+        ("name", Span), ("has_subsection", ctypes.c_bool), ("subsection", Span), ("has_path", ctypes.c_bool), ("path", Span),
+        ("source", ctypes.c_uint32), ("level", ctypes.c_uint32), ("trust", ctypes.c_uint32), ("entries", ctypes.c_size_t),
+    ]
+
+
 class Place(ctypes.Structure):
     _fields_ = [("line", ctypes.c_size_t), ("column", ctypes.c_size_t), ("offset", ctypes.c_size_t)]
 
@@ -56,6 +63,8 @@ CALLS = {
     "list_at": [ctypes.POINTER(Handle), ctypes.c_size_t, ctypes.POINTER(Span)],
     "entries": [ctypes.POINTER(Handle), ctypes.POINTER(Handle)],
     "list_entry": [ctypes.POINTER(Handle), ctypes.c_size_t, ctypes.POINTER(Entry)],
+    "sections": [ctypes.POINTER(Handle), ctypes.POINTER(Handle)],
+    "list_section": [ctypes.POINTER(Handle), ctypes.c_size_t, ctypes.POINTER(Section)],
     "boolean": [ctypes.POINTER(Handle), ctypes.POINTER(Key), ctypes.POINTER(ctypes.c_bool)],
     "integer": [ctypes.POINTER(Handle), ctypes.POINTER(Key), ctypes.POINTER(ctypes.c_int64)],
     "set_value": [

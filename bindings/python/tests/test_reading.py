@@ -82,6 +82,21 @@ class Values(unittest.TestCase):
         )
 
 
+    def test_sections(self) -> None:
+        config = Config.parse('[A "X"]\nK = 1\nbare\n[b]\n[c]\nk =\n[b]\nj = 2\n')
+        sections = config.sections()
+        self.assertEqual([(it.name, it.subsection) for it in sections], [("A", "X"), ("b", None), ("c", None), ("b", None)])
+        self.assertEqual(sections[0].entries, [("a", "X", "k", "1"), ("a", "X", "bare", None)])
+        self.assertEqual([len(it.entries) for it in sections], [2, 0, 1, 1])
+        self.assertEqual([it for section in sections for it in section.entries], config.entries())
+        del config["b", "j"]
+        self.assertEqual((sections[3].entries, config.sections()[3].entries), ([("b", None, "j", "2")], []))
+
+    def test_sections_of_an_empty_file(self) -> None:
+        self.assertEqual(Config().sections(), [])
+        self.assertEqual(Config.parse("# a comment alone\n").sections(), [])
+
+
 class Texts(unittest.TestCase):
     def test_text_comes_back_byte_for_byte(self) -> None:
         for text in (b"", b"\n", TEXT.encode(), b"[a]\r\n  k=v\r\n", b"[a]\nk = \xff\xfe # \x80\n", b"; c\n[a \"b\"]\n\tk\n"):

@@ -8,6 +8,7 @@ use bstr::{BStr, BString, ByteSlice};
 
 use crate::key::{AsKey, KeyRef};
 use crate::refusal::{out_of_memory, words, DONE, NOTHING_THERE, OUT_OF_MEMORY};
+use crate::section::Section;
 use crate::sys;
 use crate::{lookup, parse, value};
 
@@ -271,6 +272,26 @@ impl File {
         })
     }
 
+    /// The sections in the file's order, each as it is now.
+    pub fn sections(&self) -> impl Iterator<Item = Section> {
+        let (mut sections, mut entries) = (sys::List::empty(), sys::List::empty());
+        // SAFETY: the handle has a file, which no other call has now.
+        let answers = unsafe {
+            [
+                sys::gix_config_sections(self.handle(), sections.handle()),
+                sys::gix_config_entries(self.handle(), entries.handle()),
+            ]
+        };
+        if answers != [DONE, DONE] {
+            out_of_memory()
+        }
+        let mut left = entries.entries().into_iter();
+        sections.sections().into_iter().map(move |(header, count)| {
+            let entries = left.by_ref().take(count).collect();
+            Section { header, entries }
+        })
+    }
+
     /// Gives a key a value: in the last section of its names, whose last entry of the name gets it; entry and section are made if there are
     /// none. Returns the raw text of the value that was there, if there was an entry.
     ///
@@ -371,6 +392,20 @@ impl Drop for File {
         unsafe { sys::gix_config_file_close(self.handle()) }
     }
 }
+
+/// Whether both have the same sections in order, with the same keys that mean the same; names are compared without ASCII case.
+impl PartialEq for File {
+    fn eq(&self, other: &File) -> bool {
+        let mut equal = true;
+        if !std::ptr::eq(self, other) {
+            // SAFETY: both handles have files, and they are two.
+            unsafe { sys::gix_config_file_equal(self.handle(), other.handle(), &mut equal) };
+        }
+        equal
+    }
+}
+
+impl Eq for File {}
 
 impl Clone for File {
     fn clone(&self) -> File {

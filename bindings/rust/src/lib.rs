@@ -18,6 +18,7 @@ mod key;
 pub mod lookup;
 pub mod parse;
 mod refusal;
+pub mod section;
 mod sys;
 pub mod value;
 

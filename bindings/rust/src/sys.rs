@@ -4,6 +4,8 @@ use std::marker::PhantomData;
 
 use bstr::BString;
 
+use crate::section;
+
 /// Bytes that lie somewhere.
 #[repr(C)]
 #[derive(Clone, Copy)]
@@ -136,6 +138,89 @@ impl List {
     }
 }
 
+/// Where the parts of an entry lie.
+#[repr(C)]
+pub(crate) struct Entry<'a> {
+    section: Text<'a>,
+    has_subsection: bool,
+    subsection: Text<'a>,
+    name: Text<'a>,
+    has_value: bool,
+    value: Text<'a>,
+}
+
+/// Where the names of a section lie, and where it comes from.
+#[repr(C)]
+pub(crate) struct ListedSection<'a> {
+    name: Text<'a>,
+    has_subsection: bool,
+    subsection: Text<'a>,
+    has_path: bool,
+    path: Text<'a>,
+    source: u32,
+    level: u32,
+    trust: u32,
+    entries: usize,
+}
+
+impl List {
+    /// Copies of the names and values of a list of entries.
+    pub(crate) fn entries(&mut self) -> Vec<section::Entry> {
+        let nothing = Text::of(b"");
+        // SAFETY: the handle is empty or has a list of entries, whose parts lie in it until it is closed.
+        unsafe {
+            let count = gix_config_list_len(&mut self.0);
+            let mut entries = Vec::with_capacity(count);
+            for index in 0..count {
+                let mut entry = Entry {
+                    section: nothing,
+                    has_subsection: false,
+                    subsection: nothing,
+                    name: nothing,
+                    has_value: false,
+                    value: nothing,
+                };
+                gix_config_list_entry(&mut self.0, index, &mut entry);
+                let value = entry.has_value.then(|| entry.value.bytes().into());
+                entries.push((entry.name.bytes().into(), value));
+            }
+            entries
+        }
+    }
+
+    /// Copies of the headers of a list of sections, each with how many entries it has.
+    pub(crate) fn sections(&mut self) -> Vec<(section::Header, usize)> {
+        let nothing = Text::of(b"");
+        // SAFETY: the handle is empty or has a list of sections, whose parts lie in it until it is closed.
+        unsafe {
+            let count = gix_config_list_len(&mut self.0);
+            let mut sections = Vec::with_capacity(count);
+            for index in 0..count {
+                let mut found = ListedSection {
+                    name: nothing,
+                    has_subsection: false,
+                    subsection: nothing,
+                    has_path: false,
+                    path: nothing,
+                    source: 0,
+                    level: 0,
+                    trust: 0,
+                    entries: 0,
+                };
+                gix_config_list_section(&mut self.0, index, &mut found);
+                let header = section::Header {
+                    name: found.name.bytes().into(),
+                    subsection_name: found
+                        .has_subsection
+                        .then(|| found.subsection.bytes().into()),
+                };
+                sections.push((header, found.entries));
+            }
+            sections
+        }
+    }
+}
+
 impl Drop for List {
     fn drop(&mut self) {
         // SAFETY: the handle is empty, or was filled by a call.
@@ -148,6 +233,12 @@ extern "C" {
     fn gix_config_bytes_free(bytes: *mut Block);
     fn gix_config_list_len(list: *mut Handle) -> usize;
     fn gix_config_list_at(list: *mut Handle, index: usize, text: *mut Text<'_>) -> u32;
+    fn gix_config_list_entry(list: *mut Handle, index: usize, entry: *mut Entry<'_>) -> u32;
+    fn gix_config_list_section(
+        list: *mut Handle,
+        index: usize,
+        section: *mut ListedSection<'_>,
+    ) -> u32;
     fn gix_config_list_close(list: *mut Handle);
 
     pub(crate) fn gix_config_file_parse(
@@ -188,6 +279,13 @@ extern "C" {
         len: usize,
         had: *mut bool,
         old: *mut Block,
+    ) -> u32;
+    pub(crate) fn gix_config_entries(file: *mut Handle, list: *mut Handle) -> u32;
+    pub(crate) fn gix_config_sections(file: *mut Handle, list: *mut Handle) -> u32;
+    pub(crate) fn gix_config_file_equal(
+        file: *mut Handle,
+        other_file: *mut Handle,
+        equal: *mut bool,
     ) -> u32;
     pub(crate) fn gix_config_section_rename(
         file: *mut Handle,

@@ -117,3 +117,48 @@ fn refused_texts() {
     let bytes: &BStr = b"[a]\r\nk = \xff\r\n".as_bstr();
     assert_eq!(File::try_from(bytes).expect("a text").to_bstring(), bytes);
 }
+
+#[test]
+fn sections() {
+    let file = File::try_from("[A \"x\"]\n\tK = 1\n\tk = 2\n\tbare\n[b]\n[A]\n\tj = \"3\" ; c\n")
+        .expect("a text");
+    let sections: Vec<_> = file.sections().collect();
+    let names: Vec<_> = sections
+        .iter()
+        .map(|it| (it.header().name(), it.header().subsection_name()))
+        .collect();
+    assert_eq!(
+        names,
+        [
+            ("A".into(), Some("x".into())),
+            ("b".into(), None),
+            ("A".into(), None)
+        ]
+    );
+    assert_eq!(sections[0].value("k"), Some("2".into()));
+    assert_eq!(sections[0].values("K"), ["1", "2"]);
+    assert_eq!(sections[0].value("bare"), None);
+    assert_eq!(sections[0].value_implicit("bare"), Some(None));
+    assert_eq!(sections[0].value_implicit("none"), None);
+    assert!(sections[0].contains_value_name("BARE") && !sections[1].contains_value_name("k"));
+    assert_eq!(sections[1].num_values(), 0);
+    assert_eq!(
+        sections[2].value_names().collect::<Vec<_>>(),
+        ["j".as_bytes().as_bstr()]
+    );
+    assert_eq!(sections[2].value("j"), Some("3".into()));
+}
+
+#[test]
+fn equal_files() {
+    let file = file();
+    assert_eq!(file, file.clone());
+    assert_eq!(
+        File::try_from("[a]\nk=1").expect("a text"),
+        File::try_from("# c\n[A]\n\tK = \"1\"\n").expect("a text")
+    );
+    assert_ne!(
+        File::try_from("[a]\nk=1").expect("a text"),
+        File::try_from("[a]\nk=2").expect("a text")
+    );
+}

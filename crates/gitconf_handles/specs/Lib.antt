@@ -1,5 +1,10 @@
 pub mod Blocks
 pub mod Columns
+pub mod Differences
 pub mod Entries
+pub mod Folders
 pub mod Held
 pub mod Keys
+pub mod Layouts
+pub mod Origins
+pub mod Sections

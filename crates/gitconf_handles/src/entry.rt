@@ -46,7 +46,7 @@ impl EntryPlace {
 }
 
 /// Tells where the bytes lie, if there are some, and whether there are.
-fn tell_if(bytes: &Option<Vec<u8>>, place: &mut Span) -> bool
+pub(crate) fn tell_if(bytes: &Option<Vec<u8>>, place: &mut Span) -> bool
     ensures { LieAtIf bytes.now result place.new }
 {
     match bytes {

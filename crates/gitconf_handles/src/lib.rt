@@ -2,9 +2,14 @@
 #![tactic(auto)]
 
 pub mod block;
+pub mod difference;
 pub mod entry;
 pub mod fault;
+pub mod folders;
 pub mod key;
+pub mod layout;
 pub mod object;
+pub mod origin;
 mod parts;
+pub mod section;
 pub mod slot;

@@ -1,6 +1,8 @@
 //! What a handle can hold.
 
+use crate::difference::Difference;
 use crate::entry::Entry;
+use crate::section::Section;
 use gix_config::File;
 
 /// What a handle can hold.
@@ -14,4 +16,8 @@ pub enum Object {
     Texts(Vec<Vec<u8>>),
     /// The entries of a file, as a call handed them out.
     Entries(Vec<Entry>),
+    /// The sections of a file, as a call handed them out.
+    Sections(Vec<Section>),
+    /// What two files mean differently, as a call handed it out.
+    Differences(Vec<Difference>),
 }

@@ -51,8 +51,12 @@ fn setting(section: &SectionRef<'_>, entry: &Entry, side: Side) -> Result<Settin
     })
 }
 
-/// Adds the settings of a section, in order.
-fn add_section(
+/// Adds the settings of a section, in order, as those of one of two files. One pass over its items.
+///
+/// # Errors
+///
+/// Out of memory. Some of the settings may have been added.
+pub fn add_section(
     settings: &mut Vec<Setting>,
     section: &SectionRef<'_>,
     side: Side,

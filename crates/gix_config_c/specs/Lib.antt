@@ -1,11 +1,15 @@
 pub mod Answers
 pub mod Appended
+pub mod Compared
 pub mod Edited
 pub mod Entries
 pub mod Found
+pub mod LaidOut
 pub mod Listed
 pub mod Lists
 pub mod Messages
 pub mod Opened
+pub mod Paths
+pub mod SectionLists
 pub mod Sections
 pub mod Texts

@@ -4,12 +4,14 @@ use Rattle.std.specs.declared.vec.Vec.{Vec}
 use Rattle.gitconf_handles.specs.Blocks.{LieAt}
 use Rattle.gitconf_handles.specs.declared.block.Span.{Span}
 use Rattle.gitconf_handles.specs.declared.object.Object.{Object}
-use Rattle.gitconf_handles.specs.declared.object.Object.TheVariants.{Entries, Texts}
+use Rattle.gitconf_handles.specs.declared.object.Object.TheVariants.{Differences, Entries, Sections, Texts}
 
--- the number of texts or entries in the handle: 0 if it has no list
+-- the number of texts, entries, sections or differences in the handle: 0 if it has no list
 abbrev pub IsLength : Option Object → (number : ℕ) → Type 0
 IsLength (Some (Texts texts)) number = number ≡ length texts.items
 IsLength (Some (Entries entries)) number = number ≡ length entries.items
+IsLength (Some (Sections sections)) number = number ≡ length sections.items
+IsLength (Some (Differences differences)) number = number ≡ length differences.items
 IsLength _ number = number ≡ 0
 
 -- number 0 if there is a text at the index, and it lies there; else 100

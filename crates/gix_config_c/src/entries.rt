@@ -6,6 +6,7 @@ ghost use Rattle.gitconf_compared.specs.Settings.{plain_setting, plain_settings}
 ghost use Rattle.gix_config_c.specs.Answers.{OfFile};
 ghost use Rattle.gix_config_c.specs.Listed.{AreEntries, AreOf, IsEntryAt, IsEntryIn, listed_setting, listed_entry};
 
+use crate::lists::put_list;
 use crate::{DONE, NOTHING_THERE, OUT_OF_MEMORY, WRONG_HANDLE};
 use bstr::BString;
 use gitconf_compared::setting::{Setting, Side};
@@ -45,13 +46,7 @@ fn put_entries(alloc: Global, file: &File, list: &mut Slot) -> u32
     let Ok(entries) = entries_of(alloc, file) else {
         return OUT_OF_MEMORY;
     };
-    match Box::new(alloc, Object::Entries(entries)) {
-        Ok(object) => {
-            list.put(object);
-            DONE
-        }
-        Err(_) => OUT_OF_MEMORY,
-    }
+    put_list(alloc, Object::Entries(entries), list)
 }
 
 /// All entries of a file.
@@ -64,7 +59,7 @@ fn entries_of(alloc: Global, file: &File) -> Result<Vec<Entry>, NoMemory>
 }
 
 /// Settings as entries.
-fn entries_for(alloc: Global, settings: Vec<Setting>) -> Result<Vec<Entry>, NoMemory>
+pub(crate) fn entries_for(alloc: Global, settings: Vec<Setting>) -> Result<Vec<Entry>, NoMemory>
     ensures { IfOk result (λ entries. map listed_entry entries.items ≡ map listed_setting (plain_settings settings.items)) }
 {
     let mut entries = Vec::new(alloc);
@@ -95,7 +90,7 @@ fn entry_of(setting: Setting) -> Entry
 }
 
 /// The bytes of a text, if there is one.
-fn vector(text: Option<BString>) -> Option<Vec<u8>>
+pub(crate) fn vector(text: Option<BString>) -> Option<Vec<u8>>
     ensures { option_map (λ bytes. bytes.items) result ≡ option_map bstring_bytes text }
 {
     match text {

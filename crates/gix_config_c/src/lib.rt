@@ -5,12 +5,18 @@
 #![tactic(auto)]
 
 mod appending;
+mod comparing;
 mod editing;
 mod entries;
 mod files;
+mod filtered;
+mod finding;
+mod layouts;
 mod lists;
 mod look_ups;
 mod opening;
+mod paths;
+mod section_lists;
 mod sections;
 mod setting;
 mod texts;

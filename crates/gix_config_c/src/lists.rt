@@ -1,14 +1,29 @@
 //! Lists that calls hand out.
-ghost use Rattle.std.specs.Prelude.{◌≡◌, None};
+ghost use Rattle.std.specs.Prelude.{◌≡◌, ◌⊎◌, None, Some};
 ghost use Rattle.gix_config_c.specs.Lists.{IsAt, IsLength, IsTextAt};
 
-use crate::{DONE, NOTHING_THERE, WRONG_HANDLE};
+use crate::{DONE, NOTHING_THERE, OUT_OF_MEMORY, WRONG_HANDLE};
 use gitconf_handles::block::Span;
 use gitconf_handles::object::Object;
 use gitconf_handles::slot::Slot;
 use std::alloc::Global;
 
-/// Tells how many texts or entries are in a list: 0 if the handle has no list.
+/// Puts a list into a handle, in the place of what was there, which is closed.
+pub(crate) fn put_list(alloc: Global, list: Object, handle: &mut Slot) -> u32
+    ensures number { (result ≡ 0) ⊎ (result ≡ 27) }
+    ensures done { result ≡ 0 → handle.new.it ≡ Some list }
+    ensures kept { (result ≡ 0 → ⊥) → handle.new.it ≡ handle.old.it }
+{
+    match Box::new(alloc, list) {
+        Ok(object) => {
+            handle.put(object);
+            DONE
+        }
+        Err(_) => OUT_OF_MEMORY,
+    }
+}
+
+/// Tells how many texts, entries, sections or differences are in a list: 0 if the handle has no list.
 #[unsafe(no_mangle)]
 pub extern "C" fn gix_config_list_len(alloc: Global, list: &mut Slot) -> usize
     ensures length { IsLength list.old.it result }
@@ -20,6 +35,8 @@ pub extern "C" fn gix_config_list_len(alloc: Global, list: &mut Slot) -> usize
     let answer = match &*object {
         Object::Texts(texts) => texts.len(),
         Object::Entries(entries) => entries.len(),
+        Object::Sections(sections) => sections.len(),
+        Object::Differences(differences) => differences.len(),
         _ => 0,
     };
     list.put(object);

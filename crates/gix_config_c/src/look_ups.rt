@@ -1,16 +1,21 @@
 //! Values of keys.
-ghost use Rattle.std.specs.Prelude.{◌≡◌, ◌⊎◌, IfOk};
+ghost use Rattle.std.specs.Option.{option_copied};
+ghost use Rattle.std.specs.Prelude.{◌≡◌, ◌⊎◌, IfOk, true};
 ghost use Rattle.gitconf_finding.specs.Lookups.{texts_of};
 ghost use Rattle.gitconf_handles.specs.Blocks.{IsKept};
 ghost use Rattle.gitconf_handles.specs.Keys.{names_of};
+ghost use Rattle.gitconf_handles.specs.Origins.{keeps_if};
 ghost use Rattle.gix_config_c.specs.Answers.{OfFile, OfKey};
 ghost use Rattle.gix_config_c.specs.Found.{AreTexts, AreValues, HaveBytes, IsBooleanOf, IsIntegerOf, IsValue};
 
+use crate::finding::{value_of, values_of};
+use crate::lists::put_list;
 use crate::{DONE, NOT_UTF8, NOTHING_THERE, OUT_OF_MEMORY, WRONG_HANDLE};
 use bstr::BString;
 use gitconf_handles::block::{Block, room};
 use gitconf_handles::key::{Key, names};
 use gitconf_handles::object::Object;
+use gitconf_handles::origin::Filter;
 use gitconf_handles::slot::Slot;
 use gix_config::refusals::Refusal as _;
 use gix_config::{File, NoMemory};
@@ -27,7 +32,7 @@ pub extern "C" fn gix_config_value(
     key: &Key<'_>,
     value: &mut Block,
 ) -> u32
-    ensures answer { OfFile file.old.it result (λ f. OfKey (names_of key.now) result (λ k. IsValue k f result value.new)) }
+    ensures answer { OfFile file.old.it result (λ f. OfKey (names_of key.now) result (λ k. IsValue k (λ _. true) f result value.new)) }
     ensures kept { (result ≡ 0 → ⊥) → IsKept value.old value.new }
     ensures same { file.new.it ≡ file.old.it }
 {
@@ -35,22 +40,28 @@ pub extern "C" fn gix_config_value(
         return WRONG_HANDLE;
     };
     let answer = match &*object {
-        Object::File(f) => put_value(alloc, f, key, value),
+        Object::File(f) => put_value(alloc, f, key, None, value),
         _ => WRONG_HANDLE,
     };
     file.put(object);
     answer
 }
 
-/// Puts what the last value of a key means into a block.
-fn put_value(alloc: Global, file: &File, key: &Key<'_>, value: &mut Block) -> u32
-    ensures answer { OfKey (names_of key.now) result (λ k. IsValue k file.now result value.new) }
+/// Puts what the last value of a key means in the sections that are kept into a block.
+pub(crate) fn put_value(
+    alloc: Global,
+    file: &File,
+    key: &Key<'_>,
+    filter: Option<&Filter>,
+    value: &mut Block,
+) -> u32
+    ensures answer { OfKey (names_of key.now) result (λ k. IsValue k (keeps_if (option_copied filter.entry)) file.now result value.new) }
     ensures kept { (result ≡ 0 → ⊥) → IsKept value.old value.new }
 {
     let Some(key) = names(key) else {
         return NOT_UTF8;
     };
-    match file.raw_value(key) {
+    match value_of(file, key, filter) {
         Ok(found) => match room(alloc) {
             Some(room) => {
                 value.put(room, found.into_vec());
@@ -72,7 +83,7 @@ pub extern "C" fn gix_config_values(
     key: &Key<'_>,
     list: &mut Slot,
 ) -> u32
-    ensures answer { OfFile file.old.it result (λ f. OfKey (names_of key.now) result (λ k. AreValues k f result list.new.it)) }
+    ensures answer { OfFile file.old.it result (λ f. OfKey (names_of key.now) result (λ k. AreValues k (λ _. true) f result list.new.it)) }
     ensures kept { (result ≡ 0 → ⊥) → list.new.it ≡ list.old.it }
     ensures same { file.new.it ≡ file.old.it }
 {
@@ -80,22 +91,28 @@ pub extern "C" fn gix_config_values(
         return WRONG_HANDLE;
     };
     let answer = match &*object {
-        Object::File(f) => put_values(alloc, f, key, list),
+        Object::File(f) => put_values(alloc, f, key, None, list),
         _ => WRONG_HANDLE,
     };
     file.put(object);
     answer
 }
 
-/// Puts what all values of a key mean into a list.
-fn put_values(alloc: Global, file: &File, key: &Key<'_>, list: &mut Slot) -> u32
-    ensures answer { OfKey (names_of key.now) result (λ k. AreValues k file.now result list.new.it) }
+/// Puts what all values of a key mean in the sections that are kept into a list.
+pub(crate) fn put_values(
+    alloc: Global,
+    file: &File,
+    key: &Key<'_>,
+    filter: Option<&Filter>,
+    list: &mut Slot,
+) -> u32
+    ensures answer { OfKey (names_of key.now) result (λ k. AreValues k (keeps_if (option_copied filter.entry)) file.now result list.new.it) }
     ensures kept { (result ≡ 0 → ⊥) → list.new.it ≡ list.old.it }
 {
     let Some(key) = names(key) else {
         return NOT_UTF8;
     };
-    match file.raw_values(key) {
+    match values_of(file, key, filter) {
         Ok(found) => put_texts(alloc, found, list),
         Err(refusal) => u32::from(refusal.number()),
     }
@@ -110,13 +127,7 @@ pub(crate) fn put_texts(alloc: Global, found: Vec<BString>, list: &mut Slot) -> 
     let Ok(texts) = vectors(alloc, found) else {
         return OUT_OF_MEMORY;
     };
-    match Box::new(alloc, Object::Texts(texts)) {
-        Ok(object) => {
-            list.put(object);
-            DONE
-        }
-        Err(_) => OUT_OF_MEMORY,
-    }
+    put_list(alloc, Object::Texts(texts), list)
 }
 
 /// The texts as vectors of their bytes.
@@ -141,7 +152,7 @@ pub extern "C" fn gix_config_boolean(
     key: &Key<'_>,
     value: &mut bool,
 ) -> u32
-    ensures answer { OfFile file.old.it result (λ f. OfKey (names_of key.now) result (λ k. IsBooleanOf k f result value.new)) }
+    ensures answer { OfFile file.old.it result (λ f. OfKey (names_of key.now) result (λ k. IsBooleanOf k (λ _. true) f result value.new)) }
     ensures kept { (result ≡ 0 → ⊥) → value.new ≡ value.old }
     ensures same { file.new.it ≡ file.old.it }
 {
@@ -158,7 +169,7 @@ pub extern "C" fn gix_config_boolean(
 
 /// Tells what the last value of a key means as a boolean.
 fn put_boolean(file: &File, key: &Key<'_>, value: &mut bool) -> u32
-    ensures answer { OfKey (names_of key.now) result (λ k. IsBooleanOf k file.now result value.new) }
+    ensures answer { OfKey (names_of key.now) result (λ k. IsBooleanOf k (λ _. true) file.now result value.new) }
     ensures kept { (result ≡ 0 → ⊥) → value.new ≡ value.old }
 {
     let Some(key) = names(key) else {
@@ -185,7 +196,7 @@ pub extern "C" fn gix_config_integer(
     key: &Key<'_>,
     value: &mut i64,
 ) -> u32
-    ensures answer { OfFile file.old.it result (λ f. OfKey (names_of key.now) result (λ k. IsIntegerOf k f result value.new)) }
+    ensures answer { OfFile file.old.it result (λ f. OfKey (names_of key.now) result (λ k. IsIntegerOf k (λ _. true) f result value.new)) }
     ensures kept { (result ≡ 0 → ⊥) → value.new ≡ value.old }
     ensures same { file.new.it ≡ file.old.it }
 {
@@ -202,7 +213,7 @@ pub extern "C" fn gix_config_integer(
 
 /// Tells what the last value of a key means as an integer.
 fn put_integer(file: &File, key: &Key<'_>, value: &mut i64) -> u32
-    ensures answer { OfKey (names_of key.now) result (λ k. IsIntegerOf k file.now result value.new) }
+    ensures answer { OfKey (names_of key.now) result (λ k. IsIntegerOf k (λ _. true) file.now result value.new) }
     ensures kept { (result ≡ 0 → ⊥) → value.new ≡ value.old }
 {
     let Some(key) = names(key) else {

@@ -1,6 +1,9 @@
-use Rattle.std.proofs.Common.{◌∙◌, ap, refl, Some}
+use Rattle.std.proofs.Common.{inl, inr}
 use Rattle.gix_config_c.proofs.entries.put_entries.Goals as goal
 
 -- what was put there is what was made
-pub returns-in-Ok-new-clause-answer : goal.returns-in-Ok-new-clause-answer
-returns-in-Ok-new-clause-answer c = record { done = λ _. (c.in-Ok.entries, c.put.ensures ∙ ap Some c.in-Ok-new.ensures.ok, c.in-Ok.ensures); short = λ no. absurd (no refl) }
+pub returns-clause-answer : goal.returns-clause-answer
+returns-clause-answer c = record {
+  done = λ done. (c.in-Ok.entries, c.put_list.ensures.done done, c.in-Ok.ensures);
+  short = λ no. elim c.put_list.ensures.number [ inl done ↦ absurd (no done) | inr short ↦ short ];
+}

@@ -1,0 +1,8 @@
+use Rattle.std.proofs.Common.{rules}
+use Rattle.std.proofs.lemmas.Fn.{always_returns_same}
+use Rattle.gitconf_handles.specs.Origins.{keeps}
+use Rattle.gix_config_c.proofs.finding.value_where.Goals as goal
+
+-- the filter answers by what it is shown alone
+pub returns : goal.returns
+returns c = c.raw_value_filter.ensures.exact (keeps c.args.filter.now) (always_returns_same _ _ _ (λ a r f' k. search rules))

@@ -1,0 +1,213 @@
+//! Values of keys in the sections that a filter keeps, and the text of these sections.
+ghost use Rattle.std.specs.Prelude.{◌≡◌, IfOk, Some};
+ghost use Rattle.gitconf_handles.specs.Blocks.{IsKept};
+ghost use Rattle.gitconf_handles.specs.Keys.{names_of};
+ghost use Rattle.gitconf_handles.specs.Origins.{keeps};
+ghost use Rattle.gitconf_items.specs.Sink.{Writes};
+ghost use Rattle.gitconf_state.specs.Printing.{printed_kept};
+ghost use Rattle.gix_config_c.specs.Answers.{OfFile, OfKey};
+ghost use Rattle.gix_config_c.specs.Found.{AreValues, IsBooleanOf, IsIntegerOf, IsKeptText, IsValue};
+
+use crate::finding::{boolean_where, integer_where};
+use crate::look_ups::{put_value, put_values};
+use crate::{DONE, NOT_UTF8, NOTHING_THERE, OUT_OF_MEMORY, WRONG_HANDLE};
+use gitconf_handles::block::{Block, room};
+use gitconf_handles::key::{Key, names};
+use gitconf_handles::object::Object;
+use gitconf_handles::origin::{Filter, passes};
+use gitconf_handles::slot::Slot;
+use gitconf_items::sink::SinkFault;
+use gix_config::refusals::Refusal as _;
+use gix_config::{File, NoMemory};
+use std::alloc::Global;
+
+/// As gix_config_value, in the sections that the filter keeps: the numbers 7 and 8 are those of gix_config_value, and 9 is also that none
+/// of the sections that are kept has such a value.
+#[unsafe(no_mangle)]
+pub extern "C" fn gix_config_value_filter(
+    alloc: Global,
+    file: &mut Slot,
+    key: &Key<'_>,
+    filter: &Filter,
+    value: &mut Block,
+) -> u32
+    ensures answer { OfFile file.old.it result (λ f. OfKey (names_of key.now) result (λ k. IsValue k (keeps filter.now) f result value.new)) }
+    ensures kept { (result ≡ 0 → ⊥) → IsKept value.old value.new }
+    ensures same { file.new.it ≡ file.old.it }
+{
+    let Some(object) = file.take(alloc) else {
+        return WRONG_HANDLE;
+    };
+    let answer = match &*object {
+        Object::File(f) => put_value(alloc, f, key, Some(filter), value),
+        _ => WRONG_HANDLE,
+    };
+    file.put(object);
+    answer
+}
+
+/// As gix_config_values, in the sections that the filter keeps. The numbers are those of gix_config_value_filter.
+#[unsafe(no_mangle)]
+pub extern "C" fn gix_config_values_filter(
+    alloc: Global,
+    file: &mut Slot,
+    key: &Key<'_>,
+    filter: &Filter,
+    list: &mut Slot,
+) -> u32
+    ensures answer { OfFile file.old.it result (λ f. OfKey (names_of key.now) result (λ k. AreValues k (keeps filter.now) f result list.new.it)) }
+    ensures kept { (result ≡ 0 → ⊥) → list.new.it ≡ list.old.it }
+    ensures same { file.new.it ≡ file.old.it }
+{
+    let Some(object) = file.take(alloc) else {
+        return WRONG_HANDLE;
+    };
+    let answer = match &*object {
+        Object::File(f) => put_values(alloc, f, key, Some(filter), list),
+        _ => WRONG_HANDLE,
+    };
+    file.put(object);
+    answer
+}
+
+/// As gix_config_boolean, in the sections that the filter keeps. The numbers are the same.
+#[unsafe(no_mangle)]
+pub extern "C" fn gix_config_boolean_filter(
+    alloc: Global,
+    file: &mut Slot,
+    key: &Key<'_>,
+    filter: &Filter,
+    value: &mut bool,
+) -> u32
+    ensures answer { OfFile file.old.it result (λ f. OfKey (names_of key.now) result (λ k. IsBooleanOf k (keeps filter.now) f result value.new)) }
+    ensures kept { (result ≡ 0 → ⊥) → value.new ≡ value.old }
+    ensures same { file.new.it ≡ file.old.it }
+{
+    let Some(object) = file.take(alloc) else {
+        return WRONG_HANDLE;
+    };
+    let answer = match &*object {
+        Object::File(f) => put_boolean(f, key, filter, value),
+        _ => WRONG_HANDLE,
+    };
+    file.put(object);
+    answer
+}
+
+/// Tells what the last value of a key means as a boolean in the sections that the filter keeps.
+fn put_boolean(file: &File, key: &Key<'_>, filter: &Filter, value: &mut bool) -> u32
+    ensures answer { OfKey (names_of key.now) result (λ k. IsBooleanOf k (keeps filter.now) file.now result value.new) }
+    ensures kept { (result ≡ 0 → ⊥) → value.new ≡ value.old }
+{
+    let Some(key) = names(key) else {
+        return NOT_UTF8;
+    };
+    match boolean_where(file, key, filter) {
+        Ok(Some(found)) => {
+            *value = found;
+            DONE
+        }
+        Ok(None) => NOTHING_THERE,
+        Err(refusal) => u32::from(refusal.number()),
+    }
+}
+
+/// As gix_config_integer, in the sections that the filter keeps. The numbers are the same.
+#[unsafe(no_mangle)]
+pub extern "C" fn gix_config_integer_filter(
+    alloc: Global,
+    file: &mut Slot,
+    key: &Key<'_>,
+    filter: &Filter,
+    value: &mut i64,
+) -> u32
+    ensures answer { OfFile file.old.it result (λ f. OfKey (names_of key.now) result (λ k. IsIntegerOf k (keeps filter.now) f result value.new)) }
+    ensures kept { (result ≡ 0 → ⊥) → value.new ≡ value.old }
+    ensures same { file.new.it ≡ file.old.it }
+{
+    let Some(object) = file.take(alloc) else {
+        return WRONG_HANDLE;
+    };
+    let answer = match &*object {
+        Object::File(f) => put_integer(f, key, filter, value),
+        _ => WRONG_HANDLE,
+    };
+    file.put(object);
+    answer
+}
+
+/// Tells what the last value of a key means as an integer in the sections that the filter keeps.
+fn put_integer(file: &File, key: &Key<'_>, filter: &Filter, value: &mut i64) -> u32
+    ensures answer { OfKey (names_of key.now) result (λ k. IsIntegerOf k (keeps filter.now) file.now result value.new) }
+    ensures kept { (result ≡ 0 → ⊥) → value.new ≡ value.old }
+{
+    let Some(key) = names(key) else {
+        return NOT_UTF8;
+    };
+    match integer_where(file, key, filter) {
+        Ok(Some(found)) => {
+            *value = found;
+            DONE
+        }
+        Ok(None) => NOTHING_THERE,
+        Err(refusal) => u32::from(refusal.number()),
+    }
+}
+
+/// Hands out the text of what comes before the first section, and of the sections that the filter keeps. What the block had is freed.
+///
+/// 102 if the handle has no file, 27 when out of memory; the block is then as it was.
+#[unsafe(no_mangle)]
+pub extern "C" fn gix_config_file_text_filter(
+    alloc: Global,
+    file: &mut Slot,
+    filter: &Filter,
+    text: &mut Block,
+) -> u32
+    ensures answer { OfFile file.old.it result (λ f. IsKeptText filter.now f result text.new) }
+    ensures kept { (result ≡ 0 → ⊥) → IsKept text.old text.new }
+    ensures same { file.new.it ≡ file.old.it }
+{
+    let Some(object) = file.take(alloc) else {
+        return WRONG_HANDLE;
+    };
+    let answer = match &*object {
+        Object::File(f) => put_text(alloc, f, filter, text),
+        _ => WRONG_HANDLE,
+    };
+    file.put(object);
+    answer
+}
+
+/// Puts the text of the sections that the filter keeps into a block.
+fn put_text(alloc: Global, file: &File, filter: &Filter, text: &mut Block) -> u32
+    ensures answer { IsKeptText filter.now file.now result text.new }
+    ensures kept { (result ≡ 0 → ⊥) → IsKept text.old text.new }
+{
+    let Some(room) = room(alloc) else {
+        return OUT_OF_MEMORY;
+    };
+    let Ok(bytes) = text_where(alloc, file, filter) else {
+        return OUT_OF_MEMORY;
+    };
+    text.put(room, bytes);
+    DONE
+}
+
+/// The text of the sections that the filter keeps.
+fn text_where(alloc: Global, file: &File, filter: &Filter) -> Result<Vec<u8>, NoMemory>
+    ensures { IfOk result (λ text. text.items ≡ printed_kept (λ s. keeps filter.now s.meta) file.now) }
+{
+    let mut text = Vec::new(alloc);
+    match write_where(&mut text, file, filter) {
+        Ok(()) => Ok(text),
+        Err(_) => Err(NoMemory),
+    }
+}
+
+/// Writes the text of the sections that the filter keeps.
+fn write_where(text: &mut Vec<u8>, file: &File, filter: &Filter) -> Result<(), SinkFault>
+    ensures { Writes result (printed_kept (λ s. keeps filter.now s.meta) file.now) (Some text.old.items) (Some text.new.items) }
+{
+    file.write_to_filter(text, |section| passes(filter, section.meta()))
+}

@@ -1,0 +1,88 @@
+//! Paths that values write.
+ghost use Rattle.std.specs.Prelude.{◌≡◌};
+ghost use Rattle.gitconf_handles.specs.Blocks.{IsKept};
+ghost use Rattle.gitconf_handles.specs.Folders.{folders_of, known_folders};
+ghost use Rattle.gitconf_handles.specs.Keys.{names_of};
+ghost use Rattle.gix_config_c.specs.Answers.{OfFile};
+ghost use Rattle.gix_config_c.specs.Paths.{IsPathFor, IsWhole};
+
+use crate::{DONE, NOT_UTF8, NOTHING_THERE, OUT_OF_MEMORY, WRONG_HANDLE};
+use gitconf_handles::block::{Block, room};
+use gitconf_handles::folders::{Folders, context};
+use gitconf_handles::key::{Key, names};
+use gitconf_handles::object::Object;
+use gitconf_handles::slot::Slot;
+use gitconf_values::path::interpolate::Context;
+use gix_config::refusals::Refusal as _;
+use gix_config::{File, Path};
+use std::alloc::Global;
+
+/// Hands out the last value of a key as a path, with the shorthand at its front replaced: `%(prefix)/` by the folder where git is
+/// installed, `~/` by the user's home folder. What the block had is freed.
+///
+/// 100 if there is none. 12 for an empty value, or one that needs a folder that is not known, as those of other users; 13 for a path that
+/// is not UTF-8, 14 for the name of a user that is not. 101 if the section's or the value's name, or a folder that is known, is not UTF-8,
+/// 102 if the handle has no file, 27 when out of memory. The block is then as it was.
+#[unsafe(no_mangle)]
+pub extern "C" fn gix_config_path(
+    alloc: Global,
+    file: &mut Slot,
+    key: &Key<'_>,
+    folders: &Folders<'_>,
+    path: &mut Block,
+) -> u32
+    ensures answer { OfFile file.old.it result (λ f. IsPathFor (names_of key.now) (folders_of folders.now) f result path.new) }
+    ensures kept { (result ≡ 0 → ⊥) → IsKept path.old path.new }
+    ensures same { file.new.it ≡ file.old.it }
+{
+    let Some(object) = file.take(alloc) else {
+        return WRONG_HANDLE;
+    };
+    let answer = match &*object {
+        Object::File(f) => put_path(alloc, f, key, folders, path),
+        _ => WRONG_HANDLE,
+    };
+    file.put(object);
+    answer
+}
+
+/// Puts the path that the last value of a key writes into a block.
+fn put_path(
+    alloc: Global,
+    file: &File,
+    key: &Key<'_>,
+    folders: &Folders<'_>,
+    path: &mut Block,
+) -> u32
+    ensures answer { IsPathFor (names_of key.now) (folders_of folders.now) file.now result path.new }
+    ensures kept { (result ≡ 0 → ⊥) → IsKept path.old path.new }
+{
+    let Some(key) = names(key) else {
+        return NOT_UTF8;
+    };
+    let Some(context) = context(folders) else {
+        return NOT_UTF8;
+    };
+    match file.path(key) {
+        Ok(Some(found)) => put_whole(alloc, &found, context, path),
+        Ok(None) => NOTHING_THERE,
+        Err(_) => OUT_OF_MEMORY,
+    }
+}
+
+/// Puts a path, with its shorthand replaced, into a block.
+fn put_whole(alloc: Global, found: &Path, context: Context<'_>, path: &mut Block) -> u32
+    ensures answer { IsWhole (known_folders context.entry) found.now result path.new }
+    ensures kept { (result ≡ 0 → ⊥) → IsKept path.old path.new }
+{
+    let Some(room) = room(alloc) else {
+        return OUT_OF_MEMORY;
+    };
+    match found.interpolate(context) {
+        Ok(whole) => {
+            path.put(room, whole.into_bytes());
+            DONE
+        }
+        Err(refusal) => u32::from(refusal.number()),
+    }
+}
