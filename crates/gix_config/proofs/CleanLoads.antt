@@ -18,6 +18,7 @@ use Rattle.gitconf_expansion.proofs.States.{headed_stays, IsHeaded}
 use Rattle.gitconf_finding.specs.Picks.{picked}
 use Rattle.gitconf_loaders.specs.Resolving.{MakesOf}
 use Rattle.gitconf_loaders.specs.Globals.{empty_file, home_rules}
+use Rattle.gix_config.specs.Puts.{put_bytes}
 use Rattle.gitconf_loaders.specs.Paths.{has_room_behind, IsBehind, IsLoadedFrom, Then}
 use Rattle.gitconf_refusals.specs.Variables.{reported_key, key_variable}
 use Rattle.gitconf_loaders.proofs.Clean.{behind_headed, global_clean, path_headed}
@@ -42,7 +43,7 @@ section_headed : (key : Key) (old : State) (edited : Edited) (found : Option Sec
 section_headed key old edited (Some s) at named is (same, told) =
     (subst IsHeaded (sym same) is, ap (λ (t : ℕ × Editor). has_blank_leading t.1) told ∙ clean_picked key.section key.subsection (λ _. true) old s is.clean at)
 section_headed key old edited None at named is (made, told) = (
-  subst IsHeaded (sym made) (headed_used edited.0.used (apply (NewSection key.section key.subsection) old) (record {
+  subst IsHeaded (sym made) (headed_used (old.used + put_bytes (NewSection key.section key.subsection) old) (apply (NewSection key.section key.subsection) old) (record {
     clean = apply_clean (NewSection key.section key.subsection) old named is.clean;
     front = is.front;
   })),
@@ -54,7 +55,7 @@ pushed_headed : (name : List ℕ) (value : Option (List ℕ)) (edited : Edited) 
 pushed_headed name None edited new is blank pushed = absurd (cc)
 pushed_headed name (Some value) edited new is blank (Err e, other, done, left) = absurd (cc)
 pushed_headed name (Some value) edited new is blank (Ok done, other, edit, left) =
-    subst IsHeaded (sym (ap (state_in new) left)) (subst IsHeaded (sym edit.ok) (headed_used other.used (apply (Push edited.1.0 edited.1.1 name (Some value) None) edited.0) (record {
+    subst IsHeaded (sym (ap (state_in new) left)) (subst IsHeaded (sym edit.ok) (headed_used (edited.0.used + put_bytes (Push edited.1.0 edited.1.1 name (Some value) None) edited.0) (apply (Push edited.1.0 edited.1.1 name (Some value) None) edited.0) (record {
       clean = apply_clean (Push edited.1.0 edited.1.1 name (Some value) None) edited.0 blank is.clean;
       front = is.front;
     })))
