@@ -1,6 +1,6 @@
 -- The section of a number follows each edit of it.
-use Rattle.std.proofs.Common.{◌≡◌, ◌⊎◌, ℕ, ◌+◌, ◌==◌, ◌||◌, Bool, true, false, List, [], ◌∷◌, map, filter, Option, Some, None, Result, Ok, Err, inl, inr, refl, ap, sym, subst, ◌∙◌, arith}
-use Rattle.std.specs.Prelude.{if◌then◌else◌, IfErr, IfSome, IsErrAnd, IsErrOf, OnErr, OnOk}
+use Rattle.std.proofs.Common.{◌≡◌, ℕ, ◌+◌, ◌==◌, ◌||◌, Bool, true, false, List, [], ◌∷◌, map, filter, Option, Some, None, Result, Ok, Err, refl, ap, sym, subst, ◌∙◌}
+use Rattle.std.specs.Prelude.{if◌then◌else◌, IfSome, OnErr, OnOk}
 use Rattle.std.specs.List.{last_or, list_any}
 use Rattle.gitconf_text.specs.Part.{Item}
 use Rattle.gitconf_state.specs.Edit.{with_used}

@@ -1,6 +1,6 @@
 -- The configuration of a repository: that of the machine and of the user, of the repository and of its worktree, and the overrides.
 -- Source: gix-config; that the files of the machine and of the user are expanded twice is gix-config's rule.
-use Rattle.std.specs.Prelude.{◌≡◌, ◌⊎◌, ℕ, Bool, true, false, List, [], Option, Some, None, Result, Ok, Err, codes, string_bytes}
+use Rattle.std.specs.Prelude.{◌≡◌, ◌⊎◌, ℕ, Bool, true, false, List, [], Option, Some, None, Result, Ok, Err, codes}
 use Rattle.std.specs.Option.{option_map, unwrap_or}
 use Rattle.gitconf_text.specs.ValueErrors.{ValueError}
 use Rattle.gitconf_values.specs.Paths.{join, parent}

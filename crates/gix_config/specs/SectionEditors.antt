@@ -1,5 +1,5 @@
 -- Editors of a section: the file, the section's number, and what they write besides names and values.
-use Rattle.std.specs.Prelude.{◌≡◌, ◌≢◌, ◌↔◌, ◌==◌, ◌+◌, ◌≤◌, ℕ, Bool, true, false, List, IfErr, IfOk, IsErrAnd, IsErrOf, Option, Some, None, Result, Ok, Err}
+use Rattle.std.specs.Prelude.{◌≡◌, ◌≢◌, ◌↔◌, ◌==◌, ℕ, Bool, true, false, List, IfErr, IfOk, IsErrAnd, IsErrOf, Option, Some, None, Result, Ok, Err}
 use Rattle.std.specs.List.{list_any}
 use Rattle.std.specs.Option.{option_map}
 use Rattle.std.specs.Borrow.{GName}

@@ -1,6 +1,5 @@
-use Rattle.std.proofs.Common.{◌≡◌, ◌<◌, ◌+◌, ◌^◌, sym, subst, length}
+use Rattle.std.proofs.Common.{◌<◌, ◌+◌, ◌^◌, sym, subst, length}
 use Rattle.std.specs.Prelude.{OnErr, OnOk}
-use Rattle.gitconf_items.specs.Items.{items_of}
 use Rattle.gitconf_body.specs.Growth.{UsedGrows}
 use Rattle.gitconf_body.proofs.ItemsEdits.{rewritten_count, used_left, used_put}
 use Rattle.gitconf_body.proofs.items_edits.RewriteEntryItemsEdit.edit.Goals as goal

@@ -1,6 +1,5 @@
-use Rattle.std.proofs.Common.{rules, ◌≡◌, ◌<◌, ◌≤◌, ◌+◌, ◌^◌, subst, length}
+use Rattle.std.proofs.Common.{rules, ◌<◌, ◌≤◌, ◌+◌, ◌^◌, subst, length}
 use Rattle.std.specs.Prelude.{IsErrOf}
-use Rattle.gitconf_items.specs.Items.{items_of}
 use Rattle.gitconf_body.proofs.ItemsEdits.{checked_fits, rewritten_count, refused_grows}
 use Rattle.gitconf_body.proofs.items_edits.RewriteEntryItemsEdit.look.Goals as goal
 

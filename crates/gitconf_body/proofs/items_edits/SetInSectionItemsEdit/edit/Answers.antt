@@ -1,7 +1,6 @@
-use Rattle.std.proofs.Common.{◌≡◌, ◌<◌, ◌+◌, ◌^◌, refl, sym, subst, length}
+use Rattle.std.proofs.Common.{◌<◌, ◌+◌, ◌^◌, refl, sym, subst, length}
 use Rattle.std.specs.Prelude.{OnErr, OnOk}
 use Rattle.gitconf_text.specs.LineEnds.{bytes_of_line_end}
-use Rattle.gitconf_items.specs.Items.{items_of}
 use Rattle.gitconf_body.proofs.Changing.{put_by_editor}
 use Rattle.gitconf_body.specs.Growth.{UsedGrows}
 use Rattle.gitconf_body.proofs.ItemsEdits.{used_left, used_put}

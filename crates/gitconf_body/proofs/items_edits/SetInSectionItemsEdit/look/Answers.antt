@@ -1,7 +1,6 @@
-use Rattle.std.proofs.Common.{rules, ◌≡◌, ◌<◌, ◌≤◌, ◌+◌, ◌^◌, refl, subst, length}
+use Rattle.std.proofs.Common.{rules, ◌<◌, ◌≤◌, ◌+◌, ◌^◌, refl, subst, length}
 use Rattle.std.specs.Prelude.{IsErrOf}
 use Rattle.gitconf_text.specs.LineEnds.{bytes_of_line_end}
-use Rattle.gitconf_items.specs.Items.{items_of}
 use Rattle.gitconf_body.proofs.Changing.{put_by_editor}
 use Rattle.gitconf_body.proofs.ItemsEdits.{checked_fits, refused_grows}
 use Rattle.gitconf_body.proofs.items_edits.SetInSectionItemsEdit.look.Goals as goal

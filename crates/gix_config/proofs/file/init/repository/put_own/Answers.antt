@@ -1,5 +1,4 @@
-use Rattle.std.proofs.Common.{Ok, refl, subst}
-use Rattle.gitconf_state.specs.State.{State}
+use Rattle.std.proofs.Common.{Ok, subst}
 use Rattle.gitconf_expansion.specs.Outcomes.{asks_of}
 use Rattle.gitconf_loaders.proofs.Counts.{later}
 use Rattle.gitconf_loaders.specs.Paths.{left_by, numbered}

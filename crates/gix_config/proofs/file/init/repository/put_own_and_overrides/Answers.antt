@@ -1,4 +1,4 @@
-use Rattle.std.proofs.Common.{Ok, refl, subst}
+use Rattle.std.proofs.Common.{Ok, subst}
 use Rattle.std.specs.Prelude.{IfErr}
 use Rattle.gitconf_expansion.specs.Outcomes.{asks_of}
 use Rattle.gitconf_loaders.proofs.Counts.{later}
