@@ -63,7 +63,7 @@ fn tell_equal(alloc: Global, file: &File, other_file: &mut Slot, equal: &mut boo
 fn tell_if_same(file: &File, other: &File, equal: &mut bool) -> u32
     ensures { IsToldEqual file.now other.now result equal.new }
 {
-    *equal = file == other;
+    *equal = *file == *other;
     DONE
 }
 

@@ -1,8 +1,7 @@
 //! Lookups of a file with a filter, or without one.
 ghost use Rattle.std.specs.Option.{option_copied};
-ghost use Rattle.bstr.specs.Owned.{bstring_bytes};
 ghost use Rattle.gitconf_base.specs.Key.{key_of};
-ghost use Rattle.gitconf_finding.specs.Lookups.{AreRawValues, IsRawValue, IsString};
+ghost use Rattle.gitconf_finding.specs.Lookups.{AreRawValues, IsRawValue};
 ghost use Rattle.gitconf_handles.specs.Origins.{keeps, keeps_if};
 ghost use Rattle.gix_config.specs.Typed.{IsBoolean, IsInteger};
 
@@ -10,7 +9,7 @@ use bstr::BString;
 use gitconf_base::key::KeyRef;
 use gitconf_handles::origin::{Filter, passes};
 use gix_config::lookup::existing;
-use gix_config::{File, NoMemory, value};
+use gix_config::{File, value};
 
 /// The last value of a key in the sections that the filter keeps.
 fn value_where(file: &File, key: KeyRef<'_>, filter: &Filter) -> Result<BString, existing::Error>
