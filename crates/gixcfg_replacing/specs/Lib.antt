@@ -1,6 +1,5 @@
 pub mod Calls
 pub mod Disk
 pub mod Edit
-pub mod Logged
 pub mod Memory
 pub mod Steps

@@ -7,7 +7,6 @@ mod edit;
 mod ended;
 mod folder;
 mod in_memory;
-mod logged;
 mod memory;
 mod names;
 
@@ -15,7 +14,6 @@ pub use crash::Chance;
 pub use edit::replace;
 pub use ended::{Edited, Ended};
 pub use folder::Folder;
-pub use logged::{FolderCalls, LoggedFolder};
 pub use memory::Memory;
 pub use names::{draft_of, lock_of};
 

@@ -63,7 +63,7 @@ Ends with 1 if the key isn't there.
 
 const SET: &str = "\
 usage: gixcfg set [-f FILE] [--all] [--append] [--value PATTERN [--fixed-value]] [--type TYPE] [--comment COMMENT]
-                  [--no-sync] KEY VALUE
+                  KEY VALUE
 
 Gives a key a value, in its place if it is there, else in the last section of its name, else in a new one.
 
@@ -79,17 +79,15 @@ Gives a key a value, in its place if it is there, else in the last section of it
     -t, --type TYPE   the value as bool, int, bool-or-int, bool-or-str, path, expiry-date or color;
                       refused if it is none; also as --bool, --int and so on
     --comment COMMENT this comment after the value, in place of one that is there; # is put before it if it has none
-    --no-sync         the new file isn't written down to the disk first: faster, but a loss of power may tear it
 
 Ends with 5 if the key has several entries, and neither --all nor --append is given; with 4 if the file can't be
-written. The file is the old one or the new one at any time, also after a loss of power: the new one is written beside it,
-and renamed over it.
+written. The file is the old one or the new one at any time: the new one is written beside it, and renamed over it.
 
     $ gixcfg set -f .git/config --comment 'for this project' user.name Ada
 ";
 
 const UNSET: &str = "\
-usage: gixcfg unset [-f FILE] [--all] [--value PATTERN [--fixed-value]] [--no-sync] KEY
+usage: gixcfg unset [-f FILE] [--all] [--value PATTERN [--fixed-value]] KEY
 
 Removes a key's entry.
 
@@ -101,7 +99,6 @@ Removes a key's entry.
     --all             all entries of the key
     --value PATTERN   only entries in whose value the pattern is found, or isn't if ! is before it
     --fixed-value     only entries whose value is that text
-    --no-sync         the new file isn't written down to the disk first: faster, but a loss of power may tear it
 
 Ends with 5 if there is no entry, or several of them and --all isn't given.
 
@@ -131,7 +128,7 @@ Prints all entries, a line each: the key, = and the value.
 ";
 
 const RENAME: &str = "\
-usage: gixcfg rename-section [-f FILE] [--no-sync] OLD NEW
+usage: gixcfg rename-section [-f FILE] OLD NEW
 
 Gives all sections of a name another one: a name such as core, or a name and a subsection such as remote.origin.
 
@@ -140,7 +137,6 @@ Gives all sections of a name another one: a name such as core, or a name and a s
     --system          the system's file: /etc/gitconfig
     --local           the repository's file: .git/config
     --worktree        the file of the working tree, if each has one of its own, else the repository's
-    --no-sync         the new file isn't written down to the disk first: faster, but a loss of power may tear it
 
 Ends with 1 if there is no such section.
 
@@ -148,7 +144,7 @@ Ends with 1 if there is no such section.
 ";
 
 const REMOVE: &str = "\
-usage: gixcfg remove-section [-f FILE] [--no-sync] NAME
+usage: gixcfg remove-section [-f FILE] NAME
 
 Removes all sections of a name, with their entries and comments.
 
@@ -157,7 +153,6 @@ Removes all sections of a name, with their entries and comments.
     --system          the system's file: /etc/gitconfig
     --local           the repository's file: .git/config
     --worktree        the file of the working tree, if each has one of its own, else the repository's
-    --no-sync         the new file isn't written down to the disk first: faster, but a loss of power may tear it
 
 Ends with 1 if there is no such section.
 
@@ -165,8 +160,7 @@ Ends with 1 if there is no such section.
 ";
 
 const FMT: &str = "\
-usage: gixcfg fmt [-f FILE] [--check] [--indent tabs:N|spaces:N] [--newline lf|crlf|detect] [--no-sync]
-                  [FILE...]
+usage: gixcfg fmt [-f FILE] [--check] [--indent tabs:N|spaces:N] [--newline lf|crlf|detect] [FILE...]
 
 Lays files out: an indent before each entry, one blank on each side of =, one line ending at the end. Each FILE is changed
 in place; - is standard input.
@@ -179,7 +173,6 @@ in place; - is standard input.
     --check           nothing is written, but which files aren't laid out; ends with 1 if one isn't
     --indent INDENT   what comes before an entry: tabs:1 if it isn't given
     --newline ENDING  what lines end with: that of the file if it isn't given
-    --no-sync         the new file isn't written down to the disk first: faster, but a loss of power may tear it
 
     $ gixcfg fmt -f .git/config --indent spaces:4
 ";
