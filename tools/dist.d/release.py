@@ -81,6 +81,14 @@ def sources():
             yield from (path for path in (crate / part).rglob("*") if path.is_file())
 
 
+def sum_of_sources():
+    """The sha256 sum of the files that the program is proved and compiled of, with their paths."""
+    found = hashlib.sha256()
+    for path in sorted(sources()):
+        found.update(f"{path.relative_to(TOP)}\n{sum_of(path)}\n".encode())
+    return found.hexdigest()
+
+
 def source_newer_than(file):
     """A source that was changed after a file was made, if there is one."""
     made = file.stat().st_mtime_ns

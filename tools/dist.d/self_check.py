@@ -25,7 +25,7 @@ def failing(wanted, got):
 def cases():
     """Each case: what it is, whether it holds."""
     names = programs()
-    made = Sums("a kit", "a linker 1", {name: f"{at:064x}" for at, name in enumerate(names, 10)})
+    made = Sums("a kit", "a sum", "a linker 1", {name: f"{at:064x}" for at, name in enumerate(names, 10)})
     written = read(made.text())
     object_, linked = names[1:]
     yield "what was written is read again", written == made
@@ -37,6 +37,8 @@ def cases():
         yield f"no sum of {name} fails", failing(lacking, made) == ({name}, set())
     other = replace(written, kit="another kit")
     yield "under another kit nothing is said", failing(with_other_digit(other, linked), made) == (set(), set(names))
+    changed = replace(written, sources="another sum")
+    yield "of other sources nothing is said", failing(with_other_digit(changed, linked), made) == (set(), set(names))
     relinked = replace(with_other_digit(with_other_digit(made, linked), object_), linked="a linker 2")
     yield "with another linker nothing is said of what it linked, and the object is compared", \
         failing(written, relinked) == ({object_}, {linked})

@@ -11,18 +11,20 @@ HEAD = """\
 # and where archives of a release were unpacked, sha256sum --ignore-missing -c reads it. docs/releases.md says more.
 """
 KIT = "# Proved, compiled, and for x86_64 linked, by: "
+SOURCES = "# Of the sources with this sum over crates.txt and crates/: "
 LINKED = "# gixcfg.o is what that kit gives for aarch64, and gixcfg was linked of it with: "
 
 
 @dataclass(frozen=True)
 class Sums:
-    """The kit's line, what linked the program for aarch64, and the sum of each file."""
+    """The kit's line, the sum of the sources, what linked the program for aarch64, and the sum of each file."""
     kit: str
+    sources: str
     linked: str
     files: dict
 
     def text(self):
-        lines = [HEAD.rstrip("\n"), KIT + self.kit]
+        lines = [HEAD.rstrip("\n"), KIT + self.kit, SOURCES + self.sources]
         is_told = False
         for name, sum in self.files.items():
             if "aarch64" in name and not is_told:
@@ -38,7 +40,7 @@ def read(text):
         return next((line.removeprefix(head) for line in text.splitlines() if line.startswith(head)), "")
 
     files = {name: sum for sum, name in re.findall(r"^([0-9a-f]{64})  (.+)$", text, re.MULTILINE)}
-    return Sums(told(KIT), told(LINKED), files)
+    return Sums(told(KIT), told(SOURCES), told(LINKED), files)
 
 
 def compare(wanted, got):
@@ -47,6 +49,10 @@ def compare(wanted, got):
     if got.kit != wanted.kit:
         for name in got.files:
             yield name, None, f"not compared: the sums are of the kit {wanted.kit!r}, and this is {got.kit!r}"
+        return
+    if got.sources != wanted.sources:
+        for name in got.files:
+            yield name, None, "not compared: the sums are of other sources; tools/dist --sums writes those of these, as each release has to"
         return
     for name, sum in got.files.items():
         stands = wanted.files.get(name)
