@@ -10,8 +10,8 @@ use Rattle.gitconf_state.specs.Editors.{editor_of_body}
 use Rattle.gitconf_state.specs.State.{State, with_items, with_sections}
 use Rattle.gitconf_text.specs.Part as parts
 use Rattle.gitconf_store.specs.Edits.{update_at}
-use Rattle.gitconf_lines.specs.declared.editor.Editor.{Editor}
-use Rattle.gitconf_lines.specs.Editors.{around_bytes, around_put, editor_in, leading_put, EditorFits}
+use Rattle.gitconf_body.specs.declared.editor.Editor.{Editor}
+use Rattle.gitconf_body.specs.Editors.{around_bytes, around_put, editor_in, leading_put, EditorFits}
 
 -- the state with a change of the items of the section at a place
 abbrev pub changed_at_place : (at : ℕ) → (List parts.Item → List parts.Item) → State → State

@@ -7,3 +7,6 @@ pub mod Alone
 pub mod AloneEditors
 pub mod Growth
 pub mod ItemMeanings
+pub mod Loading
+pub mod Moves
+pub mod Joining

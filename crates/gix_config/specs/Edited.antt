@@ -5,7 +5,7 @@ use Rattle.gitconf_text.specs.Names.{is_value_name}
 use Rattle.gitconf_state.specs.Edit.{with_used}
 use Rattle.gitconf_state.specs.Edits.{Edit, Push, PushAfterLast, SetValue, apply}
 use Rattle.gitconf_state.specs.State.{State}
-pub use Rattle.gitconf_lines.specs.ValueErrors.{edit_numbers, value_number}
+pub use Rattle.gitconf_body.specs.ValueErrors.{edit_numbers, value_number}
 use Rattle.gix_config.specs.Puts.{put_bytes}
 
 -- a section has the number

@@ -23,14 +23,14 @@ mod values;
 mod white_space;
 
 use bstr::BString;
-use gitconf_base::key::AsKey;
-pub use gitconf_base::meta::Metadata;
 pub use gitconf_includes::includes;
 pub use gitconf_items::events::ItemEvents;
 use gitconf_items::sink::{Sink, SinkFault};
 use gitconf_parse::events::Events;
 use gitconf_parse::input::check_len;
 use gitconf_read::error::Error;
+use gitconf_sources::key::AsKey;
+pub use gitconf_sources::meta::Metadata;
 use gitconf_store::store::Store;
 pub use gitconf_store::{rename_section, set_raw_value};
 pub use gitconf_table::table::SectionId;
@@ -76,8 +76,8 @@ impl File {
     ghost use Rattle.gitconf_text.specs.Part.{Part};
     ghost use Rattle.gitconf_text.specs.Token.{tokens_of, spelled_token};
     ghost use Rattle.gitconf_text.specs.Names.{is_value_name};
-    ghost use Rattle.gitconf_base.specs.Key.{the_key};
-    ghost use Rattle.gitconf_base.specs.Metadata.{Meta, api_meta};
+    ghost use Rattle.gitconf_sources.specs.Key.{the_key};
+    ghost use Rattle.gitconf_sources.specs.Metadata.{Meta, api_meta};
     ghost use Rattle.gitconf_items.specs.EventList.{IsSelected, IsWhole};
     ghost use Rattle.gitconf_read.specs.EventResult.{IsRefused};
     ghost use Rattle.gitconf_items.specs.ShownEvents.{shown_token};

@@ -9,3 +9,8 @@ pub mod Messages
 pub mod Opened
 pub mod Sections
 pub mod Texts
+pub mod Blocks
+pub mod Columns
+pub mod EntryPlaces
+pub mod Held
+pub mod Keys

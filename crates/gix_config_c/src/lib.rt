@@ -5,14 +5,21 @@
 #![tactic(auto)]
 
 mod appending;
+pub mod block;
 mod editing;
 mod entries;
+pub mod entry;
+pub mod fault;
 mod files;
+pub mod key;
 mod lists;
 mod look_ups;
+pub mod object;
 mod opening;
+mod parts;
 mod sections;
 mod setting;
+pub mod slot;
 mod texts;
 
 /// The call is done.

@@ -2,10 +2,10 @@
 ghost use Rattle.std.specs.Prelude.{◌≡◌, None};
 ghost use Rattle.gix_config_c.specs.Lists.{IsAt, IsLength, IsTextAt};
 
+use crate::block::Span;
+use crate::object::Object;
+use crate::slot::Slot;
 use crate::{DONE, NOTHING_THERE, WRONG_HANDLE};
-use gitconf_handles::block::Span;
-use gitconf_handles::object::Object;
-use gitconf_handles::slot::Slot;
 use std::alloc::Global;
 
 /// Tells how many texts or entries are in a list: 0 if the handle has no list.

@@ -1,7 +1,7 @@
 //! The program `gixcfg`: words and standard input in, an answer and an exit status out.
 #![tactic(auto)]
 
-use gitconf_disk::Process;
+use gitconf_sources::Process;
 use gix_config::NoMemory;
 use gix_config::host::{Env, EnvVar};
 use gix_config::refusals::Refusal;

@@ -1,9 +1,9 @@
 -- What is printed before an entry: its scope and where it comes from.
 -- Source: the manual page of `git-config`, `--show-scope` and `--show-origin`.
 use Rattle.std.specs.Prelude.{ℕ, Bool, true, List, [], ◌∷◌, ◌++◌, Option, Some, None, codes, if◌then◌else◌, string_bytes}
-use Rattle.gitconf_base.specs.Metadata.{Meta}
-use Rattle.gitconf_base.specs.declared.source.Source.{Source}
-use Rattle.gitconf_base.specs.declared.source.Source.TheVariants as sources
+use Rattle.gitconf_sources.specs.Metadata.{Meta}
+use Rattle.gitconf_sources.specs.declared.source.Source.{Source}
+use Rattle.gitconf_sources.specs.declared.source.Source.TheVariants as sources
 use Rattle.gixcfg_words.specs.declared.command.Form.{Form}
 use Rattle.gixcfg_words.specs.declared.command.Place.{Place}
 use Rattle.gixcfg_words.specs.declared.command.Place.TheVariants as places

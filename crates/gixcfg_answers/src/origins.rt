@@ -2,8 +2,8 @@
 ghost use Rattle.std.specs.Prelude.{◌≡◌, ◌++◌, ◌∷◌, [], IfOk, codes, if◌then◌else◌};
 ghost use Rattle.gixcfg_answers.specs.Origins as origins;
 
-use gitconf_base::meta::Metadata;
-use gitconf_base::source::Source;
+use gitconf_sources::meta::Metadata;
+use gitconf_sources::source::Source;
 use gitconf_text::NoMemory;
 use gixcfg_words::command::{Form, Place};
 use std::alloc::Global;

@@ -1,10 +1,8 @@
 //! Where the files are that git reads.
 
-use gitconf_base::meta::Metadata;
-use gitconf_base::source::{Source, Trust};
-use gitconf_disk::Process;
-use gitconf_host::{Env, EnvVar, Places};
-use gitconf_places::StorageLocation;
+use gitconf_sources::meta::Metadata;
+use gitconf_sources::source::{Source, Trust};
+use gitconf_sources::{Env, EnvVar, Places, Process, StorageLocation};
 use gitconf_text::NoMemory;
 use std::alloc::{AllocGlobal, Global};
 use std::rc::Rc;

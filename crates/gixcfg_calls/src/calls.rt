@@ -6,7 +6,7 @@ use crate::differing::diff;
 use crate::edits::{Edit, carry_out};
 use crate::layouts::fmt;
 use crate::program::{run, usage};
-use gitconf_disk::Process;
+use gitconf_sources::Process;
 use gitconf_text::NoMemory;
 use gixcfg_answers::origins::Located;
 use gixcfg_answers::outside::{Inputs, Outside};

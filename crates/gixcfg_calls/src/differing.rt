@@ -3,8 +3,8 @@ ghost use Rattle.std.specs.Prelude.{◌≤◌, IfErr};
 
 use crate::named::file_at;
 use bstr::BString;
-use gitconf_differences::{Difference, Side, differences};
 use gitconf_items::event_ref::EventRef;
+use gix_config::diff::{Difference, Side, differences};
 use gix_config::{File, NoMemory};
 use gixcfg_answers::lines::{Line, add_entry};
 use gixcfg_answers::names::add_names;

@@ -1,7 +1,7 @@
 //! `get` of the last value of a key in one text, which is looked up without a file: one pass over the bytes.
 
 use bstr::BString;
-use gitconf_lookup::lookup::values_in;
+use gitconf_parse::lookup::values_in;
 use gix_config::KeyRef;
 use gixcfg_answers::lines::{Line, add_entry};
 use gixcfg_answers::origins::Located;

@@ -1,7 +1,7 @@
 //! Loads of the disk's files and the process's variables. Nothing else of the program names the system.
 
 use crate::loads::Loads;
-use gitconf_disk::{Disk, Process};
+use gitconf_sources::{Disk, Process};
 use gix_config::File;
 use gix_config::file::Metadata;
 use gix_config::file::init::{self, from_env, from_paths};

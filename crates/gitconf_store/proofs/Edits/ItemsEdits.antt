@@ -15,8 +15,8 @@ use Rattle.gitconf_state.specs.Editors.{editor_of_body, written_at, InsteadOf}
 use Rattle.gitconf_state.specs.State.{is_item, with_items, SectionState}
 use Rattle.gitconf_state.proofs.Edits.EditorItems.{written_at_is}
 use Rattle.gitconf_state.proofs.Edits.Items.{spacing_fits}
-use Rattle.gitconf_lines.specs.Places.{IsLastPlace}
-use Rattle.gitconf_lines.proofs.Places.{any_shown}
+use Rattle.gitconf_body.specs.Places.{IsLastPlace}
+use Rattle.gitconf_body.proofs.Places.{any_shown}
 use Rattle.gitconf_body.proofs.Taken.{some_old}
 use Rattle.gitconf_store.specs.Edits.{update_at}
 

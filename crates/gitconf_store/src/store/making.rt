@@ -1,7 +1,7 @@
 //! Making sections.
 use crate::store::Store;
+use gitconf_body::blanks::Blanks;
 use gitconf_body::section;
-use gitconf_lines::blanks::Blanks;
 use gitconf_table::table::SectionId;
 use gitconf_text::NoMemory;
 use gitconf_text::parse::section::header::{Error, validate};

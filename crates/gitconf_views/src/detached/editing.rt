@@ -3,16 +3,15 @@ ghost use Rattle.std.specs.Prelude.{◌≡◌, IfOk};
 
 use crate::detached::Section;
 use crate::section::trusted;
-use gitconf_base::source::Trust;
+use gitconf_body::editor::Editor;
 use gitconf_body::heading::put_header;
-use gitconf_body::{marked, set, take_out};
-use gitconf_lines::editor::Editor;
-use gitconf_lines::{push, push_below};
+use gitconf_body::{marked, push, push_below, set, take_out};
+use gitconf_print::line_end::body_line_end;
+use gitconf_sources::source::Trust;
 use gitconf_text::NoMemory;
 use gitconf_text::line_end::LineEnd;
 use gitconf_text::parse::section::header;
 use gitconf_text::parse::span;
-use gitconf_write::line_end::body_line_end;
 
 impl Section {
     ghost use Rattle.std.specs.Option.{option_copied};
@@ -24,11 +23,11 @@ impl Section {
     ghost use Rattle.gitconf_state.specs.Edits.{renamed, with_trust, IsEditor};
     ghost use Rattle.gitconf_state.specs.LineEnds.{section_line_end};
     ghost use Rattle.gitconf_text.specs.LineEnds.{bytes_of_line_end};
-    ghost use Rattle.gitconf_lines.specs.Below.{below_put};
-    ghost use Rattle.gitconf_lines.specs.Editors.{line_put, set_put};
+    ghost use Rattle.gitconf_body.specs.Below.{below_put};
+    ghost use Rattle.gitconf_body.specs.Editors.{line_put, set_put};
     ghost use Rattle.gitconf_views.specs.Alone.{is_refusal_of_header, with_items};
     ghost use Rattle.gitconf_views.specs.Growth.{UsedGrows};
-    ghost use Rattle.gitconf_lines.specs.Blanks.{given_editor, IsGiven};
+    ghost use Rattle.gitconf_body.specs.Blanks.{given_editor, IsGiven};
 
     /// The line ending that its editor writes: that of its body's first newline, or LF. It stops at the first one.
     pub fn line_end(&self) -> LineEnd

@@ -3,8 +3,8 @@ use Rattle.std.specs.List.{list_any}
 use Rattle.gitconf_items.specs.Items.{item_of, items_of}
 use Rattle.gitconf_state.specs.Edit.{is_entry_of}
 use Rattle.gitconf_state.proofs.Edits.Places.{old_value_none}
-use Rattle.gitconf_lines.specs.Places.{IsLastAt}
-use Rattle.gitconf_lines.proofs.Places.{any_shown}
+use Rattle.gitconf_body.specs.Places.{IsLastAt}
+use Rattle.gitconf_body.proofs.Places.{any_shown}
 use Rattle.gitconf_body.proofs.Taken.{removed_none, some_old}
 use Rattle.gitconf_body.proofs.take_out.remove.Goals as goal
 

@@ -8,7 +8,7 @@ use Rattle.gitconf_items.specs.Items.{items_of}
 use Rattle.gitconf_sections.specs.Section.{Section, with_items, viewed}
 use Rattle.gitconf_sections.proofs.Edits.{is_taken, taken_within}
 use Rattle.gitconf_views.specs.Store.{section_state, state_of, StoreFits}
-use Rattle.gitconf_entries.proofs.Outcomes.{either_way, if_ok, on_err, on_ok}
+use Rattle.gitconf_body.proofs.Outcomes.{either_way, if_ok, on_err, on_ok}
 use Rattle.gitconf_store.proofs.Edits.Editing.{as_err, items_within_at, same_items, unchanged_there}
 use Rattle.gitconf_store.proofs.Edits.Setting.{asked_at, changed_keeps, changed_view, kept_view, HasOthers}
 use Rattle.gitconf_store.proofs.store.Store.edit_items_at.Goals as goal

@@ -6,11 +6,11 @@ use Rattle.gitconf_views.specs.Store.{section_state}
 use Rattle.gitconf_items.specs.Moves.{AreItemsMoved}
 use Rattle.gitconf_text.specs.LineEnds.{bytes_of_line_end}
 use Rattle.gitconf_store.specs.Appends.{bytes_at, line_at, put_at}
-use Rattle.gitconf_joining.specs.Moves.{AreSectionsMoved}
+use Rattle.gitconf_views.specs.Moves.{AreSectionsMoved}
 use Rattle.gitconf_store.proofs.Files.AppendedFiles.{by_result, moved_count, movable, neither, not_refused, put_fits, put_state, same_fits, same_state, two_err}
 use Rattle.gitconf_store.proofs.Files.Appending.{items_up, two_ok}
 use Rattle.gitconf_store.proofs.Headers.Making.{longer_fits, longer_state}
-use Rattle.gitconf_entries.proofs.Outcomes.{if_err_at_all}
+use Rattle.gitconf_body.proofs.Outcomes.{if_err_at_all}
 use Rattle.gitconf_store.proofs.store.Store.put_at.Goals as goal
 
 pub invariant_of-self : goal.invariant_of-self

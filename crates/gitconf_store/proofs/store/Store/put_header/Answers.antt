@@ -7,7 +7,7 @@ use Rattle.gitconf_state.specs.Edit.{made_header}
 use Rattle.gitconf_views.specs.Store.{state_of}
 use Rattle.gitconf_store.proofs.Headers.Making.{longer_fits, longer_state}
 use Rattle.gitconf_store.proofs.Headers.Renaming.{IsHeaded, both_at, named_length, places_there, renamed_fits, renamed_state}
-use Rattle.gitconf_entries.proofs.Outcomes.{if_err_at_all}
+use Rattle.gitconf_body.proofs.Outcomes.{if_err_at_all}
 use Rattle.gitconf_store.proofs.store.Store.put_header.Goals as goal
 
 pub invariant_of-self : goal.invariant_of-self

@@ -4,11 +4,11 @@ use Rattle.gitconf_state.specs.Editors.{popped, popped_entry}
 use Rattle.gitconf_state.proofs.Edits.EditorItems.{popped_all}
 use Rattle.gitconf_state.specs.State.{is_item}
 use Rattle.gitconf_items.specs.Items.{items_of}
-use Rattle.gitconf_lines.proofs.Buffers.{same_extended}
+use Rattle.gitconf_body.proofs.Buffers.{same_extended}
 use Rattle.gitconf_views.specs.declared.section.Section.{Section}
 use Rattle.gitconf_views.proofs.AloneEdits.{HasOwn, edited_alone, kept_alone, stands_still}
 use Rattle.gitconf_views.proofs.PoppedKeys.{key_named}
-use Rattle.gitconf_entries.proofs.Outcomes.{on_ok, on_err, either_way}
+use Rattle.gitconf_body.proofs.Outcomes.{on_ok, on_err, either_way}
 use Rattle.gitconf_views.proofs.detached.Section.pop_entry.Goals as goal
 
 pub returns-clause-ok : goal.returns-clause-ok

@@ -6,13 +6,13 @@ use Rattle.gitconf_state.specs.Edits.{Detached}
 use Rattle.gitconf_state.proofs.Edits.EditorItems.{pushed_after_last_is}
 use Rattle.gitconf_items.specs.Items.{items_of}
 use Rattle.gitconf_views.specs.declared.section.Section.{Section}
-use Rattle.gitconf_lines.specs.Below.{below_put}
-use Rattle.gitconf_lines.specs.Blanks.{given_editor}
+use Rattle.gitconf_body.specs.Below.{below_put}
+use Rattle.gitconf_body.specs.Blanks.{given_editor}
 use Rattle.gitconf_views.specs.Alone.{detached_of, with_items}
 use Rattle.gitconf_views.specs.Growth.{UsedGrows}
 use Rattle.gitconf_views.proofs.AloneEdits.{HasOwn, edited_alone, kept_alone, stands_still}
 use Rattle.gitconf_views.proofs.GivenEditors.{given_fits, given_same}
-use Rattle.gitconf_entries.proofs.Outcomes.{on_ok, on_err, either_way}
+use Rattle.gitconf_body.proofs.Outcomes.{on_ok, on_err, either_way}
 use Rattle.gitconf_views.proofs.detached.Section.push_entry_after_last.Goals as goal
 
 pub push_after_last-requires-clause-fits : goal.push_after_last-requires-clause-fits

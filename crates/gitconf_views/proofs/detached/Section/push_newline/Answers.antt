@@ -3,9 +3,9 @@ use Rattle.gitconf_state.specs.Editors.{line_end_pushed}
 use Rattle.gitconf_state.proofs.Edits.EditorItems.{line_end_pushed_is}
 use Rattle.gitconf_items.specs.Items.{items_of}
 use Rattle.gitconf_views.specs.declared.section.Section.{Section}
-use Rattle.gitconf_lines.specs.Blanks.{given_editor}
+use Rattle.gitconf_body.specs.Blanks.{given_editor}
 use Rattle.gitconf_views.proofs.AloneEdits.{HasOwn, edited_alone, kept_alone, stands_still}
-use Rattle.gitconf_entries.proofs.Outcomes.{on_ok, on_err, either_way}
+use Rattle.gitconf_body.proofs.Outcomes.{on_ok, on_err, either_way}
 use Rattle.gitconf_views.proofs.detached.Section.push_newline.Goals as goal
 
 pub returns-clause-ok : goal.returns-clause-ok

@@ -5,11 +5,11 @@ use Rattle.gitconf_state.specs.Edits.{Detached}
 use Rattle.gitconf_state.proofs.Edits.EditorItems.{removed_marked_all}
 use Rattle.gitconf_state.specs.State.{is_item}
 use Rattle.gitconf_items.specs.Items.{items_of}
-use Rattle.gitconf_lines.proofs.Buffers.{same_extended}
+use Rattle.gitconf_body.proofs.Buffers.{same_extended}
 use Rattle.gitconf_views.specs.declared.section.Section.{Section}
 use Rattle.gitconf_views.specs.Alone.{detached_of, with_items}
 use Rattle.gitconf_views.proofs.AloneEdits.{HasOwn, edited_alone, kept_alone, stands_still}
-use Rattle.gitconf_entries.proofs.Outcomes.{on_ok, on_err, either_way}
+use Rattle.gitconf_body.proofs.Outcomes.{on_ok, on_err, either_way}
 use Rattle.gitconf_views.proofs.detached.Section.remove_marked_entries.Goals as goal
 
 pub returns-clause-ok : goal.returns-clause-ok

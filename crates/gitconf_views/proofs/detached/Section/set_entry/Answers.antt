@@ -6,11 +6,11 @@ use Rattle.gitconf_state.proofs.Edits.EditorItems.{value_set_is}
 use Rattle.gitconf_items.specs.Items.{items_of}
 use Rattle.gitconf_views.specs.declared.section.Section.{Section}
 use Rattle.gitconf_views.specs.Alone.{whole, with_items}
-use Rattle.gitconf_lines.specs.Blanks.{given_editor}
+use Rattle.gitconf_body.specs.Blanks.{given_editor}
 use Rattle.gitconf_views.specs.Store.{section_under}
 use Rattle.gitconf_views.proofs.AloneEdits.{HasOwn, edited_alone, kept_alone, stands_still}
 use Rattle.gitconf_views.proofs.GivenEditors.{given_fits, given_same}
-use Rattle.gitconf_entries.proofs.Outcomes.{on_ok, on_err, either_way}
+use Rattle.gitconf_body.proofs.Outcomes.{on_ok, on_err, either_way}
 use Rattle.gitconf_views.proofs.detached.Section.set_entry.Goals as goal
 
 pub set-requires-clause-fits : goal.set-requires-clause-fits

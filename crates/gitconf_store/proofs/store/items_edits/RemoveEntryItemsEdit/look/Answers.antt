@@ -2,7 +2,7 @@ use Rattle.std.proofs.Common.{rules, ◌≡◌, sym, ◌∙◌}
 use Rattle.gitconf_items.specs.Items.{item_of, items_of}
 use Rattle.gitconf_state.specs.Edit.{is_entry_of}
 use Rattle.gitconf_state.proofs.Edits.Places.{old_value_none}
-use Rattle.gitconf_lines.specs.Places.{IsLastPlace}
+use Rattle.gitconf_body.specs.Places.{IsLastPlace}
 use Rattle.gitconf_body.proofs.Taken.{removed_none}
 use Rattle.gitconf_store.proofs.Edits.ItemsEdits.{none_where, value_where}
 use Rattle.gitconf_store.proofs.store.items_edits.RemoveEntryItemsEdit.look.Goals as goal
