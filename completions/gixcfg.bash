@@ -28,11 +28,11 @@ _gixcfg() {
         case $command:$word in
         :-*) words="--version -h --help" ;;
         get:-*) words="$places $values $shown --all --regexp --url --default -h --help" ;;
-        set:-*) words="$places $values --all --append -t --type --comment -h --help" ;;
-        unset:-*) words="$places $values --all -h --help" ;;
+        set:-*) words="$places $values --all --append -t --type --comment --no-sync -h --help" ;;
+        unset:-*) words="$places $values --all --no-sync -h --help" ;;
         list:-*) words="$places $shown -h --help" ;;
-        rename-section:-* | remove-section:-*) words="$places -h --help" ;;
-        fmt:-*) words="$places --check --indent --newline -h --help" ;;
+        rename-section:-* | remove-section:-*) words="$places --no-sync -h --help" ;;
+        fmt:-*) words="$places --check --indent --newline --no-sync -h --help" ;;
         check:-*) words="-q --quiet --lenient -h --help" ;;
         diff:-*) words="-q --quiet -z --null -h --help" ;;
         help:-*) words="-h --help" ;;

@@ -59,6 +59,7 @@ complete -c gixcfg -n '__gixcfg_is get set unset' -l fixed-value -d 'Only values
 complete -c gixcfg -n '__gixcfg_is set' -l all -d 'One entry in place of all of the key'
 complete -c gixcfg -n '__gixcfg_is set' -l append -d 'One more entry of the key'
 complete -c gixcfg -n '__gixcfg_is set' -l comment -x -d 'A comment after the value'
+complete -c gixcfg -n '__gixcfg_is set unset rename-section remove-section fmt' -l no-sync -d 'Do not write the new file down to the disk first'
 complete -c gixcfg -n '__gixcfg_is unset' -l all -d 'All entries of the key'
 complete -c gixcfg -n '__gixcfg_is fmt' -l check -d 'Write nothing, and say whether the file is laid out'
 complete -c gixcfg -n '__gixcfg_is fmt' -l indent -xa 'tabs:1 spaces:2 spaces:4 spaces:8' -d 'What comes before an entry'

@@ -47,7 +47,9 @@ class Words:
     @staticmethod
     def _options(text, named):
         """Each command with the words of its options, but for those that only git has, and for types as options of their own."""
-        spelled = [(option, [f"--{long}"] + ([f"-{short}"] if short else []) + (["--no-includes"] if long == "includes" else []))
+        # (what is done without an option is completed as it is taken back)
+        spelled = [(option, (["--no-sync"] if long == "sync" else [f"--{long}"]) + ([f"-{short}"] if short else [])
+                    + (["--no-includes"] if long == "includes" else []))
                    for long, short, option in re.findall(r'\("([\w-]+)", (?:None|Some\(\'(.)\'\)), (Opt::.*)\),\n', _table(text, "OPTIONS"))
                    if not option.startswith(("Opt::Alone", "Opt::Kind"))]
         taken = dict(re.findall(r"^        Verb::([\w: |]+) => \{?(.*?)(?=^        Verb|^    \})", _body(text, "takes"), re.MULTILINE | re.DOTALL))

@@ -14,7 +14,7 @@ use gixcfg_answers::outside::{Inputs, Outside, accepted};
 use gixcfg_answers::streams::put;
 use gixcfg_answers::trouble::{Trouble, of_number};
 use gixcfg_answers::typed::stored;
-use gixcfg_files::{Fault, Place, Replaced};
+use gixcfg_files::{Fault, Place, Replaced, Replacement};
 use gixcfg_words::command::{Fmt, Placing, Removal, Renaming, Set, Unset};
 use gixcfg_words::keys::Names;
 use std::alloc::{AllocGlobal, Global};
@@ -29,6 +29,19 @@ pub enum Edit<'a> {
     RenameSection(&'a Renaming<'a>),
     RemoveSection(&'a Removal<'a>),
     Fmt(&'a Fmt<'a>),
+}
+
+impl Edit<'_> {
+    /// Whether the new text of a file is written down to the disk.
+    fn is_synced(self) -> bool {
+        match self {
+            Edit::Set(set) => set.is_synced,
+            Edit::Unset(unset) => unset.is_synced,
+            Edit::RenameSection(renaming) => renaming.is_synced,
+            Edit::RemoveSection(removal) => removal.is_synced,
+            Edit::Fmt(fmt) => fmt.is_synced,
+        }
+    }
 }
 
 /// How often an edit is begun at most of a file that others change meanwhile.
@@ -83,7 +96,14 @@ fn edit_once<R: Files + AllocGlobal, E: Write>(
     let place = Place::find(rt, path)?;
     let before = place.read()?;
     match new_text(rt.alloc(), before.as_deref(), edit, path, outside)? {
-        Some(text) => Ok(place.replace(before.as_deref(), &text, err)?),
+        Some(text) => {
+            let new = Replacement {
+                before: before.as_deref(),
+                text: &text,
+                is_synced: edit.is_synced(),
+            };
+            Ok(place.replace(&new, err)?)
+        }
         None => Ok(Replaced::Done),
     }
 }

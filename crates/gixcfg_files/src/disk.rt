@@ -21,15 +21,14 @@ pub fn make<R: Files>(files: &R, path: &str, mode: u32) -> io::Result<R::File> {
     options.open(files, path)
 }
 
-/// Writes a text down to the disk.
+/// Writes a text to a file.
 ///
 /// # Errors
 ///
-/// The text can't be written, or not down to the disk.
-pub fn put_down<F: Write + OpenFile>(file: &mut F, text: &[u8]) -> io::Result<()> {
+/// The text can't be written.
+pub fn put_in<F: Write>(file: &mut F, text: &[u8]) -> io::Result<()> {
     file.write_all(text)?;
-    file.flush()?;
-    file.sync_all()
+    file.flush()
 }
 
 /// Gives a file another path, in place of what is there.
@@ -99,11 +98,16 @@ pub fn names_in<R: Files + AllocGlobal>(files: &R, folder: &str) -> io::Result<V
     Ok(names)
 }
 
-/// Writes down to the disk which files a folder has.
+/// Writes down to the disk which files a folder has. That takes memory for its path; if there is none it is tried again, since the file has
+/// its new text already.
 ///
 /// # Errors
 ///
 /// The folder can't be opened, or not be written down.
-pub fn sync_folder<R: Files>(files: &R, folder: &str) -> io::Result<()> {
-    fs::open(files, folder)?.sync_all()
+pub fn sync_folder<R: Files + AllocGlobal>(files: &R, folder: &str) -> io::Result<()> {
+    let opened = match fs::open(files, folder) {
+        Err(error) if error.kind() == ErrorKind::OutOfMemory => fs::open(files, folder),
+        opened => opened,
+    };
+    opened?.sync_all()
 }

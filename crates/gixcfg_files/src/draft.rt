@@ -1,33 +1,20 @@
 //! The new text of a file, in a file beside it.
 
-use crate::disk::{give, look, make, put_down, remove, rename};
-use crate::fault::Fault;
-use crate::left::remove_left;
-use crate::paths::draft_of;
+use crate::disk::{give, look};
 use crate::rights::Rights;
-use std::alloc::AllocGlobal;
 use std::fs::{Metadata, OpenFile, Permissions};
-use std::io::{ErrorKind, Write};
+use std::io;
 use std::os::unix::fs::{MetadataExt, PermissionsExt};
 use std::rt::Files;
-
-/// The rights of a draft in which nobody else may read before it has those of its file.
-const HIDDEN: u32 = 0o600;
-
-/// The rights of a new file, of which the process's mask takes some.
-const NEW: u32 = 0o666;
-
-/// What a draft is called by where the number of its process isn't known.
-const UNKNOWN: &str = "0";
 
 /// The bits of a mode that give nobody the rights of the file's owner or group.
 const PLAIN: u32 = 0o777;
 
-/// The draft of a file's new text: a file beside it, made by nobody else. If it is dropped before it is renamed it is removed.
-pub struct Draft<'a, R: Files + AllocGlobal> {
-    files: &'a R,
-    path: String,
-    file: R::File,
+/// The draft of a file's new text: an open file that was made beside it.
+#[derive(Drop)]
+pub struct Draft<F: Drop> {
+    /// The file.
+    pub file: F,
     /// What was said of it when it was made.
     made: Metadata,
 }
@@ -41,75 +28,39 @@ pub enum Owner {
     Lost,
 }
 
-impl<'a, R: Files + AllocGlobal> Draft<'a, R> {
-    /// Makes an empty draft of the file at a path, for the process of a number if that is known. Nobody else may read it before it has the
-    /// rights of the file, if there is one. A draft of that number was left by a process before, and is removed, which is told.
+impl<F: OpenFile + Drop> Draft<F> {
+    /// The draft that a file is which was made.
     ///
     /// # Errors
     ///
-    /// It can't be made; there is one that can't be removed, or may be another process's, since no number is known; out of memory. No draft is
-    /// left.
-    pub fn new<E: Write>(
-        files: &'a R,
-        path: &str,
-        number: Option<&str>,
-        rights: Option<Rights>,
-        err: &mut E,
-    ) -> Result<Draft<'a, R>, Fault> {
-        let path = draft_of(files.alloc(), path, number.unwrap_or(UNKNOWN))?;
-        let mode = if rights.is_some() { HIDDEN } else { NEW };
-        let made = match make(files, path.as_str(), mode) {
-            Err(error) if error.kind() == ErrorKind::AlreadyExists && number.is_some() => {
-                remove_left(files, path.as_str(), err);
-                make(files, path.as_str(), mode)
-            }
-            made => made,
-        };
-        match made {
-            Ok(file) => Draft::of(files, path, file),
-            Err(error) if error.kind() == ErrorKind::AlreadyExists => Err(Fault::Locked(path)),
-            Err(error) => Err(Fault::unwritten(error)),
-        }
+    /// It can't be looked at.
+    pub fn new(file: F) -> io::Result<Draft<F>> {
+        let made = file.metadata()?;
+        Ok(Draft { file, made })
     }
 
-    /// The draft that a file is which was made.
-    fn of(files: &'a R, path: String, file: R::File) -> Result<Draft<'a, R>, Fault> {
-        match file.metadata() {
-            Ok(made) => Ok(Draft {
-                files,
-                path,
-                file,
-                made,
-            }),
-            Err(error) => {
-                let _ = remove(files, path.as_str());
-                Err(Fault::unwritten(error))
-            }
-        }
-    }
-
-    /// Gives the draft what its file has, before there is any text in it: the owner and the group, as far as the process may, and the
-    /// mode. Of the mode it gets only who may read, write and run it where it is somebody else's.
+    /// Gives the draft at a path what its file has, before there is any text in it: the owner and the group, as far as the process may, and
+    /// the mode. Of the mode it gets only who may read, write and run it where it is somebody else's.
     ///
     /// # Errors
     ///
     /// The mode can't be given.
-    pub fn take(&self, rights: Rights) -> Result<Owner, Fault> {
-        let owner = self.take_owner(rights);
+    pub fn take<R: Files>(&self, files: &R, path: &str, rights: Rights) -> io::Result<Owner> {
+        let owner = self.take_owner(files, path, rights);
         let mode = match owner {
             Owner::Kept => rights.mode,
             Owner::Lost => rights.mode & PLAIN,
         };
-        match self.file.set_permissions(Permissions::from_mode(mode)) {
-            Ok(()) => Ok(owner),
-            Err(error) => Err(Fault::unwritten(error)),
-        }
+        self.file.set_permissions(Permissions::from_mode(mode))?;
+        Ok(owner)
     }
 
-    /// Gives the draft a group, and then an owner, if it has others.
-    fn take_owner(&self, rights: Rights) -> Owner {
-        let has_group = rights.group == self.made.gid() || self.is_given(None, Some(rights.group));
-        let has_owner = rights.owner == self.made.uid() || self.is_given(Some(rights.owner), None);
+    /// Gives the draft at a path a group, and then an owner, if it has others.
+    fn take_owner<R: Files>(&self, files: &R, path: &str, rights: Rights) -> Owner {
+        let has_group = rights.group == self.made.gid()
+            || self.is_given(files, path, None, Some(rights.group));
+        let has_owner = rights.owner == self.made.uid()
+            || self.is_given(files, path, Some(rights.owner), None);
         if has_group && has_owner {
             Owner::Kept
         } else {
@@ -117,74 +68,28 @@ impl<'a, R: Files + AllocGlobal> Draft<'a, R> {
         }
     }
 
-    /// Whether the draft could be given another owner or group. That goes by its path, so it is looked first whether it is there still: root may
-    /// edit in a folder of somebody who puts another file there.
-    fn is_given(&self, owner: Option<u32>, group: Option<u32>) -> bool {
-        matches!(self.is_there(), Ok(true))
-            && give(self.files, self.path.as_str(), owner, group).is_ok()
+    /// Whether the draft at a path could be given another owner or group. It is looked first whether it is there still: root may edit in a
+    /// folder of somebody who puts another file there.
+    fn is_given<R: Files>(
+        &self,
+        files: &R,
+        path: &str,
+        owner: Option<u32>,
+        group: Option<u32>,
+    ) -> bool {
+        matches!(self.is_at(files, path), Ok(true)) && give(files, path, owner, group).is_ok()
     }
 
-    /// Writes a text to the draft, down to the disk.
-    ///
-    /// # Errors
-    ///
-    /// The text can't be written; out of memory.
-    pub fn write(&mut self, text: &[u8]) -> Result<(), Fault> {
-        match put_down(&mut self.file, text) {
-            Ok(()) => Ok(()),
-            Err(error) => Err(Fault::unwritten(error)),
-        }
-    }
-
-    /// Whether what is at the draft's path is the draft still. Where processes don't see each other, as in two containers with a folder in
-    /// common, two may have the same number, and one may take the other's draft for one that was left.
+    /// Whether what is at a path is the draft still. Where processes don't see each other, as in two containers with a folder in common, two
+    /// may have the same number, and one may take the other's draft for one that was left.
     ///
     /// # Errors
     ///
     /// It can't be looked at; out of memory.
-    pub fn is_there(&self) -> Result<bool, Fault> {
-        match look(self.files, self.path.as_str()) {
-            Ok(Some(found)) => Ok(found.ino() == self.made.ino() && found.dev() == self.made.dev()),
-            Ok(None) => Ok(false),
-            Err(error) => Err(Fault::unwritten(error)),
+    pub fn is_at<R: Files>(&self, files: &R, path: &str) -> io::Result<bool> {
+        match look(files, path)? {
+            Some(found) => Ok(found.ino() == self.made.ino() && found.dev() == self.made.dev()),
+            None => Ok(false),
         }
-    }
-
-    /// Puts the draft in place of the file at a path.
-    ///
-    /// # Errors
-    ///
-    /// It can't be renamed. The draft is removed.
-    pub fn rename(self, path: &str) -> Result<(), Fault> {
-        match rename(self.files, self.path.as_str(), path) {
-            Ok(()) => {
-                self.forget();
-                Ok(())
-            }
-            Err(error) => Err(Fault::unwritten(error)),
-        }
-    }
-
-    /// Lets go of a draft that is at its path no more.
-    pub fn forget(self) {
-        let Draft {
-            files: _,
-            path: _,
-            file: _,
-            made: _,
-        } = self;
-    }
-}
-
-impl<R: Files + AllocGlobal> Drop for Draft<'_, R> {
-    /// Removes the draft. That it can't be removed is reported to nobody: the next edit removes it.
-    fn drop(self) {
-        let Draft {
-            files,
-            path,
-            file: _,
-            made: _,
-        } = self;
-        let _ = remove(files, path.as_str());
     }
 }

@@ -26,6 +26,8 @@ pub enum Fault {
     Unread(io::Error),
     /// It can't be locked or written.
     Unwritten(io::Error),
+    /// It has its new text, but that isn't written down to the disk.
+    Unsynced(io::Error),
     /// Out of memory.
     Memory,
 }
@@ -74,6 +76,10 @@ impl fmt::Display for Fault {
             Fault::NoHome => f.write_str("HOME isn't set"),
             Fault::Unread(error) => write!(f, "not read: {error}"),
             Fault::Unwritten(error) => write!(f, "not written: {error}"),
+            Fault::Unsynced(error) => write!(
+                f,
+                "written, but a loss of power may undo that: {error}"
+            ),
             Fault::Memory => f.write_str("out of memory"),
         }
     }

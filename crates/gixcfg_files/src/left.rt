@@ -4,8 +4,9 @@ ghost use Rattle.gixcfg_files.specs.Paths.{number_after as number_after_lem};
 
 use crate::disk::{names_in, remove};
 use crate::fault::Fault;
-use crate::paths::{after, draft_of, folder_of, is_number, name_of};
+use crate::paths::{after, folder_of, is_number, name_of};
 use crate::process::is_running;
+use gixcfg_replacing::draft_of;
 use std::alloc::AllocGlobal;
 use std::io::{ErrorKind, Write};
 use std::rt::Files;

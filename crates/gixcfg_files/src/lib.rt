@@ -8,9 +8,9 @@
 mod disk;
 mod draft;
 mod fault;
+mod folder;
 mod left;
 mod links;
-mod lock;
 mod paths;
 mod place;
 mod places;
@@ -22,7 +22,7 @@ mod variables;
 
 pub use fault::Fault;
 pub use links::end_of_links;
-pub use place::{Place, Replaced};
+pub use place::{Place, Replaced, Replacement};
 pub use places::{system_file, user_file};
 pub use reading::read;
 pub use repository::{Repository, find_repository, repository_file};

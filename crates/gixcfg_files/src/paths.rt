@@ -30,28 +30,6 @@ pub fn other_file(alloc: Global, home: &str, folder: Option<&str>) -> Result<Str
     }
 }
 
-/// The path of the lock of a file.
-///
-/// # Errors
-///
-/// Out of memory.
-pub fn lock_of(alloc: Global, path: &str) -> Result<String, AllocError>
-    ensures { IfOk result (λ s. string_bytes s ≡ path.now ++ codes ".lock") }
-{
-    format!(in alloc; "{path}.lock")
-}
-
-/// The path of the draft that the process of a number makes of a file's new text.
-///
-/// # Errors
-///
-/// Out of memory.
-pub fn draft_of(alloc: Global, path: &str, number: &str) -> Result<String, AllocError>
-    ensures { IfOk result (λ s. string_bytes s ≡ path.now ++ codes ".gixcfg-" ++ number.now) }
-{
-    format!(in alloc; "{path}.gixcfg-{number}")
-}
-
 /// The path of the folder that a file is in, with a slash at its end; `./` for the working folder.
 ///
 /// # Errors

@@ -1,5 +1,5 @@
 -- What a call in memory leaves as it was.
-use Rattle.std.proofs.Common.{◌≡◌, ◌≢◌, inr, ⊎_elim, ℕ, ◌≤◌, Bool, true, false, List, [], ◌∷◌, ◌++◌, length, Option, None, Some, Vec, refl, sym, ◌∙◌, ap, subst, arith, if◌then◌else◌}
+use Rattle.std.proofs.Common.{◌≡◌, ◌≢◌, inr, ⊎_elim, ℕ, ◌≤◌, Bool, true, false, List, [], ◌∷◌, ◌++◌, length, Option, None, Some, option_map, Vec, refl, sym, ◌∙◌, ap, subst, arith, if◌then◌else◌}
 use Rattle.std.proofs.lemmas.Bool.{false_from_ne_true}
 use Rattle.std.proofs.lemmas.Slice.Eq.{bytes_eq-Decides}
 use Rattle.std.specs.declared.alloc.Global.{Global}
@@ -7,7 +7,7 @@ use Rattle.gixcfg_replacing.specs.Disk.{Name, Text, last_found, IsLeftAlone, IsR
 use Rattle.gixcfg_replacing.specs.Calls.{is_same, past, is_synced, may_hold, may_leave, left_since, counts_now}
 use Rattle.gixcfg_replacing.specs.Memory.{calls_of, faults_of, memory_disk, KeepsNone, KeepsCall}
 use Rattle.gixcfg_replacing.specs.declared.call.Call.{Call}
-use Rattle.gixcfg_replacing.specs.declared.call.Call.TheVariants.{Made, Written, Synced, Renamed, Removed, Settled}
+use Rattle.gixcfg_replacing.specs.declared.call.Call.TheVariants.{Made, Written, Synced, Renamed, Removed, Settled, Found, Fault}
 use Rattle.gixcfg_replacing.specs.declared.memory.Memory.{Memory}
 
 pub is_other : (at : Vec ℕ Global) (name n : Name) → at.items ≡ name → n ≢ name → is_same at.items n ≡ false
@@ -22,7 +22,7 @@ pub record Untouched (call : Call) (older : List Call) (n : Name) : Type 0 where
   pub holds : (text : Text) → may_hold (call ∷ older) n text → may_hold older n text
   pub leaves : (left : Option Text) → may_leave (call ∷ older) n left → may_leave older n left
 
-holds_so : (calls older : List Call) (n : Name) → past calls n ≡ past older n → is_synced calls n ≡ is_synced older n → (text : Text) → may_hold calls n text → may_hold older n text
+pub holds_so : (calls older : List Call) (n : Name) → past calls n ≡ past older n → is_synced calls n ≡ is_synced older n → (text : Text) → may_hold calls n text → may_hold older n text
 holds_so calls older n found synced text hold = λ is. sym (ap last_found found) ∙ hold (synced ∙ is)
 
 module _ (older : List Call) (n : Name) where
@@ -125,3 +125,5 @@ grows (Renamed from to) older n = go (is_same to.items n) (is_same from.items n)
     go false false = ([], refl)
 grows (Removed at) older n = grown (is_same at.items n) None (past older n)
 grows Settled older n = ([], refl)
+grows (Found at found) older n = grown (is_same at.items n) (option_map (λ text. text.items) found) (past older n)
+grows Fault older n = ([], refl)

@@ -1,5 +1,6 @@
 mod Ends
 mod InMemory
+mod Logging
 mod MemoryCalls
 mod Runs
 mod Whole

@@ -1,5 +1,6 @@
 pub mod Calls
 pub mod Disk
 pub mod Edit
+pub mod Logged
 pub mod Memory
 pub mod Steps

@@ -1,7 +1,7 @@
-//! The calls that were made on a folder in memory, the last one first, and what they come to.
+//! The calls that were made on a folder, the last one first, and what they come to.
 ghost use Rattle.std.specs.Prelude.{◌≡◌, Option, option_map};
 ghost use Rattle.gixcfg_replacing.specs.Disk.{last_found};
-ghost use Rattle.gixcfg_replacing.specs.Calls.{past, is_synced as is_synced_lem};
+ghost use Rattle.gixcfg_replacing.specs.Calls.{past, is_synced as is_synced_lem, is_ours as is_ours_lem};
 
 /// A call that changed a folder.
 #[derive(Drop)]
@@ -18,6 +18,10 @@ pub enum Call {
     Removed(Vec<u8>),
     /// The names were written down.
     Settled,
+    /// Others left this text at a name, or nothing.
+    Found(Vec<u8>, Option<Vec<u8>>),
+    /// A call failed.
+    Fault,
 }
 
 /// The text that readers find at a name after these calls.
@@ -25,32 +29,37 @@ pub fn seen<'a>(calls: &'a [Call], name: &'a [u8]) -> Option<&'a [u8]>
     ensures { option_map (λ text. text.now) result ≡ last_found (past calls.entry.now name.entry.now) }
 {
     let mut rest = calls;
-    let mut at = name;
+    let mut sought = name;
     while let Some((call, older)) = rest.split_first() {
         match call {
             Call::Made(made) => {
-                if made.as_slice() == at {
+                if made.as_slice() == sought {
                     return Some(&[]);
                 }
             }
             Call::Written(written, text) => {
-                if written.as_slice() == at {
+                if written.as_slice() == sought {
                     return Some(text.as_slice());
                 }
             }
             Call::Renamed(from, to) => {
-                if to.as_slice() == at {
-                    at = from.as_slice();
-                } else if from.as_slice() == at {
+                if to.as_slice() == sought {
+                    sought = from.as_slice();
+                } else if from.as_slice() == sought {
                     return None;
                 }
             }
             Call::Removed(removed) => {
-                if removed.as_slice() == at {
+                if removed.as_slice() == sought {
                     return None;
                 }
             }
-            Call::Synced(_) | Call::Settled => {}
+            Call::Found(at, found) => {
+                if at.as_slice() == sought {
+                    return found.as_deref();
+                }
+            }
+            Call::Synced(_) | Call::Settled | Call::Fault => {}
         }
         rest = older;
     }
@@ -85,7 +94,40 @@ pub fn is_synced(calls: &[Call], name: &[u8]) -> bool
                     at = from.as_slice();
                 }
             }
-            Call::Removed(_) | Call::Settled => {}
+            Call::Found(found, _) => {
+                if found.as_slice() == at {
+                    return false;
+                }
+            }
+            Call::Removed(_) | Call::Settled | Call::Fault => {}
+        }
+        rest = older;
+    }
+    false
+}
+
+/// Whether a name is ours after these calls: a file was made there, and not removed or renamed since.
+pub fn is_ours(calls: &[Call], name: &[u8]) -> bool
+    ensures { result ≡ is_ours_lem calls.now name.now }
+{
+    let mut rest = calls;
+    while let Some((call, older)) = rest.split_first() {
+        match call {
+            Call::Made(at) => {
+                if at.as_slice() == name {
+                    return true;
+                }
+            }
+            Call::Renamed(at, _) | Call::Removed(at) => {
+                if at.as_slice() == name {
+                    return false;
+                }
+            }
+            Call::Written(_, _)
+            | Call::Synced(_)
+            | Call::Settled
+            | Call::Found(_, _)
+            | Call::Fault => {}
         }
         rest = older;
     }

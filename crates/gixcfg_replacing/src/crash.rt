@@ -45,7 +45,7 @@ pub fn left_by_crash(
     while let Some((call, older)) = rest.split_first() {
         match call {
             Call::Settled => return held(alloc, older, name, chance),
-            Call::Made(at) | Call::Written(at, _) => {
+            Call::Made(at) | Call::Written(at, _) | Call::Found(at, _) => {
                 if at.as_slice() == name && chance.is_so() {
                     return held(alloc, rest, name, chance);
                 }
@@ -63,7 +63,7 @@ pub fn left_by_crash(
                     return Ok(None);
                 }
             }
-            Call::Synced(_) => {}
+            Call::Synced(_) | Call::Fault => {}
         }
         rest = older;
     }

@@ -13,14 +13,20 @@ static AFTER: &str = "[a]\n\tk = 2\n";
 /// What is told where the lock can't be removed.
 static LEFT: &str = "gixcfg: m.lock: not removed: Permission denied (os error 13)\n";
 
+/// What is told where the folder can't be synced.
+static UNSYNCED: &str =
+    "gixcfg: m: written, but a loss of power may undo that: Permission denied (os error 13)\n";
+
 /// How many file operations an edit can't do without at the least: a link asked for, the lock looked for, rights asked for, the text opened
 /// and read; the draft made, looked at, given the rights, written and synced; the lock made, the text opened and read again, the draft looked
 /// at and renamed.
 const LEAST: usize = 15;
 
-/// How many it does without: the number of the process asked for, the folder opened, three names and their end read; the folder opened
-/// and synced.
-const SPARED: usize = 8;
+/// How many it does without: the number of the process asked for, the folder opened, three names and their end read.
+const SPARED: usize = 6;
+
+/// How many come when the file has its new text: the folder opened and synced.
+const AFTER_ALL: usize = 2;
 
 /// More than an edit has.
 const MOST: usize = 64;
@@ -69,6 +75,8 @@ enum End {
     Spared,
     /// The operation was to remove the lock, and the edit is done.
     Locked,
+    /// The edit is done, and it is told that it isn't written down.
+    Unsynced,
     /// The operation did not come, and the edit is done.
     Done,
     /// Something else.
@@ -80,6 +88,7 @@ fn end_of(has_failed: bool, done: &Done, left: Left) -> End {
     match (has_failed, done.status, left) {
         (true, 4, Left::Old) => End::Refused,
         (true, 0, Left::New) if done.is(0, "", "") => End::Spared,
+        (true, 4, Left::New) if done.is(4, "", UNSYNCED) => End::Unsynced,
         (true, 0, Left::NewLocked) if done.is(0, "", LEFT) => End::Locked,
         (false, 0, Left::New) if done.is(0, "", "") => End::Done,
         _ => End::Wrong,
@@ -101,6 +110,7 @@ struct Counts {
     refused: usize,
     spared: usize,
     locked: usize,
+    unsynced: usize,
 }
 
 /// Lets the operations of an edit fail one after the other, until one is done; none if one ended otherwise.
@@ -109,12 +119,14 @@ fn count_all(alloc: Global) -> Result<Option<Counts>, NoMemory> {
         refused: 0,
         spared: 0,
         locked: 0,
+        unsynced: 0,
     };
     for number in 0..MOST {
         match edited(alloc, number)? {
             End::Refused => counts.refused = counts.refused.saturating_add(1),
             End::Spared => counts.spared = counts.spared.saturating_add(1),
             End::Locked => counts.locked = counts.locked.saturating_add(1),
+            End::Unsynced => counts.unsynced = counts.unsynced.saturating_add(1),
             End::Done => return Ok(Some(counts)),
             End::Wrong => return Ok(None),
         }
@@ -130,7 +142,8 @@ fn failed_operation_leaves_the_file(rt: HostRuntime) -> Result<(), Fail> {
     assert!(rt;
         counts.is_some_and(|counts| counts.refused >= LEAST
             && counts.spared == SPARED
-            && counts.locked == 1)
+            && counts.locked == 1
+            && counts.unsynced == AFTER_ALL)
     );
     Ok(())
 }

@@ -192,6 +192,8 @@ pub struct Set<'a> {
     pub placing: Placing<'a>,
     /// The comment after the value, on one line.
     pub comment: Option<&'a str>,
+    /// Whether the new text of a file is written down to the disk.
+    pub is_synced: bool,
 }
 
 /// What `unset` does.
@@ -205,6 +207,8 @@ pub struct Unset<'a> {
     pub values: Values<'a>,
     /// Whether there may be several.
     pub is_all: bool,
+    /// Whether the new text of a file is written down to the disk.
+    pub is_synced: bool,
 }
 
 /// What `rename-section` does.
@@ -216,6 +220,8 @@ pub struct Renaming<'a> {
     pub old: Names<'a>,
     /// The names that they get.
     pub new: Names<'a>,
+    /// Whether the new text of a file is written down to the disk.
+    pub is_synced: bool,
 }
 
 /// What `remove-section` does.
@@ -225,6 +231,8 @@ pub struct Removal<'a> {
     pub target: Target<'a>,
     /// The names of the sections.
     pub names: Names<'a>,
+    /// Whether the new text of a file is written down to the disk.
+    pub is_synced: bool,
 }
 
 /// What comes before a name that begins a line.
@@ -267,6 +275,8 @@ pub struct Fmt<'a> {
     pub indent: Option<Indent>,
     /// What lines end with.
     pub newline: Option<Newline>,
+    /// Whether the new text of a file is written down to the disk.
+    pub is_synced: bool,
 }
 
 /// What `check` does.

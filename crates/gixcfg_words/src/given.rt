@@ -212,6 +212,11 @@ impl<'a> Given<'a> {
         Ok(())
     }
 
+    /// Whether what an edit makes of a file is written down to the disk.
+    pub fn is_synced(&self) -> bool {
+        self.state_of(Opt::Sync).unwrap_or(true)
+    }
+
     /// The file that is worked on, as far as one is named: standard input without, but with [`Verb::Forms`] what git works on.
     ///
     /// # Errors

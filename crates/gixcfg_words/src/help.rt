@@ -63,7 +63,7 @@ Ends with 1 if the key isn't there.
 
 const SET: &str = "\
 usage: gixcfg set [-f FILE] [--all] [--append] [--value PATTERN [--fixed-value]] [--type TYPE] [--comment COMMENT]
-                  KEY VALUE
+                  [--no-sync] KEY VALUE
 
 Gives a key a value, in its place if it is there, else in the last section of its name, else in a new one.
 
@@ -79,15 +79,17 @@ Gives a key a value, in its place if it is there, else in the last section of it
     -t, --type TYPE   the value as bool, int, bool-or-int, bool-or-str, path, expiry-date or color;
                       refused if it is none; also as --bool, --int and so on
     --comment COMMENT this comment after the value, in place of one that is there; # is put before it if it has none
+    --no-sync         the new file isn't written down to the disk first: faster, but a loss of power may tear it
 
 Ends with 5 if the key has several entries, and neither --all nor --append is given; with 4 if the file can't be
-written. The file is the old one or the new one at any time: the new one is written beside it, and renamed over it.
+written. The file is the old one or the new one at any time, also after a loss of power: the new one is written beside it,
+and renamed over it.
 
     $ gixcfg set -f .git/config --comment 'for this project' user.name Ada
 ";
 
 const UNSET: &str = "\
-usage: gixcfg unset [-f FILE] [--all] [--value PATTERN [--fixed-value]] KEY
+usage: gixcfg unset [-f FILE] [--all] [--value PATTERN [--fixed-value]] [--no-sync] KEY
 
 Removes a key's entry.
 
@@ -99,6 +101,7 @@ Removes a key's entry.
     --all             all entries of the key
     --value PATTERN   only entries in whose value the pattern is found, or isn't if ! is before it
     --fixed-value     only entries whose value is that text
+    --no-sync         the new file isn't written down to the disk first: faster, but a loss of power may tear it
 
 Ends with 5 if there is no entry, or several of them and --all isn't given.
 
@@ -128,7 +131,7 @@ Prints all entries, a line each: the key, = and the value.
 ";
 
 const RENAME: &str = "\
-usage: gixcfg rename-section [-f FILE] OLD NEW
+usage: gixcfg rename-section [-f FILE] [--no-sync] OLD NEW
 
 Gives all sections of a name another one: a name such as core, or a name and a subsection such as remote.origin.
 
@@ -137,6 +140,7 @@ Gives all sections of a name another one: a name such as core, or a name and a s
     --system          the system's file: /etc/gitconfig
     --local           the repository's file: .git/config
     --worktree        the file of the working tree, if each has one of its own, else the repository's
+    --no-sync         the new file isn't written down to the disk first: faster, but a loss of power may tear it
 
 Ends with 1 if there is no such section.
 
@@ -144,7 +148,7 @@ Ends with 1 if there is no such section.
 ";
 
 const REMOVE: &str = "\
-usage: gixcfg remove-section [-f FILE] NAME
+usage: gixcfg remove-section [-f FILE] [--no-sync] NAME
 
 Removes all sections of a name, with their entries and comments.
 
@@ -153,6 +157,7 @@ Removes all sections of a name, with their entries and comments.
     --system          the system's file: /etc/gitconfig
     --local           the repository's file: .git/config
     --worktree        the file of the working tree, if each has one of its own, else the repository's
+    --no-sync         the new file isn't written down to the disk first: faster, but a loss of power may tear it
 
 Ends with 1 if there is no such section.
 
@@ -160,7 +165,8 @@ Ends with 1 if there is no such section.
 ";
 
 const FMT: &str = "\
-usage: gixcfg fmt [-f FILE] [--check] [--indent tabs:N|spaces:N] [--newline lf|crlf|detect] [FILE...]
+usage: gixcfg fmt [-f FILE] [--check] [--indent tabs:N|spaces:N] [--newline lf|crlf|detect] [--no-sync]
+                  [FILE...]
 
 Lays files out: an indent before each entry, one blank on each side of =, one line ending at the end. Each FILE is changed
 in place; - is standard input.
@@ -173,6 +179,7 @@ in place; - is standard input.
     --check           nothing is written, but which files aren't laid out; ends with 1 if one isn't
     --indent INDENT   what comes before an entry: tabs:1 if it isn't given
     --newline ENDING  what lines end with: that of the file if it isn't given
+    --no-sync         the new file isn't written down to the disk first: faster, but a loss of power may tear it
 
     $ gixcfg fmt -f .git/config --indent spaces:4
 ";

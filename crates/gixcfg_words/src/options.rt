@@ -97,6 +97,8 @@ pub enum Opt {
     Quiet,
     /// What only git refuses is passed over.
     Lenient,
+    /// What an edit makes of a file is written down to the disk, unless that is taken back.
+    Sync,
     /// What is done.
     Do(Action),
     /// What only git does.
@@ -104,7 +106,7 @@ pub enum Opt {
 }
 
 /// The options: the word of each behind two dashes, and its letter behind one, if it has one.
-static OPTIONS: [(&str, Option<char>, Opt); 48] = [
+static OPTIONS: [(&str, Option<char>, Opt); 49] = [
     ("file", Some('f'), Opt::File),
     ("global", None, Opt::Place(Place::Global)),
     ("system", None, Opt::Place(Place::System)),
@@ -138,6 +140,7 @@ static OPTIONS: [(&str, Option<char>, Opt); 48] = [
     ("newline", None, Opt::Newline),
     ("quiet", Some('q'), Opt::Quiet),
     ("lenient", None, Opt::Lenient),
+    ("sync", None, Opt::Sync),
     ("get", None, Opt::Do(Action::Get)),
     ("get-all", None, Opt::Do(Action::GetAll)),
     ("get-regexp", None, Opt::Do(Action::GetRegexp)),
@@ -158,6 +161,11 @@ static OPTIONS: [(&str, Option<char>, Opt); 48] = [
 /// Whether an option names the file that is worked on.
 fn names_file(option: Opt) -> bool {
     matches!(option, Opt::File | Opt::Place(_) | Opt::Alone(Alone::Blob))
+}
+
+/// Whether an option says how a file is edited.
+fn is_of_editing(option: Opt) -> bool {
+    names_file(option) || option == Opt::Sync
 }
 
 /// Whether an option says which values are read, and how they are printed.
@@ -194,15 +202,15 @@ pub(crate) fn takes(verb: Verb, option: Opt) -> bool {
         }
         Verb::List => is_of_reading(option) || matches!(option, Opt::Effective | Opt::ShowNames),
         Verb::Set => {
-            names_file(option)
+            is_of_editing(option)
                 || is_type(option)
                 || is_of_values(option)
                 || matches!(option, Opt::Append | Opt::Comment)
         }
-        Verb::Unset => names_file(option) || is_of_values(option),
-        Verb::RenameSection | Verb::RemoveSection => names_file(option),
+        Verb::Unset => is_of_editing(option) || is_of_values(option),
+        Verb::RenameSection | Verb::RemoveSection => is_of_editing(option),
         Verb::Fmt => {
-            names_file(option) || matches!(option, Opt::Check | Opt::Indent | Opt::Newline)
+            is_of_editing(option) || matches!(option, Opt::Check | Opt::Indent | Opt::Newline)
         }
         Verb::Check => matches!(option, Opt::Quiet | Opt::Lenient),
         Verb::Diff => matches!(option, Opt::Quiet | Opt::Null),
@@ -211,7 +219,12 @@ pub(crate) fn takes(verb: Verb, option: Opt) -> bool {
             is_of_reading(option)
                 || matches!(
                     option,
-                    Opt::Do(_) | Opt::Alone(_) | Opt::Default | Opt::Comment | Opt::FixedValue
+                    Opt::Do(_)
+                        | Opt::Alone(_)
+                        | Opt::Default
+                        | Opt::Comment
+                        | Opt::FixedValue
+                        | Opt::Sync
                 )
         }
     }
@@ -222,6 +235,10 @@ pub(crate) fn goes_with(action: Action, option: Opt) -> bool {
     match option {
         Opt::Default => action == Action::Get,
         Opt::Comment => matches!(action, Action::Add | Action::Set | Action::ReplaceAll),
+        Opt::Sync => !matches!(
+            action,
+            Action::Get | Action::GetAll | Action::GetRegexp | Action::GetUrlmatch | Action::List
+        ),
         Opt::NameOnly => matches!(action, Action::List | Action::GetRegexp),
         Opt::ShowOrigin => matches!(
             action,

@@ -205,6 +205,7 @@ pub(crate) fn setting<'a>(
         kind: given.kind,
         placing,
         comment: given.word_of(Opt::Comment),
+        is_synced: given.is_synced(),
     }))
 }
 
@@ -238,6 +239,7 @@ pub(crate) fn unsetting<'a>(
         key: key_of(key)?,
         values: given.values(pattern)?,
         is_all,
+        is_synced: given.is_synced(),
     }))
 }
 
@@ -248,6 +250,7 @@ pub(crate) fn renaming<'a>(given: &Given<'a>) -> Result<Renaming<'a>, Fault<'a>>
         target: given.target()?,
         old: names_of(old),
         new: new_names_of(new)?,
+        is_synced: given.is_synced(),
     })
 }
 
@@ -257,6 +260,7 @@ pub(crate) fn removal<'a>(given: &Given<'a>) -> Result<Removal<'a>, Fault<'a>> {
     Ok(Removal {
         target: given.target()?,
         names: names_of(word),
+        is_synced: given.is_synced(),
     })
 }
 
@@ -283,6 +287,7 @@ fn fmt<'a>(given: Given<'a>) -> Result<Command<'a>, Fault<'a>> {
         None => Some(target),
     };
     let (is_check, indent, newline) = (given.has(Opt::Check), given.indent, given.newline);
+    let is_synced = given.is_synced();
     Ok(Command::Fmt(Fmt {
         files: match files {
             Some(target) => Files::One(target),
@@ -291,6 +296,7 @@ fn fmt<'a>(given: Given<'a>) -> Result<Command<'a>, Fault<'a>> {
         is_check,
         indent,
         newline,
+        is_synced,
     }))
 }
 

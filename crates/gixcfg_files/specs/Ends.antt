@@ -1,0 +1,24 @@
+-- What is told of the end of an edit in place.
+use Rattle.std.specs.Prelude.{◌≡◌, ◌⊎◌, Result, Ok, Err, String}
+use Rattle.std.specs.declared.alloc.Global.{Global}
+use Rattle.gixcfg_replacing.specs.declared.ended.Ended.{Ended}
+use Rattle.gixcfg_replacing.specs.declared.ended.Ended.TheVariants as ends
+use Rattle.gixcfg_files.specs.Faults.{unwritten}
+use Rattle.gixcfg_files.specs.declared.fault.Fault.{Fault}
+use Rattle.gixcfg_files.specs.declared.fault.Fault.TheVariants.{Locked, Unsynced, Memory}
+use Rattle.gixcfg_files.specs.declared.place.Replaced.{Replaced}
+use Rattle.gixcfg_files.specs.declared.place.Replaced.TheVariants.{Done, Changed}
+
+-- that another edit is in the way, or there is no memory to tell that
+abbrev pub TellsLocked : Result Replaced Fault → Type 0
+TellsLocked result = ((path : String Global) × (result ≡ Err (Locked path))) ⊎ (result ≡ Err Memory)
+
+-- success is told of what is done and written down alone
+abbrev pub TellsAs : Ended → Result Replaced Fault → Type 0
+TellsAs ends.Done result = result ≡ Ok Done
+TellsAs ends.Changed result = result ≡ Ok Changed
+TellsAs ends.Locked result = TellsLocked result
+TellsAs ends.Drafted result = TellsLocked result
+TellsAs (ends.Failed error) result = result ≡ Err (unwritten error)
+TellsAs (ends.Unsure error) result = (result ≡ Ok Changed) ⊎ (result ≡ Err (unwritten error))
+TellsAs (ends.Unsynced error) result = result ≡ Err (Unsynced error)
