@@ -13,7 +13,7 @@ ghost use Rattle.gix_config.specs.SectionEditors.{lent};
 
 use anyhow::{Context, Result, bail};
 use bstr::BString;
-use gitconf_lookup::lookup::value_in;
+use gitconf_parse::lookup::value_in;
 use gix_config::file::{Metadata, SectionMut, includes, init};
 use gix_config::format::{Options, normalize};
 use gix_config::glob::wildmatch;

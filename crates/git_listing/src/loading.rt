@@ -4,7 +4,7 @@
 // and could put another box into it.
 
 use crate::fault::Fault;
-use gitconf_disk::{Disk, Process};
+use gitconf_sources::{Disk, Process};
 use gix_config::file::includes::{self, conditional};
 use gix_config::file::{Metadata, init};
 use gix_config::host::{Env, EnvVar, Host, Places, StorageLocation};

@@ -18,15 +18,15 @@ use Rattle.gitconf_state.specs.Edit.{blank_bytes, update_last, is_entry_of, set_
 use Rattle.gitconf_state.specs.Editors as states
 use Rattle.gitconf_state.proofs.Edits.Lists.{any_at, update_last_at, last_passing, filter_none}
 use Rattle.gitconf_text.specs.LineEnds.{bytes_of_line_end}
-use Rattle.gitconf_lines.specs.declared.editor.Around.{Around}
-use Rattle.gitconf_lines.specs.declared.editor.Editor.{Editor}
-use Rattle.gitconf_lines.specs.Editors.{around_in, around_put, changed_put, editor_in, end_put, leading_put, line_put, IfEntry, separator_in, separator_put, set_put}
-use Rattle.gitconf_lines.specs.Places.{IsLastAt, IsLastPlace}
-use Rattle.gitconf_lines.specs.Standing.{Stand}
-use Rattle.gitconf_lines.proofs.Places.{set_at, found_at}
+use Rattle.gitconf_body.specs.declared.editor.Around.{Around}
+use Rattle.gitconf_body.specs.declared.editor.Editor.{Editor}
+use Rattle.gitconf_body.specs.Editors.{around_in, around_put, changed_put, editor_in, end_put, leading_put, line_put, IfEntry, separator_in, separator_put, set_put}
+use Rattle.gitconf_body.specs.Places.{IsLastAt, IsLastPlace}
+use Rattle.gitconf_body.specs.Standing.{Stand}
+use Rattle.gitconf_body.proofs.Places.{set_at, found_at}
 use Rattle.gitconf_body.proofs.Counts.{last_exists, put_at, put_new}
-use Rattle.gitconf_lines.proofs.Entries.{last_shown}
-use Rattle.gitconf_lines.proofs.Standing.{stand_more, stand_both}
+use Rattle.gitconf_body.proofs.EntryLemmas.{last_shown}
+use Rattle.gitconf_body.proofs.Standing.{stand_more, stand_both}
 
 -- An entry that gets a value has its own blanks, or those of the editor.
 pub changed_is : (buffer : List ℕ) (around : Around) (e : Entry) (blanks : Option (List ℕ)) (value : List ℕ)

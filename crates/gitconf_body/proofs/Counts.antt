@@ -7,13 +7,13 @@ use Rattle.gitconf_text.specs.Part.{Assigned, Item, BlanksItem, LineEndsItem, Co
 use Rattle.gitconf_text.specs.Token.{Token, HeaderToken, WhitespaceToken, NewlineToken, ValueToken, NameToken, SeparatorToken, item_tokens, filled, spelled_token}
 use Rattle.gitconf_text.specs.Value.{escaped}
 use Rattle.gitconf_state.specs.Edit.{Spacing, blank_bytes, header_bytes, is_target, made_header, new_section_bytes, new_section_tokens, set_bytes, set_raw_value_bytes, set_raw_value_tokens, is_entry_of, spacing_of, leading_item, new_entry, value_set_tokens, value_tokens_of, set_tokens, token_bytes}
-use Rattle.gitconf_base.specs.Metadata.{Meta}
+use Rattle.gitconf_sources.specs.Metadata.{Meta}
 use Rattle.gitconf_state.specs.LineEnds.{file_line_end}
 use Rattle.gitconf_state.specs.State.{SectionState, State, is_entry}
 use Rattle.gitconf_text.specs.Header.{spelled_header}
 use Rattle.gitconf_state.proofs.Edits.Lists.{filter_none, last_passing}
-use Rattle.gitconf_lines.specs.Places.{IsLastAt}
-use Rattle.gitconf_lines.specs.Spacings.{option_bytes, spacing_bytes}
+use Rattle.gitconf_body.specs.Places.{IsLastAt}
+use Rattle.gitconf_body.specs.Spacings.{option_bytes, spacing_bytes}
 
 run_bytes : (run : List ℕ) → token_bytes (filled WhitespaceToken run) ≡ length run
 run_bytes [] = refl

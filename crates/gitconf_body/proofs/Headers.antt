@@ -12,7 +12,7 @@ use Rattle.gitconf_items.specs.Events.{header_of}
 use Rattle.gitconf_items.specs.ShownEvents.{CopyFits, IsShown, decoded_or, shown_token}
 use Rattle.gitconf_state.specs.Edit.{made_header}
 use Rattle.gitconf_state.proofs.Edits.Values.{made_subsection}
-use Rattle.gitconf_lines.specs.Buffers.{StandsAt}
+use Rattle.gitconf_body.specs.Buffers.{StandsAt}
 use Rattle.gitconf_body.specs.Lines.{QuotedStands}
 use Rattle.gitconf_body.specs.declared.section.Quoted.{Quoted}
 

@@ -7,11 +7,11 @@ use Rattle.gitconf_text.specs.Value.{escaped}
 use Rattle.gitconf_items.specs.declared.items.Item.{Item}
 use Rattle.gitconf_items.specs.Items.{item_of, items_of}
 use Rattle.gitconf_state.specs.Edit.{is_entry_of, old_value}
-use Rattle.gitconf_lines.specs.Buffers.{Grows}
-use Rattle.gitconf_lines.specs.Places.{IsLastPlace}
-use Rattle.gitconf_lines.specs.declared.editor.Editor.{Editor}
-use Rattle.gitconf_lines.specs.Editors.{around_put, around_bytes}
-use Rattle.gitconf_lines.proofs.Places.{any_shown}
+use Rattle.gitconf_body.specs.Buffers.{Grows}
+use Rattle.gitconf_body.specs.Places.{IsLastPlace}
+use Rattle.gitconf_body.specs.declared.editor.Editor.{Editor}
+use Rattle.gitconf_body.specs.Editors.{around_put, around_bytes}
+use Rattle.gitconf_body.proofs.Places.{any_shown}
 use Rattle.gitconf_body.specs.Growth.{UsedGrows}
 use Rattle.gitconf_body.specs.ValuesAt.{written_put, rewritten_put}
 use Rattle.gitconf_body.proofs.Taken.{some_old}

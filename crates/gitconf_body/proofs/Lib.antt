@@ -1,3 +1,17 @@
+pub mod Append
+pub mod Buffers
+pub mod Places
+pub mod NamedSpans
+pub mod Raw
+pub mod Spacings
+pub mod EntryLemmas
+pub mod Gaps
+pub mod Editors
+pub mod Standing
+pub mod Puts
+pub mod BodyLaws
+pub mod LastEntry
+pub mod Outcomes
 pub mod Counts
 pub mod Headers
 pub mod Changing
@@ -5,3 +19,4 @@ pub mod Taken
 pub mod Unmarked
 pub mod ValuesAt
 pub mod ItemsEdits
+pub mod Copies

@@ -12,11 +12,11 @@ use Rattle.gitconf_state.specs.Edit.{is_entry_of, old_value}
 use Rattle.gitconf_state.specs.Editors.{key_and_meaning, removed, popped, popped_entry, without_last_blanks, without_first_line_ends}
 use Rattle.gitconf_state.proofs.Edits.Cuts.{cut_at, cut_none}
 use Rattle.gitconf_state.proofs.Edits.Places.{old_value_at}
-use Rattle.gitconf_lines.specs.Places.{IsLastAt}
-use Rattle.gitconf_lines.specs.Spacings.{is_stored_entry}
+use Rattle.gitconf_body.specs.Places.{IsLastAt}
+use Rattle.gitconf_body.specs.Spacings.{is_stored_entry}
 use Rattle.gitconf_body.specs.Taken.{begins_line_ends, is_blanks, ends_blanks, behind_line_ends, before_blanks, StayWithin}
-use Rattle.gitconf_lines.proofs.Entries.{all_both, last_shown}
-use Rattle.gitconf_lines.proofs.Spacings.{any_entry_shown}
+use Rattle.gitconf_body.proofs.EntryLemmas.{all_both, last_shown}
+use Rattle.gitconf_body.proofs.Spacings.{any_entry_shown}
 
 pub ends_with : (before : List Item) (i : Item) → ends_blanks (before ++ i ∷ []) ≡ is_blanks i
 ends_with [] i = refl

@@ -11,7 +11,7 @@ use Rattle.gitconf_items.specs.Items.{item_of, items_of}
 use Rattle.gitconf_items.specs.ItemsFit.{AreItemsWithin, ItemFits}
 use Rattle.gitconf_state.specs.Edit.{is_entry_of}
 use Rattle.gitconf_state.specs.Editors.{unless_blanks, without_first_line_ends, marked, begins_marked, without_marked, removed_marked, marked_count}
-use Rattle.gitconf_lines.proofs.Entries.{all_both}
+use Rattle.gitconf_body.proofs.EntryLemmas.{all_both}
 use Rattle.gitconf_body.specs.Taken as stored
 use Rattle.gitconf_body.specs.Taken.{StayWithin}
 use Rattle.gitconf_body.proofs.Taken.{line_ends_shown, line_ends_all}

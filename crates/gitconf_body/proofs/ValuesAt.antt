@@ -20,12 +20,12 @@ use Rattle.gitconf_state.specs.Editors.{unless_empty, behind_written, deleted_at
 use Rattle.gitconf_body.specs.declared.value_at.InPlaceOf.{InPlaceOf}
 use Rattle.gitconf_body.specs.declared.value_at.InPlaceOf.TheVariants.{Nothing, EntryButLineEnd}
 use Rattle.gitconf_body.specs.declared.value_at.InPlaceOf.TheVariants as in_place_of
-use Rattle.gitconf_lines.specs.Spacings.{nothing}
-use Rattle.gitconf_lines.specs.Standing.{Stand, end_items}
+use Rattle.gitconf_body.specs.Spacings.{nothing}
+use Rattle.gitconf_body.specs.Standing.{Stand, end_items}
 use Rattle.gitconf_body.specs.Taken.{StayWithin}
 use Rattle.gitconf_body.specs.ValuesAt.{IfReplaces, behind_way, instead_of, is_before_comment, kept_behind, kept_end, last_end, last_end_or, unless_short, way_before, without_first}
-use Rattle.gitconf_lines.proofs.Entries.{all_both}
-use Rattle.gitconf_lines.proofs.Standing.{line_ends_stand, none_stand, stand_both, stand_more}
+use Rattle.gitconf_body.proofs.EntryLemmas.{all_both}
+use Rattle.gitconf_body.proofs.Standing.{line_ends_stand, none_stand, stand_both, stand_more}
 use Rattle.gitconf_body.proofs.Taken.{dropped_all, taken_all}
 
 -- the bytes of a span that has some, and of one that has none

@@ -7,8 +7,8 @@ use Rattle.gitconf_items.specs.Items.{items_of}
 use Rattle.gitconf_items.specs.ItemsFit.{AreItemsWithin}
 use Rattle.gitconf_state.specs.Edit.{blank_bytes}
 use Rattle.gitconf_state.specs.Editors.{editor_of_body}
-use Rattle.gitconf_lines.specs.declared.editor.Editor.{Editor}
-use Rattle.gitconf_lines.specs.Editors.{around_bytes, around_put, editor_in, leading_put, EditorFits}
+use Rattle.gitconf_body.specs.declared.editor.Editor.{Editor}
+use Rattle.gitconf_body.specs.Editors.{around_bytes, around_put, editor_in, leading_put, EditorFits}
 
 -- In any buffer it is the editor of the items, and its blanks are within the buffer that they are in.
 pub record IsEditorOf (line_end : LineEnd) (items : List Item) (e : Editor) : Type 0 where

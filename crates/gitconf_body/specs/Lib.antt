@@ -1,5 +1,16 @@
+pub mod Below
+pub mod Buffers
+pub mod Places
+pub mod Spacings
+pub mod Editors
+pub mod Standing
+pub mod Blanks
+pub mod Puts
+pub mod ValueErrors
+pub mod Bodies
 pub mod Lines
 pub mod Taken
 pub mod ValuesAt
 pub mod Growth
 pub mod ItemsEdits
+pub mod Copies

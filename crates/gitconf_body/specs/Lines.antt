@@ -1,7 +1,7 @@
 -- Where the parts of a made header are in a buffer.
 use Rattle.std.specs.Prelude.{ℕ, List, [], ◌∷◌}
 use Rattle.gitconf_body.specs.declared.section.Quoted.{Quoted}
-use Rattle.gitconf_lines.specs.Buffers.{StandsAt}
+use Rattle.gitconf_body.specs.Buffers.{StandsAt}
 
 -- The buffer has a header's name, its blank and its spelled subsection at these spans.
 pub record QuotedStands (buffer : List ℕ) (q : Quoted) (text spelling : List ℕ) : Type 0 where

@@ -10,15 +10,15 @@ use Rattle.gitconf_items.specs.declared.items.Item.{Item}
 use Rattle.gitconf_items.specs.declared.items.Item.TheVariants as items
 use Rattle.gitconf_items.specs.declared.entry.Piece.{Piece}
 use Rattle.gitconf_state.specs.Editors.{InsteadOf, OfNothing, OfEntry, OfEntryButLineEnd}
-use Rattle.gitconf_lines.specs.declared.editor.Editor.{Editor}
+use Rattle.gitconf_body.specs.declared.editor.Editor.{Editor}
 use Rattle.gitconf_body.specs.declared.value_at.InPlaceOf.{InPlaceOf}
 use Rattle.gitconf_body.specs.declared.value_at.InPlaceOf.TheVariants.{Nothing, EntryButLineEnd}
 use Rattle.gitconf_body.specs.declared.value_at.InPlaceOf.TheVariants as in_place_of
 use Rattle.gitconf_body.specs.declared.value_at.Way.{Way}
 use Rattle.gitconf_body.specs.declared.value_at.Way.TheVariants.{Before, Over}
-use Rattle.gitconf_lines.specs.Editors.{around_bytes, value_put}
-use Rattle.gitconf_lines.specs.Spacings.{nothing}
-use Rattle.gitconf_lines.specs.Standing.{end_items}
+use Rattle.gitconf_body.specs.Editors.{around_bytes, value_put}
+use Rattle.gitconf_body.specs.Spacings.{nothing}
+use Rattle.gitconf_body.specs.Standing.{end_items}
 
 -- what an entry is written in place of, as the definitions have it
 abbrev pub instead_of : InPlaceOf → InsteadOf

@@ -5,11 +5,11 @@ ghost use Rattle.gitconf_items.specs.Items.{items_of};
 ghost use Rattle.gitconf_items.specs.ItemsFit.{AreItemsWithin};
 ghost use Rattle.gitconf_state.specs.Edit as state;
 ghost use Rattle.gitconf_text.specs.LineEnds.{bytes_of_line_end};
-ghost use Rattle.gitconf_lines.specs.Buffers.{Grows};
+ghost use Rattle.gitconf_body.specs.Buffers.{Grows};
 
 use crate::set::set;
 use gitconf_items::items::Item;
-use gitconf_lines::editor::editor_of;
+use crate::editor::editor_of;
 use gitconf_text::line_end::LineEnd;
 use gitconf_text::parse::span;
 use gitconf_text::value::escaped_len;

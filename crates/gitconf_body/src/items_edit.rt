@@ -5,7 +5,7 @@ ghost use Rattle.gitconf_items.specs.ItemsFit.{AreItemsWithin};
 ghost use Rattle.gitconf_items.specs.ShownEvents.{IsExtended};
 
 use gitconf_items::items::Item;
-use gitconf_lines::buffer::take_back;
+use crate::buffer::take_back;
 
 /// An edit of a list of items over the buffer that their spans are offsets of.
 pub trait ItemsEdit {

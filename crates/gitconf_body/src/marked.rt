@@ -9,7 +9,7 @@ ghost use Rattle.gitconf_body.specs.Taken as spec;
 ghost use Rattle.gitconf_body.specs.Taken.{StayWithin};
 
 use gitconf_items::items::Item;
-use gitconf_lines::seeking::is_entry_of;
+use crate::seeking::is_entry_of;
 use gitconf_text::NoMemory;
 
 /// How many entries of a key there are.

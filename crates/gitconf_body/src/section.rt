@@ -11,14 +11,14 @@ ghost use Rattle.gitconf_items.specs.ShownEvents.{decoded_or, CopyFits, IsExtend
 ghost use Rattle.gitconf_state.specs.Edit.{header_bytes, made_header, new_section_bytes, set_value};
 ghost use Rattle.gitconf_items.specs.Items.{items_of};
 ghost use Rattle.gitconf_text.specs.LineEnds.{bytes_of_line_end};
-ghost use Rattle.gitconf_lines.specs.Buffers.{Grows};
+ghost use Rattle.gitconf_body.specs.Buffers.{Grows};
 ghost use Rattle.gitconf_body.specs.Lines.{QuotedStands};
 
 use crate::entry::{entry_len, set_value};
 use gitconf_items::event::{Copied, Header, Span};
 use gitconf_items::event_ref::{escaped_subsection_len, write_escaped_subsection};
 use gitconf_items::items::{Item, Section};
-use gitconf_lines::buffer::{append, check_room, take_back};
+use crate::buffer::{append, check_room, take_back};
 use gitconf_text::NoMemory;
 use gitconf_text::line_end::LineEnd;
 use gitconf_text::parse::span;
@@ -54,7 +54,7 @@ fn copy_of(
 }
 
 /// Adds the text of a header without a subsection to the buffer.
-#[tactic(auto, using(gitconf_lines::proofs::Buffers::extending, gitconf_lines::proofs::Buffers::put_once, crate::proofs::Headers::plain_shown))]
+#[tactic(auto, using(crate::proofs::Buffers::extending, crate::proofs::Buffers::put_once, crate::proofs::Headers::plain_shown))]
 fn append_plain(buffer: &mut Vec<u8>, name: &[u8]) -> Result<Header, span::Error>
     requires room { length buffer.old.items < 2 ^ 32 }
     ensures header { IfOk result (λ h. header_of buffer.new.items h ≡ made_header name.now None) }
@@ -80,7 +80,7 @@ struct Quoted {
 }
 
 /// Adds the name, the blank and the spelled subsection of a header to the buffer.
-#[tactic(auto, using(gitconf_lines::proofs::Buffers::extending))]
+#[tactic(auto, using(crate::proofs::Buffers::extending))]
 fn append_quoted(buffer: &mut Vec<u8>, name: &[u8], spelling: &[u8]) -> Result<Quoted, span::Error>
     requires room { length buffer.old.items < 2 ^ 32 }
     ensures stands { IfOk result (λ q. QuotedStands buffer.new.items q name.now spelling.now) }
@@ -103,7 +103,7 @@ fn append_quoted(buffer: &mut Vec<u8>, name: &[u8], spelling: &[u8]) -> Result<Q
 ///
 /// A [`span::Error`]: number 3 if the buffer would be longer than 4294967295 bytes, otherwise 27 when out of memory. The buffer and
 /// the copies may have grown.
-#[tactic(auto, using(gitconf_lines::proofs::Buffers::extending))]
+#[tactic(auto, using(crate::proofs::Buffers::extending))]
 pub(crate) fn append_header(
     buffer: &mut Vec<u8>,
     copies: &mut Vec<u8>,
@@ -133,7 +133,7 @@ pub(crate) fn append_header(
 }
 
 /// The items of a body that is one line ending, which is added to the buffer; with room for an entry.
-#[tactic(auto, using(gitconf_lines::proofs::Buffers::extending))]
+#[tactic(auto, using(crate::proofs::Buffers::extending))]
 fn one_line(buffer: &mut Vec<u8>, line_end: LineEnd) -> Result<Vec<Item>, span::Error>
     requires room { length buffer.old.items < 2 ^ 32 }
     ensures items { IfOk result (λ is. items_of buffer.new.items is.items ≡ parts.LineEndsItem (bytes_of_line_end line_end) ∷ []) }
@@ -176,7 +176,7 @@ fn section_len(
 }
 
 /// The parts of [`section_with`], added to the buffer and to the copies.
-#[tactic(auto, using(gitconf_lines::proofs::Buffers::extending))]
+#[tactic(auto, using(crate::proofs::Buffers::extending))]
 fn append_section_with(
     buffer: &mut Vec<u8>,
     copies: &mut Vec<u8>,
@@ -260,7 +260,7 @@ pub fn check_section(
 }
 
 /// The parts of [`new_section`], added to the buffer and to the copies.
-#[tactic(auto, using(gitconf_lines::proofs::Buffers::extending))]
+#[tactic(auto, using(crate::proofs::Buffers::extending))]
 fn append_section(
     buffer: &mut Vec<u8>,
     copies: &mut Vec<u8>,

@@ -7,26 +7,26 @@ ghost use Rattle.gitconf_items.specs.Items.{item_of, entry_of, items_of};
 ghost use Rattle.gitconf_items.specs.ItemsFit.{AreItemsWithin, EntryFits};
 ghost use Rattle.gitconf_state.specs.Edit.{is_entry_of, item_raw, old_value, with_value};
 ghost use Rattle.gitconf_state.specs.Editors as state;
-ghost use Rattle.gitconf_lines.specs.Buffers.{Grows, StandsAt};
-ghost use Rattle.gitconf_lines.specs.Editors as spec;
-ghost use Rattle.gitconf_lines.specs.Editors.{around_in, editor_in, AroundFits, EditorFits, IfEntry};
-ghost use Rattle.gitconf_lines.specs.Places.{IsLastAt, IsLastPlace};
-ghost use Rattle.gitconf_lines.specs.Standing.{Stand};
+ghost use Rattle.gitconf_body.specs.Buffers.{Grows, StandsAt};
+ghost use Rattle.gitconf_body.specs.Editors as spec;
+ghost use Rattle.gitconf_body.specs.Editors.{around_in, editor_in, AroundFits, EditorFits, IfEntry};
+ghost use Rattle.gitconf_body.specs.Places.{IsLastAt, IsLastPlace};
+ghost use Rattle.gitconf_body.specs.Standing.{Stand};
 
 use gitconf_items::entry::{AssignedRef, Entry};
 use gitconf_items::event::Span;
 use gitconf_items::items::Item;
-use gitconf_lines::buffer::check_room;
-use gitconf_lines::editor::{Around, Editor};
-use gitconf_lines::push::{around_len, check_push, entry_with, push, put_around, put_value};
-use gitconf_lines::seeking::last_place;
-use gitconf_lines::values::item_text;
+use crate::buffer::check_room;
+use crate::editor::{Around, Editor};
+use crate::push::{around_len, check_push, entry_with, push, put_around, put_value};
+use crate::seeking::last_place;
+use crate::values::item_text;
 use gitconf_text::parse::span;
 use gitconf_text::value::escaped_len;
 
 /// The blanks before and after the `=` of an entry; if it has none, those of the editor, added to the buffer if they aren't
 /// there.
-#[tactic(auto, using(gitconf_lines::proofs::Buffers::extending))]
+#[tactic(auto, using(crate::proofs::Buffers::extending))]
 fn separator_of(
     buffer: &mut Vec<u8>,
     around: &Around<'_>,
@@ -47,7 +47,7 @@ fn separator_of(
 }
 
 /// The entry with another value, which is added to the buffer: with its own blanks around `=`, or those of the editor if it has none.
-#[tactic(auto, using(gitconf_lines::proofs::Buffers::extending))]
+#[tactic(auto, using(crate::proofs::Buffers::extending))]
 fn changed_entry(
     buffer: &mut Vec<u8>,
     around: &Around<'_>,

@@ -5,15 +5,15 @@ ghost use Rattle.gitconf_text.specs.Value.{plain};
 ghost use Rattle.gitconf_items.specs.Items.{entry_of, item_of, items_of};
 ghost use Rattle.gitconf_state.specs.Edit.{is_entry_of, old_value};
 ghost use Rattle.gitconf_state.specs.Editors.{key_and_meaning, popped, popped_entry, removed};
-ghost use Rattle.gitconf_lines.specs.Places.{IsLastAt, IsLastPlace};
-ghost use Rattle.gitconf_lines.specs.Spacings.{is_stored_entry};
+ghost use Rattle.gitconf_body.specs.Places.{IsLastAt, IsLastPlace};
+ghost use Rattle.gitconf_body.specs.Spacings.{is_stored_entry};
 ghost use Rattle.gitconf_body.specs.Taken as spec;
 ghost use Rattle.gitconf_body.specs.Taken.{StayWithin};
 
 use gitconf_items::entry::Entry;
 use gitconf_items::items::Item;
-use gitconf_lines::seeking::last_place;
-use gitconf_lines::values::{entry_text, item_text};
+use crate::seeking::last_place;
+use crate::values::{entry_text, item_text};
 use gitconf_text::NoMemory;
 use gitconf_text::value::normalize;
 use std::alloc::Global;
@@ -89,7 +89,7 @@ pub fn remove_at(buffer: &[u8], items: &mut Vec<Item>, at: usize) -> Result<Vec<
 }
 
 /// The place of the last entry, if there is one. It walks from the end up to that entry. Takes no memory.
-#[tactic(auto, using(gitconf_lines::proofs::Places::fronts))]
+#[tactic(auto, using(crate::proofs::Places::fronts))]
 pub fn last_entry(items: &[Item]) -> Option<usize>
     ensures { IsLastPlace is_stored_entry items.now result }
 {

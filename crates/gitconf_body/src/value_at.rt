@@ -5,9 +5,9 @@ ghost use Rattle.gitconf_items.specs.declared.items.Item.TheVariants as kinds;
 ghost use Rattle.gitconf_items.specs.Items.{assigned_of, items_of};
 ghost use Rattle.gitconf_items.specs.ItemsFit.{AreItemsWithin, EntryFits};
 ghost use Rattle.gitconf_state.specs.Editors as state;
-ghost use Rattle.gitconf_lines.specs.Buffers.{Grows};
-ghost use Rattle.gitconf_lines.specs.Editors.{editor_in, EditorFits};
-ghost use Rattle.gitconf_lines.specs.Standing.{Stand, end_items};
+ghost use Rattle.gitconf_body.specs.Buffers.{Grows};
+ghost use Rattle.gitconf_body.specs.Editors.{editor_in, EditorFits};
+ghost use Rattle.gitconf_body.specs.Standing.{Stand, end_items};
 ghost use Rattle.gitconf_body.specs.Taken.{StayWithin};
 ghost use Rattle.gitconf_body.specs.ValuesAt as spec;
 ghost use Rattle.gitconf_body.specs.ValuesAt.{IfReplaces, behind_way, instead_of, written_put};
@@ -15,9 +15,9 @@ ghost use Rattle.gitconf_body.specs.ValuesAt.{IfReplaces, behind_way, instead_of
 use gitconf_items::entry::{AssignedRef, Entry, Value};
 use gitconf_items::event::Span;
 use gitconf_items::items::Item;
-use gitconf_lines::buffer::check_room;
-use gitconf_lines::editor::Editor;
-use gitconf_lines::push::{put_entry, value_len};
+use crate::buffer::check_room;
+use crate::editor::Editor;
+use crate::push::{put_entry, value_len};
 use gitconf_text::NoMemory;
 use gitconf_text::parse::span;
 
@@ -156,7 +156,7 @@ pub fn check_write(
 ///
 /// A [`span::Error`]: 3 where the buffer would be longer than 4294967295 bytes, otherwise 27 when out of memory. The items are then as they
 /// were, and the buffer may have grown.
-#[tactic(auto, using(gitconf_lines::proofs::Buffers::extending))]
+#[tactic(auto, using(crate::proofs::Buffers::extending))]
 pub fn write_at(
     buffer: &mut Vec<u8>,
     items: &mut Vec<Item>,

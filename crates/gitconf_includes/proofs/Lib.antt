@@ -1,1 +1,14 @@
 pub mod Worked
+pub mod Behind
+pub mod Fetching
+pub mod Keeping
+pub mod Lossy
+pub mod Nothing
+pub mod Numbers
+pub mod OneLoad
+pub mod OneOutcome
+pub mod OnePath
+pub mod OwnSections
+pub mod Says
+pub mod States
+pub mod Steps

@@ -2,3 +2,4 @@
 pub mod Rules
 pub mod Paths
 pub mod Conditions
+pub mod Expansions

@@ -3,3 +3,8 @@ pub mod Options
 pub mod Rules
 pub mod Paths
 pub mod Conditions
+pub mod Inclusion
+pub mod Expansion
+pub mod Visits
+pub mod Outcomes
+pub mod Laws

@@ -5,7 +5,7 @@ use Rattle.std.specs.Option.{option_map}
 use Rattle.std.specs.Borrow.{Bor}
 use Rattle.std.specs.declared.string.String.{String}
 use Rattle.std.specs.declared.alloc.Global.{Global}
-use Rattle.gitconf_base.specs.Metadata.{Meta}
+use Rattle.gitconf_sources.specs.Metadata.{Meta}
 use Rattle.gitconf_values.specs.Interpolated.{interpolated}
 use Rattle.gitconf_values.specs.Paths.{parent, join, begins_slash}
 use Rattle.gitconf_includes.specs.Errors.{includes_number}

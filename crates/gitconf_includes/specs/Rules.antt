@@ -2,7 +2,7 @@
 use Rattle.std.specs.Prelude.{ℕ, Bool, false, List, Option, Some, None, Result, Ok, Err}
 use Rattle.std.specs.Option.{option_copied, option_map}
 use Rattle.std.specs.Borrow.{Bor}
-use Rattle.gitconf_host.specs.declared.fault.FileFault.{FileFault}
+use Rattle.gitconf_sources.specs.declared.fault.FileFault.{FileFault}
 use Rattle.gitconf_includes.specs.declared.includes.conditional.GitDir.{GitDir}
 use Rattle.gitconf_includes.specs.declared.includes.Options.{Options as Includes}
 use Rattle.gitconf_includes.specs.declared.init.Options.{Options as Init}

@@ -1,8 +1,13 @@
-//! Files that include others, and how files are made: the options of both, what is refused, which file a path names,
-//! and whether a condition holds.
+//! Includes: which are followed, under which conditions, as options; which file a path names; and the expansion of a file over whatever
+//! keeps its sections.
 #![tactic(auto)]
 
 pub mod conditions;
+pub mod config_file;
+pub mod expanding;
+mod following;
 pub mod includes;
 pub mod init;
+mod judging;
+pub mod laws;
 pub mod paths;

@@ -8,7 +8,7 @@ ghost use Rattle.gitconf_includes.specs.Rules.{rules_of_includes};
 
 use crate::includes::{Error, Options};
 use bstr::BString;
-use gitconf_base::meta::Metadata;
+use gitconf_sources::meta::Metadata;
 use gitconf_text::NoMemory;
 use gitconf_values::Path;
 use gitconf_values::path::{interpolate, join, parent};

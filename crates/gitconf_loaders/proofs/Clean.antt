@@ -3,13 +3,13 @@ use Rattle.std.proofs.Common.{◌≡◌, ℕ, Bool, true, false, not, if◌then�
 use Rattle.std.specs.List.{list_all}
 use Rattle.gitconf_text.specs.Document.{IsText, gathered}
 use Rattle.gitconf_text.specs.Part.{BlanksItem, CommentItem, EntryItem, Item, LineEndsItem, Part}
-use Rattle.gitconf_base.specs.Metadata.{api_meta, Meta, meta_of_file}
-use Rattle.gitconf_base.specs.declared.source.Source.{Source}
-use Rattle.gitconf_host.specs.Reports.{FileReport, May, read_of, VariableReport}
-use Rattle.gitconf_host.specs.declared.host.Places.{Places}
-use Rattle.gitconf_host.specs.declared.fault.FileFault.{FileFault}
-use Rattle.gitconf_host.specs.declared.fault.Stage.{Stage}
-use Rattle.gitconf_host.specs.declared.fault.Stage.TheVariants.{Open, Read, Memory}
+use Rattle.gitconf_sources.specs.Metadata.{api_meta, Meta, meta_of_file}
+use Rattle.gitconf_sources.specs.declared.source.Source.{Source}
+use Rattle.gitconf_sources.specs.Reports.{FileReport, May, read_of, VariableReport}
+use Rattle.gitconf_sources.specs.declared.host.Places.{Places}
+use Rattle.gitconf_sources.specs.declared.fault.FileFault.{FileFault}
+use Rattle.gitconf_sources.specs.declared.fault.Stage.{Stage}
+use Rattle.gitconf_sources.specs.declared.fault.Stage.TheVariants.{Open, Read, Memory}
 use Rattle.gitconf_state.specs.Clean.{IsClean}
 use Rattle.gitconf_state.specs.Edits.{Append, apply, joined}
 use Rattle.gitconf_state.specs.LineEnds.{file_line_end}
@@ -18,9 +18,9 @@ use Rattle.gitconf_state.specs.State.{entries_of, is_entry, SectionState, State}
 use Rattle.gitconf_state.proofs.Edits.Keep.{apply_clean, joined_passes, without_entries}
 use Rattle.gitconf_state.proofs.Loading.Clean.{full_is_clean}
 use Rattle.gitconf_read.proofs.OneDocument.{one_document}
-use Rattle.gitconf_expansion.specs.Expansion.{Asks, Ended, IsLoaded, On}
-use Rattle.gitconf_expansion.specs.Laws.{AreHeaded}
-use Rattle.gitconf_expansion.proofs.States.{headed_stays, IsHeaded, loaded_headed}
+use Rattle.gitconf_includes.specs.Expansion.{Asks, Ended, IsLoaded, On}
+use Rattle.gitconf_includes.specs.Laws.{AreHeaded}
+use Rattle.gitconf_includes.proofs.States.{headed_stays, IsHeaded, loaded_headed}
 use Rattle.gitconf_loaders.specs.Resolving.{IsMadeOf}
 use Rattle.gitconf_loaders.specs.Globals.{empty_file, home_rules, IsGlobal}
 use Rattle.gitconf_loaders.specs.Paths.{AreLoaded, has_room_behind, IsBehind, IsFileLoaded, IsLoadedFrom, IsLoadOfPaths, IsMetaLoaded, IsTextTaken, Joins, once, taken}

@@ -1,8 +1,8 @@
 -- How often a host's files failed, over one call and over several.
 use Rattle.std.proofs.Common.{◌≡◌, ◌⊎◌, ℕ, Bool, true, false, Option, Some, None, Result, Ok, Err, inl, inr, refl, sym, subst, arith}
-use Rattle.gitconf_host.specs.Reports.{CountsOne, Grew, IsCounted, IsNoLess}
-use Rattle.gitconf_host.specs.declared.fault.FileFault.{FileFault}
-use Rattle.gitconf_expansion.specs.Outcomes.{CountsFault, is_file_number}
+use Rattle.gitconf_sources.specs.Reports.{CountsOne, Grew, IsCounted, IsNoLess}
+use Rattle.gitconf_sources.specs.declared.fault.FileFault.{FileFault}
+use Rattle.gitconf_includes.specs.Outcomes.{CountsFault, is_file_number}
 use Rattle.gitconf_loaders.specs.Paths.{CountsLoad}
 
 -- nothing was asked

@@ -6,3 +6,6 @@ pub mod Seen
 pub mod Made
 pub mod OneText
 pub mod UrlLemmas
+pub mod Asked
+pub mod GatheredLists
+pub mod Gathered

@@ -2,7 +2,7 @@
 use Rattle.std.proofs.Common.{◌≡◌, ◌≢◌, ℕ, ◌==◌, Bool, true, false, List, None, Result, Ok, Err, refl, sym, ap, subst, ◌∙◌}
 use Rattle.std.specs.Prelude.{IsErrAnd}
 use Rattle.std.proofs.lemmas.Bool.{eqb-true}
-use Rattle.gitconf_base.specs.Metadata.{Meta}
+use Rattle.gitconf_sources.specs.Metadata.{Meta}
 use Rattle.gitconf_includes.specs.declared.includes.Error.{Error}
 use Rattle.gitconf_includes.specs.declared.includes.Error.TheVariants as refusals
 use Rattle.gitconf_includes.specs.declared.init.Error.{Error as Init}
@@ -10,8 +10,8 @@ use Rattle.gitconf_includes.specs.Errors.{includes_number, init_number, init_of_
 use Rattle.gitconf_read.specs.EventResult.{IsRefused}
 use Rattle.gitconf_read.specs.ParseError.{Refusal}
 use Rattle.gitconf_state.specs.State.{State}
-use Rattle.gitconf_expansion.specs.Expansion.{Asks, Ended, Expands, IsLoaded, Leaves, On, Reached, Resolves}
-use Rattle.gitconf_expansion.proofs.Steps.{expands_wanting, leaves_refused}
+use Rattle.gitconf_includes.specs.Expansion.{Asks, Ended, Expands, IsLoaded, Leaves, On, Reached, Resolves}
+use Rattle.gitconf_includes.proofs.Steps.{expands_wanting, leaves_refused}
 use Rattle.gitconf_loaders.specs.Resolving.{IsMadeOf}
 
 parse_number : (e : Refusal) → init_number (init_of_parse e) ≡ e.number

@@ -5,21 +5,21 @@ use Rattle.std.proofs.lemmas.Bool.{eqb-true}
 use Rattle.std.specs.declared.alloc.Global.{Global}
 use Rattle.std.specs.declared.string.String.{String}
 use Rattle.std.specs.declared.vec.Vec.{Vec}
-use Rattle.gitconf_base.specs.Metadata.{meta_of_file}
-use Rattle.gitconf_base.specs.declared.source.Source.{Source}
-use Rattle.gitconf_base.specs.declared.source.Trust.{Trust}
-use Rattle.gitconf_host.specs.Reports.{FileReport, IsReadOf, IsTrustOf, May, read_of, trust_of}
-use Rattle.gitconf_host.specs.declared.fault.FileFault.{FileFault}
-use Rattle.gitconf_host.specs.declared.fault.Stage.{Stage}
-use Rattle.gitconf_host.specs.declared.fault.Stage.TheVariants.{Open, Read, Memory}
+use Rattle.gitconf_sources.specs.Metadata.{meta_of_file}
+use Rattle.gitconf_sources.specs.declared.source.Source.{Source}
+use Rattle.gitconf_sources.specs.declared.source.Trust.{Trust}
+use Rattle.gitconf_sources.specs.Reports.{FileReport, IsReadOf, IsTrustOf, May, read_of, trust_of}
+use Rattle.gitconf_sources.specs.declared.fault.FileFault.{FileFault}
+use Rattle.gitconf_sources.specs.declared.fault.Stage.{Stage}
+use Rattle.gitconf_sources.specs.declared.fault.Stage.TheVariants.{Open, Read, Memory}
 use Rattle.gitconf_read.specs.EventResult.{IsRefused}
 use Rattle.gitconf_read.specs.ParseError.{Refusal}
 use Rattle.gitconf_state.specs.State.{State}
-use Rattle.gitconf_expansion.specs.Expansion.{IsLoadOf}
-use Rattle.gitconf_refusals.specs.declared.from_paths.Error.{Error}
-use Rattle.gitconf_refusals.specs.declared.from_paths.Error.TheVariants as paths
+use Rattle.gitconf_includes.specs.Expansion.{IsLoadOf}
+use Rattle.gitconf_loaders.specs.declared.from_paths.Error.{Error}
+use Rattle.gitconf_loaders.specs.declared.from_paths.Error.TheVariants as paths
 use Rattle.gitconf_loaders.specs.Causes.{IsFault, IsFileCause, load_refusal}
-use Rattle.gitconf_refusals.specs.Errors.{paths_number, paths_of_parse}
+use Rattle.gitconf_loaders.specs.Errors.{paths_number, paths_of_parse}
 use Rattle.gitconf_loaders.specs.Paths.{IsLoadedFrom, IsRead, load_fault, numbered}
 
 -- a text that is read is returned by the table

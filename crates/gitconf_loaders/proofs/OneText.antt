@@ -1,14 +1,14 @@
 -- Over one table that is told a text makes one file, apart from running out of memory.
 use Rattle.std.proofs.Common.{◌≡◌, ◌≢◌, ℕ, List, Some, None, Result, Ok, Err, IfErr, sym, subst, ◌∙◌}
-use Rattle.gitconf_base.specs.Metadata.{Meta}
-use Rattle.gitconf_host.specs.Reports.{FileReport}
+use Rattle.gitconf_sources.specs.Metadata.{Meta}
+use Rattle.gitconf_sources.specs.Reports.{FileReport}
 use Rattle.gitconf_includes.specs.declared.init.Error.{Error}
 use Rattle.gitconf_includes.specs.Errors.{init_number}
 use Rattle.gitconf_state.specs.State.{State}
-use Rattle.gitconf_expansion.specs.Expansion.{Asks, Ended, On, Reached}
-use Rattle.gitconf_expansion.specs.Laws.{IsAnswered}
-use Rattle.gitconf_expansion.proofs.OneLoad.{one_load}
-use Rattle.gitconf_expansion.proofs.OneOutcome.{one_outcome}
+use Rattle.gitconf_includes.specs.Expansion.{Asks, Ended, On, Reached}
+use Rattle.gitconf_includes.specs.Laws.{IsAnswered}
+use Rattle.gitconf_includes.proofs.OneLoad.{one_load}
+use Rattle.gitconf_includes.proofs.OneOutcome.{one_outcome}
 use Rattle.gitconf_loaders.specs.Resolving.{AreMadeAlike, IsMadeOf, Makes, MakesOf}
 
 -- a call that returns has a load and an outcome that are returned

@@ -7,11 +7,11 @@ use Rattle.std.specs.Str.{bytes_eq}
 use Rattle.std.specs.Cmp.Lexicographic.{bytes_decides}
 use Rattle.std.specs.declared.vec.Vec.{Vec}
 use Rattle.std.proofs.lemmas.Bool.{eqb-true, leb-false, le-ltb, lt-leb, ltb-false}
-use Rattle.gitconf_base.specs.Metadata.{Meta}
-use Rattle.gitconf_host.specs.Reports.{FileReport, IsNoLess, IsReadOf, May, read_of}
-use Rattle.gitconf_host.specs.declared.fault.FileFault.{FileFault}
-use Rattle.gitconf_host.specs.declared.fault.Stage.{Stage}
-use Rattle.gitconf_host.specs.declared.fault.Stage.TheVariants.{Open, Read, Memory}
+use Rattle.gitconf_sources.specs.Metadata.{Meta}
+use Rattle.gitconf_sources.specs.Reports.{FileReport, IsNoLess, IsReadOf, May, read_of}
+use Rattle.gitconf_sources.specs.declared.fault.FileFault.{FileFault}
+use Rattle.gitconf_sources.specs.declared.fault.Stage.{Stage}
+use Rattle.gitconf_sources.specs.declared.fault.Stage.TheVariants.{Open, Read, Memory}
 use Rattle.gitconf_includes.specs.declared.init.Error.{Error as Init}
 use Rattle.gitconf_includes.specs.declared.init.Error.TheVariants as init
 use Rattle.gitconf_includes.specs.declared.init.Options.{Options}
@@ -21,13 +21,13 @@ use Rattle.gitconf_state.specs.Edit.{with_used}
 use Rattle.gitconf_state.specs.Edits.{Append, apply}
 use Rattle.gitconf_state.specs.State.{State}
 use Rattle.gitconf_store.specs.Appends.{appended_bytes}
-use Rattle.gitconf_expansion.specs.Expansion.{Asks, Ended, On}
-use Rattle.gitconf_expansion.specs.Outcomes.{CountsFault}
+use Rattle.gitconf_includes.specs.Expansion.{Asks, Ended, On}
+use Rattle.gitconf_includes.specs.Outcomes.{CountsFault}
 use Rattle.gitconf_loaders.specs.Resolving.{IsMadeCause, IsMadeOf}
-use Rattle.gitconf_refusals.specs.declared.from_paths.Error.{Error}
-use Rattle.gitconf_refusals.specs.declared.from_paths.Error.TheVariants as paths
+use Rattle.gitconf_loaders.specs.declared.from_paths.Error.{Error}
+use Rattle.gitconf_loaders.specs.declared.from_paths.Error.TheVariants as paths
 use Rattle.gitconf_loaders.specs.Causes.{has_path, IsLoadCause, IsMetaCause, IsPathCause}
-use Rattle.gitconf_refusals.specs.Errors.{paths_number, paths_of_init, paths_of_span}
+use Rattle.gitconf_loaders.specs.Errors.{paths_number, paths_of_init, paths_of_span}
 use Rattle.gitconf_loaders.specs.Paths.{AreLoaded, CountsLoad, has_room_behind, IsFileLoaded, IsLoadOfPaths, IsMetaLoaded, is_among, IsTextTaken, Joins, left_by, load_fault, numbered, once, taken}
 use Rattle.gitconf_loaders.proofs.Counts.{fault_load, later as counts_later, renumbered}
 

@@ -4,11 +4,11 @@ use Rattle.std.specs.Prelude.{◌||◌, codes, filter, flat_map, map, slice_get}
 use Rattle.std.specs.List.{list_any}
 use Rattle.std.proofs.lemmas.List.{map-append}
 use Rattle.std.proofs.lemmas.List.Folds.{list_any-append}
-use Rattle.gitconf_finding.specs.Walks.{with_name}
+use Rattle.gitconf_lookups.specs.Walks.{with_name}
 use Rattle.gitconf_glob.specs.Pattern.{matches}
 use Rattle.gitconf_state.specs.Lookup.{entries_of_key, has_name, listing, meaning}
 use Rattle.gitconf_state.specs.State.{SectionState, State}
-use Rattle.gitconf_expansion.specs.Inclusion.{has_url}
+use Rattle.gitconf_includes.specs.Inclusion.{has_url}
 use Rattle.gitconf_loaders.specs.Urls.{has_url_in}
 
 -- some remote's url matches if and only if some section named `remote` has one that does

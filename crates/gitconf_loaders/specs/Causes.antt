@@ -6,17 +6,17 @@ use Rattle.std.specs.Option.{option_eq}
 use Rattle.std.specs.Str.{bytes_eq}
 use Rattle.std.specs.declared.alloc.Global.{Global}
 use Rattle.std.specs.declared.string.String.{String}
-use Rattle.gitconf_base.specs.Metadata.{Meta}
-use Rattle.gitconf_base.specs.declared.source.Trust.{Trust}
-use Rattle.gitconf_host.specs.Reports.{FileReport, May, read_of, trust_of}
-use Rattle.gitconf_host.specs.declared.fault.FileFault.{FileFault}
-use Rattle.gitconf_host.specs.declared.fault.Stage.TheVariants.{Open, Read, Memory}
+use Rattle.gitconf_sources.specs.Metadata.{Meta}
+use Rattle.gitconf_sources.specs.declared.source.Trust.{Trust}
+use Rattle.gitconf_sources.specs.Reports.{FileReport, May, read_of, trust_of}
+use Rattle.gitconf_sources.specs.declared.fault.FileFault.{FileFault}
+use Rattle.gitconf_sources.specs.declared.fault.Stage.TheVariants.{Open, Read, Memory}
 use Rattle.gitconf_includes.specs.declared.init.Error.TheVariants as init
 use Rattle.gitconf_includes.specs.declared.init.Options.{Options}
 use Rattle.gitconf_read.specs.EventResult.{IsRefused}
-use Rattle.gitconf_expansion.specs.Outcomes.{IsCause, IsFaultOf, IsTextOf}
-use Rattle.gitconf_refusals.specs.declared.from_paths.Error.{Error}
-use Rattle.gitconf_refusals.specs.declared.from_paths.Error.TheVariants as paths
+use Rattle.gitconf_includes.specs.Outcomes.{IsCause, IsFaultOf, IsTextOf}
+use Rattle.gitconf_loaders.specs.declared.from_paths.Error.{Error}
+use Rattle.gitconf_loaders.specs.declared.from_paths.Error.TheVariants as paths
 use Rattle.gitconf_loaders.specs.Paths.{is_among, IsTextTaken}
 
 -- how a load is refused for a fault of the file at a path

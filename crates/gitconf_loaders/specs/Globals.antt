@@ -2,17 +2,17 @@
 -- Source: git-config's manual page, under "FILES"; the order is that in which Git reads them.
 use Rattle.std.specs.Prelude.{◌≡◌, ◌⊎◌, ℕ, true, false, List, [], Option, None, Result, Ok, Err, string_bytes}
 use Rattle.std.specs.Option.{option_map, unwrap_or}
-use Rattle.gitconf_base.specs.Metadata.{api_meta, Meta}
-use Rattle.gitconf_host.specs.Reports.{FileReport, VariableReport}
-use Rattle.gitconf_host.specs.declared.host.Places.{Places}
+use Rattle.gitconf_sources.specs.Metadata.{api_meta, Meta}
+use Rattle.gitconf_sources.specs.Reports.{FileReport, VariableReport}
+use Rattle.gitconf_sources.specs.declared.host.Places.{Places}
 use Rattle.gitconf_includes.specs.Rules.{Rules, rules_of}
 use Rattle.gitconf_includes.specs.declared.init.Options.{Options}
-use Rattle.gitconf_places.specs.Found.{global_sources, AreFound}
+use Rattle.gitconf_sources.specs.FoundFiles.{global_sources, AreFound}
 use Rattle.gitconf_state.specs.State.{State}
 use Rattle.gitconf_loaders.specs.Causes.{IsLoadCause}
 use Rattle.gitconf_loaders.specs.Paths.{IsLoadOfPaths, Then}
-use Rattle.gitconf_refusals.specs.declared.from_paths.Error.{Error}
-use Rattle.gitconf_refusals.specs.declared.from_paths.Error.TheVariants.{Memory}
+use Rattle.gitconf_loaders.specs.declared.from_paths.Error.{Error}
+use Rattle.gitconf_loaders.specs.declared.from_paths.Error.TheVariants.{Memory}
 
 -- The rules of their includes: ten files deep, with the user's home folder and those of users; nothing is known that conditions ask for.
 abbrev pub home_rules : Places → Rules

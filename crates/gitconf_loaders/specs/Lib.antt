@@ -3,3 +3,7 @@ pub mod Causes
 pub mod Globals
 pub mod Resolving
 pub mod Urls
+pub mod Errors
+pub mod Variables
+pub mod Gathering
+pub mod LookupErrors

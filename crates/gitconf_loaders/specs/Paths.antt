@@ -6,20 +6,20 @@ use Rattle.std.specs.Option.{option_map}
 use Rattle.std.specs.Result.{result_map_both}
 use Rattle.std.specs.Str.{bytes_eq}
 use Rattle.std.specs.declared.vec.Vec.{Vec}
-use Rattle.gitconf_base.specs.Metadata.{Meta, meta_of_file}
-use Rattle.gitconf_base.specs.declared.source.Source.{Source}
-use Rattle.gitconf_base.specs.declared.source.Trust.{Trust}
-use Rattle.gitconf_host.specs.Reports.{FileReport, Grew, IsNoLess, May, read_of, trust_of}
-use Rattle.gitconf_host.specs.declared.fault.FileFault.{FileFault}
-use Rattle.gitconf_host.specs.declared.fault.Stage.{Stage}
-use Rattle.gitconf_host.specs.declared.fault.Stage.TheVariants.{Open, Read, Memory}
+use Rattle.gitconf_sources.specs.Metadata.{Meta, meta_of_file}
+use Rattle.gitconf_sources.specs.declared.source.Source.{Source}
+use Rattle.gitconf_sources.specs.declared.source.Trust.{Trust}
+use Rattle.gitconf_sources.specs.Reports.{FileReport, Grew, IsNoLess, May, read_of, trust_of}
+use Rattle.gitconf_sources.specs.declared.fault.FileFault.{FileFault}
+use Rattle.gitconf_sources.specs.declared.fault.Stage.{Stage}
+use Rattle.gitconf_sources.specs.declared.fault.Stage.TheVariants.{Open, Read, Memory}
 use Rattle.gitconf_text.specs.Sections.{no_number}
 use Rattle.gitconf_state.specs.Edit.{with_used}
 use Rattle.gitconf_state.specs.Edits.{Append, apply}
 use Rattle.gitconf_state.specs.State.{State}
 use Rattle.gitconf_store.specs.Appends.{appended_bytes}
-use Rattle.gitconf_expansion.specs.Expansion.{Asks, IsLoadOf}
-use Rattle.gitconf_expansion.specs.Outcomes.{is_file_number}
+use Rattle.gitconf_includes.specs.Expansion.{Asks, IsLoadOf}
+use Rattle.gitconf_includes.specs.Outcomes.{is_file_number}
 use Rattle.gitconf_loaders.specs.Resolving.{IsMadeOf}
 
 -- a result, with the number of its refusal

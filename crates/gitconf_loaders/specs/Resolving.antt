@@ -1,15 +1,15 @@
 -- A file that is made of bytes, and then expanded.
 use Rattle.std.specs.Prelude.{◌≡◌, ℕ, List, Option, None, Result, Ok, Err}
-use Rattle.gitconf_base.specs.Metadata.{Meta}
-use Rattle.gitconf_host.specs.Reports.{FileReport}
+use Rattle.gitconf_sources.specs.Metadata.{Meta}
+use Rattle.gitconf_sources.specs.Reports.{FileReport}
 use Rattle.gitconf_includes.specs.declared.init.Error.{Error}
 use Rattle.gitconf_includes.specs.declared.init.Error.TheVariants.{Includes, Parse}
 use Rattle.gitconf_includes.specs.declared.init.Options.{Options}
 use Rattle.gitconf_includes.specs.Errors.{init_number}
 use Rattle.gitconf_read.specs.EventResult.{IsRefused}
 use Rattle.gitconf_state.specs.State.{State}
-use Rattle.gitconf_expansion.specs.Expansion.{Asks, Ended, Expands, IsLoadOf, On, Reached}
-use Rattle.gitconf_expansion.specs.Outcomes.{CountsFault, IsCause}
+use Rattle.gitconf_includes.specs.Expansion.{Asks, Ended, Expands, IsLoadOf, On, Reached}
+use Rattle.gitconf_includes.specs.Outcomes.{CountsFault, IsCause}
 
 -- a call makes the expanded file, or is refused with that number
 abbrev pub Makes : {E : Type 0} → (number : E → ℕ) → Result State E → Reached → Type 0

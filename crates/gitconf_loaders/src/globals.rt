@@ -1,18 +1,17 @@
 //! The configuration of the machine and of the user.
 ghost use Rattle.std.specs.Prelude.{◌≡◌, false, unwrap_or, IfErr, IfOk};
-ghost use Rattle.gitconf_base.specs.Metadata.{api_meta};
+ghost use Rattle.gitconf_sources.specs.Metadata.{api_meta};
 ghost use Rattle.gitconf_includes.specs.Rules.{rules_of};
-ghost use Rattle.gitconf_refusals.specs.Errors.{paths_number};
+ghost use Rattle.gitconf_loaders.specs.Errors.{paths_number};
 ghost use Rattle.gitconf_loaders.specs.Globals.{empty_file, home_rules, IsGlobal, IsGlobalCause};
 ghost use Rattle.gitconf_loaders.specs.Paths.{CountsLoad, numbered};
 
 use crate::paths::{from_paths, shared};
-use gitconf_base::meta::Metadata;
-use gitconf_host::{Env, Files, Places};
+use gitconf_sources::meta::Metadata;
+use gitconf_sources::{Env, Files, Places, all_found};
 use gitconf_includes::includes;
 use gitconf_includes::init::Options;
-use gitconf_places::all_found;
-use gitconf_refusals::from_paths::Error;
+use crate::from_paths::Error;
 use gitconf_store::store::Store;
 use gitconf_text::NoMemory;
 use std::alloc::Global;

@@ -1,16 +1,16 @@
 //! What holds of loaded files, for all hosts that report what is at each path, and of what these include: each law is a function that
 //! does nothing.
 ghost use Rattle.std.specs.Prelude.{◌≡◌, ◌≢◌, ℕ, Bool, IfErr, List, [], Ok, Option, Result, Some};
-ghost use Rattle.gitconf_base.specs.Metadata.{Meta};
-ghost use Rattle.gitconf_base.specs.declared.source.Source.{Source};
-ghost use Rattle.gitconf_host.specs.Reports.{FileReport, VariableReport};
-ghost use Rattle.gitconf_host.specs.declared.host.Places.{Places};
+ghost use Rattle.gitconf_sources.specs.Metadata.{Meta};
+ghost use Rattle.gitconf_sources.specs.declared.source.Source.{Source};
+ghost use Rattle.gitconf_sources.specs.Reports.{FileReport, VariableReport};
+ghost use Rattle.gitconf_sources.specs.declared.host.Places.{Places};
 ghost use Rattle.gitconf_includes.specs.declared.init.Error.{Error};
 ghost use Rattle.gitconf_includes.specs.Errors.{init_number};
 ghost use Rattle.gitconf_state.specs.Clean.{IsClean};
 ghost use Rattle.gitconf_state.specs.State.{entries_of, State};
-ghost use Rattle.gitconf_expansion.specs.Expansion.{Asks};
-ghost use Rattle.gitconf_expansion.specs.Laws.{AreHeaded};
+ghost use Rattle.gitconf_includes.specs.Expansion.{Asks};
+ghost use Rattle.gitconf_includes.specs.Laws.{AreHeaded};
 ghost use Rattle.gitconf_loaders.specs.Globals.{IsGlobal};
 ghost use Rattle.gitconf_loaders.specs.Paths.{IsLoadedFrom, IsLoadOfPaths};
 ghost use Rattle.gitconf_loaders.specs.Resolving.{AreMadeAlike, IsMadeOf};

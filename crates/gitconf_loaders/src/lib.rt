@@ -1,8 +1,16 @@
-//! The includes of a file that a store keeps; files that are loaded by their paths or by the places of sources.
+//! Files loaded by paths and expanded, the configuration of the machine and of the user, the entries that variables set; why loads are
+//! refused, and the numbers of all refusals.
 #![tactic(auto)]
 
 mod expansion;
+pub mod from_env;
+pub mod from_git_dir;
+pub mod from_paths;
+pub mod gathering;
 pub mod globals;
 pub mod laws;
+pub mod lookup;
 pub mod paths;
+pub mod refusals;
 pub mod resolving;
+pub mod variables;

@@ -1,19 +1,19 @@
 //! Files that are loaded by their paths.
 ghost use Rattle.std.specs.Prelude.{◌≡◌, ◌⊎◌, ◌&&◌, ◌||◌, ℕ, if◌then◌else◌, List, [], ◌∷◌, Err, not, IfErr, IfOk, string_bytes};
-ghost use Rattle.gitconf_expansion.specs.Outcomes.{asks_of, IsFaultOf};
+ghost use Rattle.gitconf_includes.specs.Outcomes.{asks_of, IsFaultOf};
 ghost use Rattle.gitconf_includes.specs.declared.init.Error.TheVariants.{Span};
 ghost use Rattle.gitconf_loaders.specs.Causes.{IsFileCause, IsLoadCause, IsMetaCause, load_refusal, Sees};
-ghost use Rattle.gitconf_refusals.specs.Errors.{paths_number};
-ghost use Rattle.gitconf_host.specs.declared.fault.Stage.TheVariants.{Memory};
-ghost use Rattle.gitconf_refusals.specs.declared.from_paths.Error.TheVariants as refusals;
+ghost use Rattle.gitconf_loaders.specs.Errors.{paths_number};
+ghost use Rattle.gitconf_sources.specs.declared.fault.Stage.TheVariants.{Memory};
+ghost use Rattle.gitconf_loaders.specs.declared.from_paths.Error.TheVariants as refusals;
 ghost use Rattle.gitconf_loaders.specs.Paths.{CountsLoad, is_among, IsLoadedFrom, IsLoadOfPaths, IsMetaLoaded, IsTextTaken, Joins, left_by, load_fault, numbered, once, text_taken};
 
 use crate::resolving::{load, resolved_text};
-use gitconf_base::meta::Metadata;
-use gitconf_base::source::Source;
-use gitconf_host::{FileFault, Files, Stage};
+use gitconf_sources::meta::Metadata;
+use gitconf_sources::source::Source;
+use gitconf_sources::{FileFault, Files, Stage};
 use gitconf_includes::init::Options;
-use gitconf_refusals::from_paths::Error;
+use crate::from_paths::Error;
 use gitconf_store::store::Store;
 use gitconf_text::NoMemory;
 use std::alloc::Global;

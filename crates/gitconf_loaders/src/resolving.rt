@@ -1,16 +1,16 @@
 //! Resolving includes.
 ghost use Rattle.std.specs.Prelude.{◌≡◌, None, IfErr};
 ghost use Rattle.gitconf_includes.specs.Errors.{includes_number, init_number};
-ghost use Rattle.gitconf_expansion.specs.Expansion.{Expands, Leaves, Reached};
-ghost use Rattle.gitconf_expansion.specs.Outcomes.{asks_of, CountsFaults, IsCause};
+ghost use Rattle.gitconf_includes.specs.Expansion.{Expands, Leaves, Reached};
+ghost use Rattle.gitconf_includes.specs.Outcomes.{asks_of, CountsFaults, IsCause};
 ghost use Rattle.gitconf_loaders.specs.Resolving.{IsMadeCause, IsMadeOf, MakesCounted};
 
 use crate::expansion::Expansion;
 pub use crate::expansion::load;
-use gitconf_base::meta::Metadata;
-use gitconf_expansion::expanding::expand_file;
-use gitconf_gathering::gathering::Gathering;
-use gitconf_host::Files;
+use gitconf_sources::meta::Metadata;
+use gitconf_includes::expanding::expand_file;
+use crate::gathering::Gathering;
+use gitconf_sources::Files;
 use gitconf_includes::includes::Error;
 use gitconf_includes::init;
 use gitconf_includes::init::Options;

@@ -2,3 +2,13 @@ pub mod Filtering
 pub mod Cuts
 pub mod Groups
 pub mod ReadSelections
+pub mod CommentLaws
+pub mod Decisions
+pub mod Raws
+pub mod Entries
+pub mod Walks
+pub mod Sought
+pub mod Fours
+pub mod Gaps
+pub mod OneDocument
+pub mod Endings

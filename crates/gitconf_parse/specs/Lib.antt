@@ -1,1 +1,5 @@
 pub mod EventIters
+pub mod Lookup
+pub mod Met
+pub mod Places
+pub mod Walk

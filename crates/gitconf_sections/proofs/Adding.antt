@@ -6,7 +6,7 @@ use Rattle.std.proofs.lemmas.List.{drop_all, length-append, length-map, map-appe
 use Rattle.std.proofs.Math.Seq.{drop-append-add, drop-append_seam}
 use Rattle.gitconf_text.specs.Bytes.{fold}
 use Rattle.gitconf_items.specs.declared.items.Item.{Item}
-use Rattle.gitconf_index.specs.Pairs.{EachTwo}
+use Rattle.gitconf_table.specs.Pairs.{EachTwo}
 use Rattle.gitconf_table.specs.Renames.{with_names_at}
 use Rattle.gitconf_text.specs.Sections.{SectionEntry, Sections, changed_at, edited_at, entry_of, numbered_from, section_at, with_all, with_last, with_names, with_section}
 use Rattle.gitconf_table.proofs.SectionLemmas.{tables}

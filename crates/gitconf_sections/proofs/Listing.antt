@@ -4,11 +4,11 @@ use Rattle.std.specs.List.{slice_get, AllByRecursion, AllZip}
 use Rattle.std.specs.Option.{option_map}
 use Rattle.std.proofs.lemmas.List.{drop-append-le, take-append-le, length-drop, map-append}
 use Rattle.gitconf_items.specs.declared.items.Item.{Item}
-use Rattle.gitconf_index.specs.declared.runs.Run.{Run}
-use Rattle.gitconf_index.specs.Pairs.{EachToEach, EachTwo}
-use Rattle.gitconf_index.specs.Runs.{woven}
+use Rattle.gitconf_table.specs.declared.runs.Run.{Run}
+use Rattle.gitconf_table.specs.Pairs.{EachToEach, EachTwo}
+use Rattle.gitconf_table.specs.Runs.{woven}
 use Rattle.gitconf_text.specs.Sections.{SectionEntry, changed_at, numbered_from}
-use Rattle.gitconf_index.proofs.Woven.{all_append, all_woven, map_woven, two_joined, woven_apart}
+use Rattle.gitconf_table.proofs.Woven.{all_append, all_woven, map_woven, two_joined, woven_apart}
 use Rattle.gitconf_sections.specs.declared.body.Body.{Body}
 use Rattle.gitconf_sections.specs.declared.body.Body.TheVariants.{Listed, Nothing, Own}
 use Rattle.gitconf_sections.specs.declared.row.Row.{Row}

@@ -3,11 +3,11 @@ use Rattle.std.specs.Prelude.{◌≡◌, ◌⊎◌, ℕ, ◌+◌, ◌-◌, ◌�
 use Rattle.std.specs.List.{AllByRecursion, AllZip}
 use Rattle.std.specs.declared.rc.Rc.{Rc}
 use Rattle.std.specs.declared.alloc.Global.{Global}
-use Rattle.gitconf_base.specs.Metadata.{Meta}
+use Rattle.gitconf_sources.specs.Metadata.{Meta}
 use Rattle.gitconf_items.specs.declared.event.Header.{Header}
 use Rattle.gitconf_items.specs.declared.items.Item.{Item}
 use Rattle.gitconf_items.specs.contracts.items.ItemClone.TheImpl as item
-use Rattle.gitconf_index.specs.Pairs.{EachTwo}
+use Rattle.gitconf_table.specs.Pairs.{EachTwo}
 use Rattle.gitconf_text.specs.Sections.{SectionEntry, Sections, edited_at}
 use Rattle.gitconf_sections.specs.declared.body.Body.{Body}
 use Rattle.gitconf_sections.specs.declared.body.Body.TheVariants.{Listed, Nothing, Own}

@@ -4,7 +4,7 @@ ghost use Rattle.gitconf_sections.specs.Section.{read, viewed};
 
 use crate::body::{Body, body_items};
 use crate::held::Held;
-use gitconf_base::meta::Metadata;
+use gitconf_sources::meta::Metadata;
 use gitconf_items::event::Header;
 use gitconf_items::items::Item;
 use std::alloc::Global;

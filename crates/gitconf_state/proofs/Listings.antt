@@ -7,7 +7,7 @@ use Rattle.gitconf_text.specs.Document.{Document, DocumentEntry}
 use Rattle.gitconf_text.specs.Part.{Part}
 use Rattle.gitconf_items.specs.TokenDocument.{keeps_meaning}
 use Rattle.gitconf_text.specs.Value.{plain}
-use Rattle.gitconf_base.specs.Metadata.{Meta}
+use Rattle.gitconf_sources.specs.Metadata.{Meta}
 use Rattle.gitconf_state.specs.State.{SectionState, State, section_document}
 use Rattle.gitconf_state.specs.Equality.{compared}
 use Rattle.gitconf_state.specs.Loads.{IsFullLoad, IsLoad}

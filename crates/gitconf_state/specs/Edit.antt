@@ -7,7 +7,7 @@ use Rattle.gitconf_text.specs.Header.{Header, PlainHeader, QuotedHeader}
 use Rattle.gitconf_text.specs.Part.{Item, LineEndsItem, EntryItem}
 use Rattle.gitconf_text.specs.Token.{Token, HeaderToken, NewlineToken, ValueToken, WhitespaceToken, item_tokens, assigned_tokens, filled, spelled_token}
 use Rattle.gitconf_items.specs.EventRef.{escaped_subsection}
-use Rattle.gitconf_base.specs.Metadata.{Meta}
+use Rattle.gitconf_sources.specs.Metadata.{Meta}
 pub use Rattle.gitconf_state.specs.Entries.{update_last, is_entry_of, Spacing, blanks_of, before_entry, leading_blanks, blanks_around, separator_blanks, spacing_of, assigned_value, with_value, leading_item, item_raw}
 use Rattle.gitconf_state.specs.Editors.{Editor, editor_of_body, line_made, value_set}
 use Rattle.gitconf_state.specs.State.{SectionState, State, is_entry, with_items, with_last, with_sections}

@@ -10,8 +10,8 @@ use Rattle.gitconf_text.specs.Text.{begins, are_line_ends}
 use Rattle.gitconf_text.specs.Part.{Item, BlanksItem, LineEndsItem, CommentItem, EntryItem}
 use Rattle.gitconf_text.specs.Header.{spelled_header}
 use Rattle.gitconf_text.specs.Token.{item_tokens}
-use Rattle.gitconf_base.specs.Metadata.{Meta}
-use Rattle.gitconf_base.specs.declared.source.Trust.{Trust}
+use Rattle.gitconf_sources.specs.Metadata.{Meta}
+use Rattle.gitconf_sources.specs.declared.source.Trust.{Trust}
 pub use Rattle.gitconf_state.specs.State.{with_last, with_sections}
 use Rattle.gitconf_state.specs.State.{SectionState, State, HasSectionItems, HasItems, entries_of, is_entry, with_items}
 use Rattle.gitconf_state.specs.Lookup.{is_named, listing}

@@ -7,7 +7,7 @@ use Rattle.std.specs.Str.{bytes_eq}
 use Rattle.gitconf_text.specs.Names.{is_same_name}
 use Rattle.gitconf_text.specs.Value.{plain}
 use Rattle.gitconf_text.specs.Document.{DocumentEntry, DocumentSection}
-use Rattle.gitconf_base.specs.Metadata.{Meta}
+use Rattle.gitconf_sources.specs.Metadata.{Meta}
 use Rattle.gitconf_state.specs.State.{SectionState, State, section_document}
 
 -- a section as lookups see it: its number, where it comes from, and its document

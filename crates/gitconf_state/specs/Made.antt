@@ -2,7 +2,7 @@
 use Rattle.std.specs.Prelude.{◌≡◌, ℕ, List, [], length, map}
 use Rattle.std.specs.List.{AllByRecursion, range_with_len}
 use Rattle.gitconf_text.specs.Token.{Token}
-use Rattle.gitconf_base.specs.Metadata.{Meta}
+use Rattle.gitconf_sources.specs.Metadata.{Meta}
 use Rattle.gitconf_state.specs.State.{State}
 use Rattle.gitconf_state.specs.Loads.{state_tokens}
 

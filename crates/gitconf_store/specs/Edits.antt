@@ -5,7 +5,7 @@ use Rattle.std.specs.Option.{option_map}
 use Rattle.bstr.specs.declared.bstring.BString.{BString}
 use Rattle.bstr.specs.Owned.{bstring_bytes}
 use Rattle.gitconf_text.specs.Names.{is_made_name, is_valid_or_none, is_value_name}
-use Rattle.gitconf_base.specs.Metadata.{Meta}
+use Rattle.gitconf_sources.specs.Metadata.{Meta}
 use Rattle.gitconf_text.specs.Sections.{no_number}
 use Rattle.gitconf_state.specs.Edit.{is_target, new_section, replaced_value, section_with, set_raw_value_bytes, with_used}
 use Rattle.gitconf_state.specs.Edits.{SetRawValue, apply}

@@ -2,7 +2,7 @@
 use Rattle.std.specs.Prelude.{◌≡◌, ◌↔◌, ◌==◌, ◌+◌, ◌≤◌, ◌^◌, ℕ, true, false, List, [], ◌∷◌, Option, Some, None, Result, Err, IfErr, OnErr, OnOk}
 use Rattle.std.specs.List.{list_any}
 use Rattle.gitconf_text.specs.Names.{is_value_name}
-use Rattle.gitconf_base.specs.Key.{Key}
+use Rattle.gitconf_sources.specs.Key.{Key}
 use Rattle.gitconf_state.specs.Edit.{with_used}
 use Rattle.gitconf_state.specs.Edits.{Edit, WriteAt, apply, items_of_numbered}
 use Rattle.gitconf_state.specs.Editors.{OfEntryButLineEnd}
@@ -10,9 +10,9 @@ use Rattle.gitconf_state.specs.State.{State}
 use Rattle.gitconf_body.specs.ValuesAt.{rewritten_put}
 use Rattle.gitconf_store.specs.declared.set_raw_value.Error.{Error}
 use Rattle.gitconf_store.specs.Edits.{IsRefusal}
-use Rattle.gitconf_finding.specs.Lookups.{miss_at}
+use Rattle.gitconf_lookups.specs.Lookups.{miss_at}
 use Rattle.gitconf_store.specs.SetErrors.{of_existing, set_number}
-use Rattle.gitconf_finding.specs.ValuePlaces.{editor_of_numbered, refusal_of, value_place}
+use Rattle.gitconf_lookups.specs.ValuePlaces.{editor_of_numbered, refusal_of, value_place}
 
 -- the entry at a place is rewritten, with this name and the blanks of its section; the line ending of its value that keeps a
 -- comment off it stays

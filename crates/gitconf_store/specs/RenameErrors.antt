@@ -3,11 +3,11 @@ use Rattle.std.specs.Prelude.{ℕ, ◌==◌, if◌then◌else◌}
 use Rattle.gitconf_text.specs.HeaderErrors.{header_number}
 use Rattle.gitconf_text.specs.declared.parse.section.header.Error.{Error as HeaderError}
 use Rattle.gitconf_text.specs.declared.parse.section.header.Error.TheVariants as headers
-use Rattle.gitconf_finding.specs.declared.existing.Error.{Error as LookupError}
-use Rattle.gitconf_finding.specs.declared.existing.Error.TheVariants as lookups
+use Rattle.gitconf_lookups.specs.declared.existing.Error.{Error as LookupError}
+use Rattle.gitconf_lookups.specs.declared.existing.Error.TheVariants as lookups
 use Rattle.gitconf_store.specs.declared.rename_section.Error.{Error}
 use Rattle.gitconf_store.specs.declared.rename_section.Error.TheVariants.{Lookup, Section, Memory}
-use Rattle.gitconf_finding.specs.Misses.{existing_number}
+use Rattle.gitconf_lookups.specs.Misses.{existing_number}
 
 -- the number of each refusal
 abbrev pub rename_number : Error → ℕ

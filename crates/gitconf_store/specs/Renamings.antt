@@ -5,18 +5,18 @@ use Rattle.gitconf_text.specs.HeaderErrors.{header_number, header_numbers}
 use Rattle.gitconf_text.specs.Names.{is_made_name, is_valid_or_none}
 use Rattle.gitconf_text.specs.declared.parse.section.header.Error.{Error as HeaderError}
 use Rattle.gitconf_text.specs.declared.parse.section.header.Error.TheVariants.{InvalidName, InvalidSubSection, Span}
-use Rattle.gitconf_base.specs.Metadata.{Meta}
+use Rattle.gitconf_sources.specs.Metadata.{Meta}
 use Rattle.gitconf_items.specs.declared.event.Header.{Header}
 use Rattle.gitconf_text.specs.Sections.{Sections, edited_at}
 use Rattle.gitconf_state.specs.Edit.{header_bytes, is_target, with_used}
 use Rattle.gitconf_state.specs.Edits.{RenameAll, apply, renamed, with_sections}
 use Rattle.gitconf_state.specs.Lookup.{is_named, listed, listing, miss_of}
 use Rattle.gitconf_state.specs.State.{State}
-use Rattle.gitconf_finding.specs.declared.existing.Error.{Error as LookupError}
+use Rattle.gitconf_lookups.specs.declared.existing.Error.{Error as LookupError}
 use Rattle.gitconf_store.specs.declared.rename_section.Error.{Error}
 use Rattle.gitconf_store.specs.declared.rename_section.Error.TheVariants.{Lookup, Section}
 use Rattle.gitconf_sections.specs.Section.{Section as Stored}
-use Rattle.gitconf_finding.specs.Misses.{missing}
+use Rattle.gitconf_lookups.specs.Misses.{missing}
 use Rattle.gitconf_store.specs.RenameErrors.{rename_number}
 
 -- the list with a change of the marked elements

@@ -5,9 +5,9 @@ use Rattle.gitconf_text.specs.declared.parse.section.header.Error.{Error as Head
 use Rattle.gitconf_text.specs.declared.parse.section.header.Error.TheVariants as headers
 use Rattle.gitconf_store.specs.declared.set_raw_value.Error.{Error}
 use Rattle.gitconf_store.specs.declared.set_raw_value.Error.TheVariants.{Lookup, Header, ValueName, Span, Memory}
-use Rattle.gitconf_finding.specs.declared.existing.Error.{Error as ExistingError}
-use Rattle.gitconf_finding.specs.declared.existing.Error.TheVariants as existing
-use Rattle.gitconf_finding.specs.Misses.{existing_number}
+use Rattle.gitconf_lookups.specs.declared.existing.Error.{Error as ExistingError}
+use Rattle.gitconf_lookups.specs.declared.existing.Error.TheVariants as existing
+use Rattle.gitconf_lookups.specs.Misses.{existing_number}
 
 -- the number of each refusal
 abbrev pub set_number : Error → ℕ

@@ -1,16 +1,16 @@
 -- Several values of existing entries: set again, deleted, and what they mean.
 use Rattle.std.specs.Prelude.{◌≡◌, ◌≢◌, ◌⊎◌, ◌↔◌, ◌+◌, ◌-◌, ◌==◌, ◌&&◌, nat_lt, if◌then◌else◌, ◌≤◌, ◌<◌, ◌^◌, ℕ, true, List, [], ◌∷◌, length, map, take, Some, None, Result, Err, IfErr, OnOk}
 use Rattle.gitconf_text.specs.Names.{is_value_name}
-use Rattle.gitconf_base.specs.Key.{Key}
+use Rattle.gitconf_sources.specs.Key.{Key}
 use Rattle.gitconf_state.specs.Edit.{with_used}
 use Rattle.gitconf_state.specs.Edits.{Edit, DeleteAt, WriteAt, apply, numbered, said_in_section}
 use Rattle.gitconf_state.specs.Editors.{OfEntry}
 use Rattle.gitconf_state.specs.State.{State}
 use Rattle.gitconf_body.specs.ValuesAt.{rewritten_put}
-use Rattle.gitconf_finding.specs.declared.existing.Error.{Error as ExistingError}
+use Rattle.gitconf_lookups.specs.declared.existing.Error.{Error as ExistingError}
 use Rattle.gitconf_store.specs.declared.set_raw_value.Error.{Error}
 use Rattle.gitconf_store.specs.SetErrors.{of_existing, set_number}
-use Rattle.gitconf_finding.specs.ValuePlaces.{AreInOrder, ArePlaces, editor_of_numbered, key_places, meaning_at}
+use Rattle.gitconf_lookups.specs.ValuePlaces.{AreInOrder, ArePlaces, editor_of_numbered, key_places, meaning_at}
 
 -- one of several entries is rewritten, with this name and the blanks of its section as it then is; nothing stays of its
 -- old value

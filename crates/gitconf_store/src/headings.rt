@@ -3,13 +3,13 @@ ghost use Rattle.std.specs.Fn.{ComputesKey};
 ghost use Rattle.std.specs.List.{list_any, AllByRecursion};
 ghost use Rattle.std.specs.Option.{option_copied};
 ghost use Rattle.std.specs.Prelude.{◌≡◌, ◌&&◌, ◌<◌, [], ◌∷◌, ◌++◌, true, Bool, List, length, map, IfOk, IfSome, OnErr, OnOk};
-ghost use Rattle.gitconf_base.specs.Metadata.{Meta};
+ghost use Rattle.gitconf_sources.specs.Metadata.{Meta};
 ghost use Rattle.gitconf_text.specs.Sections.{is_named, place_of, IsNumbered};
 ghost use Rattle.gitconf_store.specs.Renamings.{marked_places, with_headers, AreMarks};
 
-use gitconf_base::lists::put;
-use gitconf_base::meta::Metadata;
-use gitconf_finding::filters::passes;
+use gitconf_sources::lists::put;
+use gitconf_sources::meta::Metadata;
+use gitconf_lookups::filters::passes;
 use gitconf_items::event::Header;
 use gitconf_sections::sections::SectionList;
 use gitconf_table::table::SectionId;

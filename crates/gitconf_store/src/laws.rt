@@ -4,7 +4,7 @@ ghost use Rattle.gitconf_text.specs.Header.{spelled_header};
 ghost use Rattle.gitconf_text.specs.Part as parts;
 ghost use Rattle.gitconf_text.specs.Part.{spelled_item};
 ghost use Rattle.std.specs.List.{list_any};
-ghost use Rattle.gitconf_base.specs.Metadata.{Meta};
+ghost use Rattle.gitconf_sources.specs.Metadata.{Meta};
 ghost use Rattle.gitconf_items.specs.declared.event.Header.{Header};
 ghost use Rattle.gitconf_items.specs.declared.items.Item.{Item};
 ghost use Rattle.gitconf_items.specs.Events.{header_of, HeaderFits};
@@ -12,18 +12,18 @@ ghost use Rattle.gitconf_items.specs.ItemsFit.{AreItemsWithin};
 ghost use Rattle.gitconf_state.specs.Editors as states;
 ghost use Rattle.gitconf_state.specs.Editors.{InsteadOf, written_at};
 ghost use Rattle.gitconf_state.specs.Edit.{header_bytes, is_target, set_raw_value_bytes};
-ghost use Rattle.gitconf_base.specs.declared.source.Trust.{Trust};
+ghost use Rattle.gitconf_sources.specs.declared.source.Trust.{Trust};
 ghost use Rattle.gitconf_state.specs.Edits.{Append, DeleteAt, Detached, Push, PushSection, Rename, RenameAll, SetRawValue, SetTrust, SetValue, WriteAt, apply, change_items, items_of_numbered, new_bytes, renamed, with_trust};
 ghost use Rattle.gitconf_state.specs.State.{AreNumbered, SectionState, State};
 ghost use Rattle.gitconf_views.specs.Alone.{section_size, with_items};
 ghost use Rattle.gitconf_items.specs.Items.{items_of};
-ghost use Rattle.gitconf_lines.specs.declared.editor.Editor.{Editor};
-ghost use Rattle.gitconf_lines.specs.Editors.{line_put, set_put};
+ghost use Rattle.gitconf_body.specs.declared.editor.Editor.{Editor};
+ghost use Rattle.gitconf_body.specs.Editors.{line_put, set_put};
 ghost use Rattle.gitconf_body.specs.ValuesAt.{rewritten_put, written_put};
 ghost use Rattle.gitconf_store.specs.Appends.{appended_bytes};
 ghost use Rattle.gitconf_store.specs.Editors.{given_editor};
 ghost use Rattle.gitconf_store.specs.Several.{meaning_of_place, moved_up};
-ghost use Rattle.gitconf_finding.specs.ValuePlaces.{editor_of_numbered, meaning_at};
+ghost use Rattle.gitconf_lookups.specs.ValuePlaces.{editor_of_numbered, meaning_at};
 
 /// Bytes that are added to a buffer change nothing of what spans within it say, and these are within the longer one.
 pub fn appending_leaves_every_view()

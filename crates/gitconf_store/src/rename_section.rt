@@ -1,7 +1,7 @@
 //! Why sections are not renamed.
 ghost use Rattle.std.specs.Prelude.{◌≡◌};
 
-use gitconf_finding::existing;
+use gitconf_lookups::existing;
 use gitconf_text::NoMemory;
 use gitconf_text::parse::section::header;
 use gitconf_text::parse::span;

@@ -1,7 +1,7 @@
 //! Why a raw value is not set.
 ghost use Rattle.std.specs.Prelude.{◌≡◌};
 
-use gitconf_finding::existing;
+use gitconf_lookups::existing;
 use gitconf_text::NoMemory;
 use gitconf_text::parse::section::{ValueNameError, header};
 use gitconf_text::parse::span;
@@ -55,7 +55,7 @@ impl From<header::Error> for Error {
 }
 
 impl From<ValueNameError> for Error {
-    ghost use Rattle.gitconf_finding.specs.Misses.{of_name};
+    ghost use Rattle.gitconf_lookups.specs.Misses.{of_name};
     ghost use Rattle.gitconf_store.specs.SetErrors.{of_existing};
 
     ghost from_gives = { λ name e. e ≡ of_existing (of_name name) };

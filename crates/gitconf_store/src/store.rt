@@ -19,18 +19,18 @@ mod weaving;
 
 use crate::set_raw_value;
 use bstr::BString;
-use gitconf_base::meta::Metadata;
+use gitconf_sources::meta::Metadata;
 use gitconf_body::items_edits::SetInSection;
 use gitconf_body::section::section_with;
-use gitconf_finding::filters::last_passing;
-use gitconf_finding::print::{front_is_ended, write_sections};
-use gitconf_finding::tokens;
+use gitconf_lookups::filters::last_passing;
+use gitconf_lookups::print::{front_is_ended, write_sections};
+use gitconf_lookups::tokens;
 use gitconf_items::events::ItemEvents;
 use gitconf_items::few::FewItems;
 use gitconf_items::items::Keep;
 use gitconf_items::sink::{Sink, SinkFault};
-use gitconf_joining::load::Loading;
-use gitconf_lines::buffer::take_back;
+use gitconf_views::load::Loading;
+use gitconf_body::buffer::take_back;
 use gitconf_parse::events::Events;
 use gitconf_parse::input::{check_len, copied_with_room};
 use gitconf_parse::loading::read_sections;
@@ -43,7 +43,7 @@ use gitconf_text::parse::section::bytes::is_value_name;
 use gitconf_text::parse::section::header::{Error as HeaderError, validate};
 use gitconf_text::parse::span;
 use gitconf_views::section::{SectionRef, Sections, shared};
-use gitconf_write::sections::{write_front, write_line_end_unless};
+use gitconf_print::sections::{write_front, write_line_end_unless};
 use std::alloc::Global;
 use std::marker::Model;
 use std::rc::Rc;
@@ -94,14 +94,14 @@ impl Store {
     ghost use Rattle.gitconf_text.specs.Names.{is_made_name, is_valid_or_none, is_value_name};
     ghost use Rattle.gitconf_text.specs.Part.{Part};
     ghost use Rattle.gitconf_text.specs.Token.{tokens_of, spelled_token};
-    ghost use Rattle.gitconf_base.specs.Metadata.{Meta};
+    ghost use Rattle.gitconf_sources.specs.Metadata.{Meta};
     ghost use Rattle.gitconf_items.specs.EventList.{keeps_token, IsSelected, IsWhole};
     ghost use Rattle.gitconf_read.specs.EventResult.{IsRefused};
     ghost use Rattle.gitconf_items.specs.ItemsFit.{AreItemsWithin};
     ghost use Rattle.gitconf_items.specs.ShownEvents.{shown_token};
     ghost use Rattle.gitconf_items.specs.Sink.{Writes, Counts};
     ghost use Rattle.gitconf_items.specs.TokenDocument.{keeps_meaning, tokens_kept};
-    ghost use Rattle.gitconf_lines.specs.Places.{IsLastPlace};
+    ghost use Rattle.gitconf_body.specs.Places.{IsLastPlace};
     ghost use Rattle.gitconf_state.specs.Clean.{IsClean};
     ghost use Rattle.gitconf_state.specs.Comments.{comments, comments_of, comments_of_kept};
     ghost use Rattle.gitconf_state.specs.Edit.{is_target, new_section_bytes, old_value, set_bytes, with_used};
@@ -117,7 +117,7 @@ impl Store {
     ghost use Rattle.gitconf_store.specs.Edits.{EditGrows, IsRefusal, IsSet, IsSetSomewhere, UsedGrows, set_numbers};
     ghost use Rattle.gitconf_items.specs.ItemEvents.{events_left};
     ghost use Rattle.gitconf_state.specs.Made.{IsMade};
-    ghost use Rattle.gitconf_joining.specs.Loading.{IsLoading};
+    ghost use Rattle.gitconf_views.specs.Loading.{IsLoading};
     ghost use Rattle.gitconf_views.specs.Store.{state_of};
     ghost use Rattle.gitconf_views.specs.Texts.{IsTextOfSomeSections};
     ghost use Rattle.gitconf_views.specs.Views.{sections_left, shown};
@@ -365,7 +365,7 @@ impl Store {
     /// # Errors
     ///
     /// A write failed, or took nothing. It is not tried again, and a beginning of the text may have been written.
-    #[tactic(auto, using(gitconf_state::proofs::Printing::ReadsBack::kept_reads_back, gitconf_laws::proofs::CommentLaws::kept_comments))]
+    #[tactic(auto, using(gitconf_state::proofs::Printing::ReadsBack::kept_reads_back, gitconf_parse::proofs::CommentLaws::kept_comments))]
     pub fn write_to_filter<W: Sink, F: FnMut(&SectionRef<'_>) -> bool>(
         &self,
         out: &mut W,
@@ -401,7 +401,7 @@ impl Store {
     /// # Errors
     ///
     /// Those of [`Store::write_to_filter`].
-    #[tactic(auto, using(std::proofs::lemmas::Fn::always_returns_same, gitconf_state::proofs::Printing::ReadsBack::all_reads_back, gitconf_laws::proofs::CommentLaws::all_comments))]
+    #[tactic(auto, using(std::proofs::lemmas::Fn::always_returns_same, gitconf_state::proofs::Printing::ReadsBack::all_reads_back, gitconf_parse::proofs::CommentLaws::all_comments))]
     pub fn write_to<W: Sink>(&self, out: &mut W) -> Result<(), SinkFault>
         ensures written { Writes result (printed self.now) (W.told out.old) (W.told out.new) }
         ensures reads { IsClean self.now → Reads (printed self.now) (document_of self.now) }

@@ -1,3 +1,9 @@
+pub mod Chains
+pub mod LinkLemmas
+pub mod Moves
+pub mod Walks
+pub mod Woven
+pub mod SetWords
 pub mod SectionLemmas
 pub mod TableClones
 pub mod TableLemmas

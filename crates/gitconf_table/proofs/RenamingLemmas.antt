@@ -6,7 +6,7 @@ use Rattle.gitconf_text.specs.Bytes.{fold}
 use Rattle.gitconf_table.specs.declared.letters.Names.{Names}
 use Rattle.gitconf_table.specs.declared.table.Row.{Row}
 use Rattle.gitconf_table.specs.Letters.{name_part, part_of, subsection_part, ArePut, NamesFit}
-use Rattle.gitconf_index.specs.Words.{set_each}
+use Rattle.gitconf_table.specs.Words.{set_each}
 use Rattle.gitconf_table.specs.Renames.{named_at, named_each, with_names_at}
 use Rattle.gitconf_table.specs.Rows.{entries_of, entry_of_row, RowsFit}
 use Rattle.gitconf_text.specs.Sections.{SectionEntry, Sections, changed_at}

@@ -18,7 +18,7 @@ use Rattle.gitconf_table.specs.declared.table.Row.{Row}
 use Rattle.gitconf_text.specs.Sections.{SectionEntry, AreNumbered, changed_at, entry_of, has_name, has_number, is_named, no_number, numbered_from, IsEntryClone}
 use Rattle.gitconf_table.specs.Rows.{entries_at, entries_of, entry_of_row}
 use Rattle.gitconf_table.specs.Word.{full_state, full_word, name_state, name_word, nothing_behind, whole_state, with_bytes, word_of}
-use Rattle.gitconf_index.specs.Words.{places_in, places_of}
+use Rattle.gitconf_table.specs.Words.{places_in, places_of}
 use Rattle.gitconf_table.specs.Tables.{IsTable, AreApart, ArePlaced, ArePlacedTo, numbers_of, word_of_name, word_of_names}
 use Rattle.gitconf_table.proofs.SectionLemmas.{all_put_numbered, changed_numbered, fold_again, insert_numbered, none_has, not_placed, number_at-place, push_numbered}
 

@@ -2,14 +2,14 @@
 use Rattle.std.proofs.Common.{◌≡◌, ℕ, ◌<◌, ◌==◌, false, List, [], ◌∷◌, length, map, ap, sym, ◌∙◌, arith}
 use Rattle.std.specs.List.{AllByRecursion}
 use Rattle.std.proofs.lemmas.Bool.Decides.{nat_tests}
-use Rattle.gitconf_index.specs.declared.runs.Run.{Run}
-use Rattle.gitconf_index.specs.Pairs.{EachTwo}
-use Rattle.gitconf_index.specs.Runs.{woven}
+use Rattle.gitconf_table.specs.declared.runs.Run.{Run}
+use Rattle.gitconf_table.specs.Pairs.{EachTwo}
+use Rattle.gitconf_table.specs.Runs.{woven}
 use Rattle.gitconf_table.specs.declared.table.Row.{Row}
 use Rattle.gitconf_table.specs.Rows.{entries_of, entry_of_row}
 use Rattle.gitconf_text.specs.Sections.{SectionEntry, AreNumbered}
 use Rattle.gitconf_table.specs.Tables.{numbers_of, word_of_name, word_of_names, ArePlaced, IsTable}
-use Rattle.gitconf_index.proofs.Woven.{all_woven, map_woven, woven_apart}
+use Rattle.gitconf_table.proofs.Woven.{all_woven, map_woven, woven_apart}
 
 differs_back : (a b : ℕ) → (b == a) ≡ false → (a == b) ≡ false
 differs_back a b h = grind (arith, nat_tests)

@@ -1,3 +1,10 @@
+pub mod Links
+pub mod Moves
+pub mod Walk
+pub mod WordIndexes
+pub mod Words
+pub mod Runs
+pub mod Pairs
 pub mod Letters
 pub mod Rows
 pub mod SectionIters

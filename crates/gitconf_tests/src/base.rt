@@ -1,9 +1,9 @@
 //! Sources, metadata, and home folders.
 
 use crate::users::homes;
-use gitconf_base::meta::Metadata;
-use gitconf_base::source::{Kind, Source, Trust};
-use gitconf_host::{FileFault, Stage};
+use gitconf_sources::meta::Metadata;
+use gitconf_sources::source::{Kind, Source, Trust};
+use gitconf_sources::{FileFault, Stage};
 use gitconf_text::NoMemory;
 use gitconf_values::Homes;
 use std::alloc::{AllocError, Global};

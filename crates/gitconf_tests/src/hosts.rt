@@ -1,8 +1,8 @@
 //! Files and variables in memory, alone and in the boxes of a host; with each growth refused in turn.
 
 use crate::shim::{Outcome, begin, each_refused, was_refused};
-use gitconf_base::source::Trust;
-use gitconf_host::{Env, EnvVar, FileFault, Files, Host, MemEnv, MemFile, MemFiles, Places, Stage};
+use gitconf_sources::source::Trust;
+use gitconf_sources::{Env, EnvVar, FileFault, Files, Host, MemEnv, MemFile, MemFiles, Places, Stage};
 use gitconf_text::NoMemory;
 use std::alloc::{AllocError, Global};
 use std::test::Fail;

@@ -1,15 +1,28 @@
-//! Tests of what is below the parser: sources, metadata, home folders, hosts in memory, keys, names, tables of
-//! sections, and the texts of their refusals. Also how tests talk to the shim that refuses growths.
+//! Tests of what is below files: sources, metadata, home folders, hosts in memory, keys, names, tables of sections, events, lookups in a text,
+//! writers that fail, the limit of spans, growths that are refused, the texts of refusals. Also what the tests of files use too.
 #![tactic(auto)]
 
 #[cfg(test)]
+mod alone;
+#[cfg(test)]
 mod base;
 #[cfg(test)]
+mod events;
+#[cfg(test)]
 mod hosts;
+#[cfg(test)]
+mod lookups;
+#[cfg(test)]
+mod lookups_refused;
 #[cfg(test)]
 mod messages;
 #[cfg(test)]
 mod names;
+pub mod narrow;
+#[cfg(test)]
+mod parse_messages;
+#[cfg(test)]
+mod parse_refused;
 #[cfg(test)]
 mod paths;
 #[cfg(test)]
@@ -17,4 +30,7 @@ mod refused;
 pub mod shim;
 #[cfg(test)]
 mod tables;
+pub mod texts;
 pub mod users;
+#[cfg(test)]
+mod writers;

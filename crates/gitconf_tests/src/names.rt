@@ -1,7 +1,7 @@
 //! Names compared without case, and keys of all types.
 
 use bstr::BString;
-use gitconf_base::key::{AsKey, KeyRef};
+use gitconf_sources::key::{AsKey, KeyRef};
 use gitconf_text::NoMemory;
 use gitconf_text::parse::section::{Name, ValueName};
 use std::alloc::{AllocError, Global};

@@ -2,9 +2,9 @@
 
 use crate::shim::{Outcome, begin, each_refused, was_refused};
 use crate::users::put;
-use gitconf_base::key::KeyRef;
-use gitconf_base::meta::Metadata;
-use gitconf_base::source::Source;
+use gitconf_sources::key::KeyRef;
+use gitconf_sources::meta::Metadata;
+use gitconf_sources::source::Source;
 use gitconf_text::NoMemory;
 use gitconf_text::parse::section::{Name, ValueName};
 use gitconf_text::value::{append_escaped, escape, normalize};

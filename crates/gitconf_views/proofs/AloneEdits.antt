@@ -5,7 +5,7 @@ use Rattle.std.specs.Prelude.{◌⊎◌, ◌==◌, if◌then◌else◌, IfErr, I
 use Rattle.std.specs.List.{list_all, list_any}
 use Rattle.gitconf_text.specs.Names.{is_made_name, is_valid_or_none}
 use Rattle.gitconf_text.specs.Part as parts
-use Rattle.gitconf_base.specs.Metadata.{Meta}
+use Rattle.gitconf_sources.specs.Metadata.{Meta}
 use Rattle.gitconf_text.specs.Sections.{no_number}
 use Rattle.gitconf_items.specs.declared.event.Event.TheVariants as kinds
 use Rattle.gitconf_items.specs.declared.event.Header.{Header}
@@ -19,19 +19,19 @@ use Rattle.gitconf_state.specs.Edits.{renamed, Detached}
 use Rattle.gitconf_state.specs.State.{is_header, is_item}
 use Rattle.gitconf_state.proofs.Edits.Items.{made_header_is}
 use Rattle.gitconf_items.specs.Items.{items_of}
-use Rattle.gitconf_lines.specs.declared.editor.Editor.{Editor}
-use Rattle.gitconf_lines.specs.Blanks.{given_editor, IsGiven, PutsAround}
-use Rattle.gitconf_lines.specs.Editors.{set_put}
-use Rattle.gitconf_lines.specs.Puts.{value_set_bytes}
-use Rattle.gitconf_lines.proofs.Buffers.{extended_fit, extended_items}
-use Rattle.gitconf_lines.proofs.Puts.{set_is}
+use Rattle.gitconf_body.specs.declared.editor.Editor.{Editor}
+use Rattle.gitconf_body.specs.Blanks.{given_editor, IsGiven, PutsAround}
+use Rattle.gitconf_body.specs.Editors.{set_put}
+use Rattle.gitconf_body.specs.Puts.{value_set_bytes}
+use Rattle.gitconf_body.proofs.Buffers.{extended_fit, extended_items}
+use Rattle.gitconf_body.proofs.Puts.{set_is}
 use Rattle.gitconf_views.specs.declared.section.Section.{Section as Own}
 use Rattle.gitconf_views.specs.Alone.{detached_of, made_alone, whole, with_items, IsEditedAlone, StandsAlone}
-use Rattle.gitconf_copying.specs.Copies.{header_size, items_size}
+use Rattle.gitconf_body.specs.Copies.{header_size, items_size}
 use Rattle.gitconf_body.specs.Growth.{UsedGrows}
 use Rattle.gitconf_views.specs.Store.{section_under}
-use Rattle.gitconf_lines.specs.ValueErrors.{edit_numbers, of_span, value_number}
-use Rattle.gitconf_lines.specs.declared.value.Error.TheVariants.{Memory, Span}
+use Rattle.gitconf_body.specs.ValueErrors.{edit_numbers, of_span, value_number}
+use Rattle.gitconf_body.specs.declared.value.Error.TheVariants.{Memory, Span}
 use Rattle.gitconf_views.proofs.Append.{header_more, header_shown_more}
 
 -- its header in the longer buffer

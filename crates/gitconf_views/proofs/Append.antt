@@ -14,7 +14,7 @@ use Rattle.gitconf_items.specs.declared.event.Event.TheVariants as kinds
 use Rattle.gitconf_items.specs.Events.{bytes_of, header_of, header_form, OptionFits, HeaderFits}
 use Rattle.gitconf_items.specs.EventRef.{ShownHeader}
 use Rattle.gitconf_items.specs.ShownEvents.{decoded_or, shown_token, IsShown}
-use Rattle.gitconf_lines.proofs.Append.{bytes_more, span_more, items_more, items_fit_more}
+use Rattle.gitconf_body.proofs.Append.{bytes_more, span_more, items_more, items_fit_more}
 use Rattle.gitconf_sections.specs.Section.{Section}
 use Rattle.gitconf_views.specs.Store.{section_state, SectionFits}
 

@@ -7,7 +7,7 @@ use Rattle.gitconf_items.specs.declared.items.Item.{Item}
 use Rattle.gitconf_items.specs.declared.items.Item.TheVariants as kinds
 use Rattle.gitconf_state.specs.State.{SectionState, entries_of}
 use Rattle.gitconf_items.specs.Items.{items_of}
-use Rattle.gitconf_lines.specs.Spacings.{is_stored_entry}
+use Rattle.gitconf_body.specs.Spacings.{is_stored_entry}
 use Rattle.gitconf_views.specs.Counts.{section_entries}
 
 -- the entries of items are as many as the entries that they stand for

@@ -11,8 +11,8 @@ use Rattle.gitconf_items.proofs.Clones.{cloned_items, items_within}
 use Rattle.gitconf_text.specs.Token.{HeaderToken}
 use Rattle.gitconf_state.specs.State.{is_header, is_item}
 use Rattle.gitconf_items.specs.Items.{items_of}
-use Rattle.gitconf_copying.specs.Copies.{IsCopy}
-use Rattle.gitconf_lines.proofs.Buffers.{extended_fit, extended_items}
+use Rattle.gitconf_body.specs.Copies.{IsCopy}
+use Rattle.gitconf_body.proofs.Buffers.{extended_fit, extended_items}
 use Rattle.gitconf_sections.specs.Section.{Section}
 use Rattle.gitconf_views.specs.declared.section.Section.{Section as Own}
 use Rattle.gitconf_views.specs.contracts.section.SectionClone.TheImpl as section

@@ -1,13 +1,13 @@
 -- Editors whose blanks are bytes of their own.
 use Rattle.std.proofs.Common.{◌≡◌, ℕ, List, [], refl}
 use Rattle.gitconf_text.specs.LineEnds.{bytes_of_line_end}
-use Rattle.gitconf_lines.specs.declared.editor.Editor.{Editor}
-use Rattle.gitconf_lines.specs.declared.editor.Leading.{Leading}
-use Rattle.gitconf_lines.specs.declared.editor.Leading.TheVariants as leadings
-use Rattle.gitconf_lines.specs.declared.editor.Around.{Around}
-use Rattle.gitconf_lines.specs.declared.editor.Around.TheVariants as arounds
-use Rattle.gitconf_lines.specs.Editors.{editor_in, leading_in, around_in, EditorFits, LeadingFits, AroundFits}
-use Rattle.gitconf_lines.specs.Blanks.{given_editor, IsGiven, IsGivenLeading, IsGivenAround}
+use Rattle.gitconf_body.specs.declared.editor.Editor.{Editor}
+use Rattle.gitconf_body.specs.declared.editor.Leading.{Leading}
+use Rattle.gitconf_body.specs.declared.editor.Leading.TheVariants as leadings
+use Rattle.gitconf_body.specs.declared.editor.Around.{Around}
+use Rattle.gitconf_body.specs.declared.editor.Around.TheVariants as arounds
+use Rattle.gitconf_body.specs.Editors.{editor_in, leading_in, around_in, EditorFits, LeadingFits, AroundFits}
+use Rattle.gitconf_body.specs.Blanks.{given_editor, IsGiven, IsGivenLeading, IsGivenAround}
 
 -- An editor whose blanks are bytes of its own is the same whatever buffer it edits.
 pub given_same : (b : List ℕ) (e : Editor) → IsGiven e → editor_in b e ≡ given_editor e

@@ -10,3 +10,6 @@ pub mod AloneLaws
 pub mod LineBytes
 pub mod GivenEditors
 pub mod OwnBytes
+pub mod Loading
+pub mod MovedTables
+pub mod Joined

@@ -11,12 +11,12 @@ use Rattle.gitconf_state.specs.Editors.{comment_made, comment_text, end_made, en
 use Rattle.gitconf_state.specs.Edits.{value_set_tokens}
 use Rattle.gitconf_state.specs.State.{is_entry}
 use Rattle.gitconf_text.specs.LineEnds.{bytes_of_line_end}
-use Rattle.gitconf_lines.specs.declared.editor.Editor.{Editor}
-use Rattle.gitconf_lines.specs.declared.editor.Leading.{Leading}
-use Rattle.gitconf_lines.specs.declared.editor.Leading.TheVariants as leadings
-use Rattle.gitconf_lines.specs.declared.editor.Around.{Around}
-use Rattle.gitconf_lines.specs.declared.editor.Around.TheVariants as arounds
-use Rattle.gitconf_lines.specs.Editors.{around_bytes, around_in, around_put, changed_put, comment_put, editor_in, end_put, leading_in, leading_put, line_put, set_put, spacing_in, value_put}
+use Rattle.gitconf_body.specs.declared.editor.Editor.{Editor}
+use Rattle.gitconf_body.specs.declared.editor.Leading.{Leading}
+use Rattle.gitconf_body.specs.declared.editor.Leading.TheVariants as leadings
+use Rattle.gitconf_body.specs.declared.editor.Around.{Around}
+use Rattle.gitconf_body.specs.declared.editor.Around.TheVariants as arounds
+use Rattle.gitconf_body.specs.Editors.{around_bytes, around_in, around_put, changed_put, comment_put, editor_in, end_put, leading_in, leading_put, line_put, set_put, spacing_in, value_put}
 use Rattle.gitconf_body.specs.ValuesAt.{rewritten_put, written_put}
 
 pub both_bytes : (a b : List Token) → token_bytes (a ++ b) ≡ token_bytes a + token_bytes b

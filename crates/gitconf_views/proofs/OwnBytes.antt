@@ -3,7 +3,7 @@ use Rattle.std.proofs.Common.{◌+◌, ◌≤◌, List, [], ◌∷◌, ◌++◌,
 use Rattle.gitconf_text.specs.Header.{Header, PlainHeader, DottedHeader, QuotedHeader, spelled_header}
 use Rattle.gitconf_text.specs.Part.{Assigned, Item, BlanksItem, LineEndsItem, CommentItem, EntryItem, spelled_assigned, spelled_item}
 use Rattle.gitconf_text.specs.Value.{Piece, spelled_value}
-use Rattle.gitconf_copying.specs.Copies.{assigned_size, header_size, item_size, items_size, pieces_size}
+use Rattle.gitconf_body.specs.Copies.{assigned_size, header_size, item_size, items_size, pieces_size}
 use Rattle.gitconf_state.specs.State.{SectionState}
 use Rattle.gitconf_views.specs.Alone.{section_size}
 

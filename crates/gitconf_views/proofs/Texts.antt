@@ -10,9 +10,9 @@ use Rattle.gitconf_state.specs.LineEnds.{file_line_end}
 use Rattle.gitconf_state.specs.Printing.{unless, ends_with_line, held_items, section_parts, printed_section, sections_parts, behind_front, printed_kept, printed_items}
 use Rattle.gitconf_state.specs.Writing.{Closed}
 use Rattle.gitconf_state.proofs.Printing.Written.{items_written}
-use Rattle.gitconf_write.specs.Texts.{items_text}
-use Rattle.gitconf_write.proofs.Left.{IsLeft, left_all, left_first, left_fault}
-use Rattle.gitconf_write.proofs.Printed.{spelled-items, printed_section-is, held_items-text, ends_with_line-both}
+use Rattle.gitconf_print.specs.Texts.{items_text}
+use Rattle.gitconf_print.proofs.Left.{IsLeft, left_all, left_first, left_fault}
+use Rattle.gitconf_print.proofs.Printed.{spelled-items, printed_section-is, held_items-text, ends_with_line-both}
 use Rattle.gitconf_views.specs.Texts.{front_text, line_end_unless, whole_text, sections_text, next_text, ended_behind, is_front_ended}
 
 spelled-append : (ps qs : List Part) → spelled (ps ++ qs) ≡ spelled ps ++ spelled qs

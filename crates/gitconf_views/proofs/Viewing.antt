@@ -1,7 +1,7 @@
 -- What views show, and what a store keeps of each section that is viewed.
 use Rattle.std.proofs.Common.{◌≡◌, ◌==◌, ℕ, false, Option, Some, None, List, [], ◌∷◌, ◌++◌, map, refl, ap, subst, Bool, true}
 use Rattle.std.specs.List.{AllByRecursion}
-use Rattle.gitconf_base.specs.Metadata.{Meta}
+use Rattle.gitconf_sources.specs.Metadata.{Meta}
 use Rattle.gitconf_text.specs.Sections.{SectionEntry, Sections, sections_of}
 use Rattle.gitconf_text.specs.Sections as table
 use Rattle.gitconf_items.specs.declared.items.Item.{Item}

@@ -4,7 +4,7 @@ use Rattle.std.specs.List.{list_all, list_any}
 use Rattle.gitconf_text.specs.HeaderErrors.{header_number}
 use Rattle.gitconf_text.specs.Part as parts
 use Rattle.gitconf_text.specs.declared.parse.section.header.Error.{Error}
-use Rattle.gitconf_base.specs.Metadata.{Meta}
+use Rattle.gitconf_sources.specs.Metadata.{Meta}
 use Rattle.gitconf_text.specs.Sections.{no_number}
 use Rattle.gitconf_items.specs.declared.event.Event.TheVariants as kinds
 use Rattle.gitconf_items.specs.Events.{header_of}
@@ -15,10 +15,10 @@ use Rattle.gitconf_state.specs.Edits.{Detached}
 pub use Rattle.gitconf_state.specs.State.{with_items}
 use Rattle.gitconf_state.specs.State.{SectionState, is_header, is_item}
 use Rattle.gitconf_items.specs.Items.{items_of}
-use Rattle.gitconf_copying.specs.Copies.{header_size, items_size}
+use Rattle.gitconf_body.specs.Copies.{header_size, items_size}
 use Rattle.gitconf_sections.specs.Section.{Section}
 use Rattle.gitconf_views.specs.declared.section.Section.{Section as Own}
-use Rattle.gitconf_lines.specs.ValueErrors.{edit_numbers}
+use Rattle.gitconf_body.specs.ValueErrors.{edit_numbers}
 use Rattle.gitconf_views.specs.Store.{section_under}
 
 -- a section without what is held after it

@@ -3,7 +3,7 @@ use Rattle.std.specs.Borrow.{GName}
 use Rattle.gitconf_state.specs.Edit.{Spacing}
 use Rattle.gitconf_state.specs.Editors.{Editor}
 use Rattle.gitconf_state.specs.Edits.{Detached}
-use Rattle.gitconf_lines.specs.Blanks.{editor_with}
+use Rattle.gitconf_body.specs.Blanks.{editor_with}
 use Rattle.gitconf_views.specs.declared.detached.editor.DetachedSectionMut.{DetachedSectionMut}
 
 -- the reference to the section, by its name

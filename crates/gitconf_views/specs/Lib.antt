@@ -6,3 +6,6 @@ pub mod Texts
 pub mod Alone
 pub mod AloneEditors
 pub mod ItemMeanings
+pub mod Loading
+pub mod Moves
+pub mod Joining

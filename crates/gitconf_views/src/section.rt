@@ -6,20 +6,20 @@ ghost use Rattle.gitconf_views.specs.Viewed.{AreViewed, AreViewed-prop, IsViewed
 
 use crate::tables::view_of;
 use bstr::BString;
-use gitconf_base::meta::Metadata;
-use gitconf_base::source::Trust;
-use gitconf_entries::values::entry_meaning;
+use gitconf_sources::meta::Metadata;
+use gitconf_sources::source::Trust;
+use gitconf_body::meanings::entry_meaning;
 use gitconf_items::event::Header;
 use gitconf_items::events::ItemEvents;
 use gitconf_items::items::Item;
 use gitconf_items::sink::{Sink, SinkFault};
-use gitconf_lines::blanks::Blanks;
+use gitconf_body::blanks::Blanks;
 use gitconf_sections::sections::walks::Iter;
 use gitconf_table::table::SectionId;
 use gitconf_text::NoMemory;
 use gitconf_text::line_end::LineEnd;
-use gitconf_write::line_end as items;
-use gitconf_write::sections::{write_held, write_section};
+use gitconf_print::line_end as items;
+use gitconf_print::sections::{write_held, write_section};
 use std::alloc::Global;
 use std::rc::Rc;
 
@@ -88,7 +88,7 @@ impl<'a> SectionRef<'a> {
     ghost use Rattle.gitconf_items.specs.Items.{tokens_in};
     ghost use Rattle.gitconf_text.specs.LineEnds.{bytes_of_line_end};
     ghost use Rattle.gitconf_items.specs.ItemEvents.{events_left};
-    ghost use Rattle.gitconf_base.specs.Found.{IsFound};
+    ghost use Rattle.gitconf_sources.specs.Found.{IsFound};
     ghost use Rattle.gitconf_views.specs.ItemMeanings.{meaning_at};
     ghost use Rattle.gitconf_views.specs.Texts.{whole_text};
     ghost use Rattle.gitconf_views.specs.Views.{shown};

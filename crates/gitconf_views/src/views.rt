@@ -7,20 +7,20 @@ ghost use Rattle.gitconf_text.specs.Names.{is_value_name};
 ghost use Rattle.gitconf_items.specs.Events.{bytes_of};
 ghost use Rattle.gitconf_items.specs.Items.{entry_of, items_of};
 ghost use Rattle.gitconf_state.specs.State.{entries_of, is_item};
-ghost use Rattle.gitconf_entries.specs.Bodies.{IsEntryItem, has_key, values_in, AreFound};
+ghost use Rattle.gitconf_body.specs.Bodies.{IsEntryItem, has_key, values_in, AreFound};
 ghost use Rattle.gitconf_views.specs.Viewed.{IsHeaderViewed, IsHeaderViewed-prop};
 ghost use Rattle.std.proofs.Math.Bool.{Bool-set};
 
 use crate::section::SectionRef;
 use bstr::BString;
-use gitconf_entries::entries::{contains_key, entry_count, meanings, name_text, next_entry};
-use gitconf_entries::values::{entry_meaning, entry_value, last_entry};
+use gitconf_body::entries::{contains_key, entry_count, meanings, name_text, next_entry};
+use gitconf_body::meanings::{entry_meaning, entry_value, last_entry};
 use gitconf_items::entry::Entry;
 use gitconf_items::event::Header;
 use gitconf_items::items::Item;
 use gitconf_items::lend::subsection_name;
 use gitconf_text::NoMemory;
-use gitconf_write::sections::write_header;
+use gitconf_print::sections::write_header;
 use std::alloc::Global;
 use std::iter::FusedIterator;
 
@@ -95,9 +95,9 @@ impl<'a> BodyRef<'a> {
     ghost use Rattle.std.specs.Prelude.{◌≡◌, IfOk, length, map};
     ghost use Rattle.bstr.specs.Owned.{bstring_bytes};
     ghost use Rattle.gitconf_state.specs.State.{entries_of};
-    ghost use Rattle.gitconf_entries.specs.Bodies.{has_key, implicit_value_in, value_in, values_in, AreFound, IsFoundImplicit};
+    ghost use Rattle.gitconf_body.specs.Bodies.{has_key, implicit_value_in, value_in, values_in, AreFound, IsFoundImplicit};
     ghost use Rattle.gitconf_views.specs.Counts.{is_empty_body};
-    ghost use Rattle.gitconf_base.specs.Found.{IsFound};
+    ghost use Rattle.gitconf_sources.specs.Found.{IsFound};
     ghost use Rattle.gitconf_views.specs.Views.{names_left, shown_body};
 
     /// The meaning of the last entry of the name, without ASCII case; `None` if there is no such entry, or if it has
@@ -211,7 +211,7 @@ impl<'a> Iterator for BodyRefIter<'a> {
     type Item = Result<(&'a str, BString), NoMemory>;
 
     ghost use Rattle.std.specs.Iterator.{item_count};
-    ghost use Rattle.gitconf_entries.specs.Bodies.{GivesEntry};
+    ghost use Rattle.gitconf_body.specs.Bodies.{GivesEntry};
     ghost use Rattle.gitconf_views.specs.Views.{entries_left};
 
     ghost next_gives = { λ before item behind. GivesEntry (entries_left before) item (entries_left behind) };
@@ -277,8 +277,8 @@ impl<'a> SectionRef<'a> {
     ghost use Rattle.std.specs.Prelude.{◌≡◌, length, map};
     ghost use Rattle.bstr.specs.Owned.{bstring_bytes};
     ghost use Rattle.gitconf_state.specs.State.{entries_of};
-    ghost use Rattle.gitconf_entries.specs.Bodies.{has_key, implicit_value_in, value_in, values_in, AreFound, IsFoundImplicit};
-    ghost use Rattle.gitconf_base.specs.Found.{IsFound};
+    ghost use Rattle.gitconf_body.specs.Bodies.{has_key, implicit_value_in, value_in, values_in, AreFound, IsFoundImplicit};
+    ghost use Rattle.gitconf_sources.specs.Found.{IsFound};
     ghost use Rattle.gitconf_views.specs.Views.{names_left, shown, shown_body, shown_header};
 
     /// Its header.

@@ -1,26 +1,26 @@
 -- Files of variables and of repositories are clean.
 use Rattle.std.proofs.Common.{◌≡◌, ℕ, zero, suc, ◌+◌, ◌==◌, Bool, true, false, List, [], Option, Some, None, Result, Ok, Err, inl, inr, refl, sym, ap, ◌∙◌, subst}
-use Rattle.gitconf_base.specs.Key.{Key, parsed_key}
-use Rattle.gitconf_base.specs.Metadata.{api_meta, Meta}
-use Rattle.gitconf_base.specs.declared.source.Source.{Source}
-use Rattle.gitconf_base.specs.declared.source.Source.TheVariants.{Local, Worktree}
-use Rattle.gitconf_host.specs.Reports.{FileReport, VariableReport}
-use Rattle.gitconf_host.specs.declared.host.Places.{Places}
+use Rattle.gitconf_sources.specs.Key.{Key, parsed_key}
+use Rattle.gitconf_sources.specs.Metadata.{api_meta, Meta}
+use Rattle.gitconf_sources.specs.declared.source.Source.{Source}
+use Rattle.gitconf_sources.specs.declared.source.Source.TheVariants.{Local, Worktree}
+use Rattle.gitconf_sources.specs.Reports.{FileReport, VariableReport}
+use Rattle.gitconf_sources.specs.declared.host.Places.{Places}
 use Rattle.gitconf_state.specs.Clean.{IsClean, is_nameless}
 use Rattle.gitconf_state.specs.Edit.{made_header, with_used}
 use Rattle.gitconf_state.specs.Edits.{apply, has_blank_leading, NewSection, Push}
 use Rattle.gitconf_state.specs.Editors.{Editor}
 use Rattle.gitconf_state.specs.State.{entries_of, SectionState, State}
 use Rattle.gitconf_state.proofs.Edits.Keep.{apply_clean}
-use Rattle.gitconf_expansion.specs.Expansion.{Asks, Ended, On}
-use Rattle.gitconf_expansion.specs.Laws.{AreHeaded}
-use Rattle.gitconf_expansion.proofs.States.{headed_stays, IsHeaded}
-use Rattle.gitconf_finding.specs.Picks.{picked}
+use Rattle.gitconf_includes.specs.Expansion.{Asks, Ended, On}
+use Rattle.gitconf_includes.specs.Laws.{AreHeaded}
+use Rattle.gitconf_includes.proofs.States.{headed_stays, IsHeaded}
+use Rattle.gitconf_lookups.specs.Picks.{picked}
 use Rattle.gitconf_loaders.specs.Resolving.{MakesOf}
 use Rattle.gitconf_loaders.specs.Globals.{empty_file, home_rules}
 use Rattle.gix_config.specs.Puts.{put_bytes}
 use Rattle.gitconf_loaders.specs.Paths.{has_room_behind, IsBehind, IsLoadedFrom, Then}
-use Rattle.gitconf_refusals.specs.Variables.{reported_key, key_variable}
+use Rattle.gitconf_loaders.specs.Variables.{reported_key, key_variable}
 use Rattle.gitconf_loaders.proofs.Clean.{behind_headed, global_clean, path_headed}
 use Rattle.gix_config.specs.Environment.{AreNamed, ArePut, Edited, env_meta, IsEntryPut, IsFromEnv, IsOverrides, IsPushed, IsPut, IsPutUnder}
 use Rattle.gix_config.specs.Repository.{folder_of, has_worktree, IsExpandedBehind, IsJoined, IsPutBehind, IsRepository, IsWorktree, IsWorktreeBehind, local_path, repository_rules, RepositoryFiles, worktree_path}

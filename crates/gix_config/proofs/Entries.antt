@@ -7,13 +7,13 @@ use Rattle.std.proofs.lemmas.Bool.{eqb-true}
 use Rattle.gitconf_text.specs.HeaderErrors.{header_number, header_numbers as known_numbers}
 use Rattle.gitconf_text.specs.declared.parse.section.header.Error.{Error as HeaderError}
 use Rattle.gitconf_text.specs.declared.parse.section.header.Error.TheVariants as header
-use Rattle.gitconf_lines.specs.ValueErrors.{edit_numbers, value_number}
-use Rattle.gitconf_lines.specs.declared.value.Error.{Error as ValueError}
-use Rattle.gitconf_lines.specs.declared.value.Error.TheVariants as value
-use Rattle.gitconf_base.specs.Key.{Key, parsed_key}
-use Rattle.gitconf_base.specs.Metadata.{api_meta, Meta}
-use Rattle.gitconf_host.specs.Reports.{FileReport, VariableReport}
-use Rattle.gitconf_host.specs.declared.host.Places.{Places}
+use Rattle.gitconf_body.specs.ValueErrors.{edit_numbers, value_number}
+use Rattle.gitconf_body.specs.declared.value.Error.{Error as ValueError}
+use Rattle.gitconf_body.specs.declared.value.Error.TheVariants as value
+use Rattle.gitconf_sources.specs.Key.{Key, parsed_key}
+use Rattle.gitconf_sources.specs.Metadata.{api_meta, Meta}
+use Rattle.gitconf_sources.specs.Reports.{FileReport, VariableReport}
+use Rattle.gitconf_sources.specs.declared.host.Places.{Places}
 use Rattle.gitconf_includes.specs.declared.init.Options.{Options}
 use Rattle.gitconf_includes.specs.declared.includes.Error.{Error as Includes}
 use Rattle.gitconf_includes.specs.declared.includes.Error.TheVariants as includes
@@ -21,16 +21,16 @@ use Rattle.gitconf_includes.specs.Errors.{includes_number}
 use Rattle.gitconf_state.specs.Edits.{Push}
 use Rattle.gitconf_state.specs.Editors.{Editor}
 use Rattle.gitconf_state.specs.State.{SectionState, State}
-use Rattle.gitconf_refusals.specs.Errors.{env_number, env_of_header, env_of_includes, env_of_value}
-use Rattle.gitconf_expansion.specs.Expansion.{Asks, Ended, On}
-use Rattle.gitconf_expansion.specs.Outcomes.{CountsFault, is_file_number}
+use Rattle.gitconf_loaders.specs.Errors.{env_number, env_of_header, env_of_includes, env_of_value}
+use Rattle.gitconf_includes.specs.Expansion.{Asks, Ended, On}
+use Rattle.gitconf_includes.specs.Outcomes.{CountsFault, is_file_number}
 use Rattle.gitconf_loaders.specs.Resolving.{MakesOf}
 use Rattle.gitconf_loaders.specs.Globals.{empty_file, home_rules}
 use Rattle.gitconf_loaders.specs.Paths.{CountsLoad, left_by, numbered, Then}
 use Rattle.gitconf_loaders.proofs.Counts.{fault_load, refused_else, renumbered, same}
-use Rattle.gitconf_refusals.specs.Variables.{IsCount, IsCountCause, IsEntryCause, IsKeyAt, IsValueAt}
-use Rattle.gitconf_refusals.specs.declared.from_env.Error.{Error}
-use Rattle.gitconf_refusals.specs.declared.from_env.Error.TheVariants as env
+use Rattle.gitconf_loaders.specs.Variables.{IsCount, IsCountCause, IsEntryCause, IsKeyAt, IsValueAt}
+use Rattle.gitconf_loaders.specs.declared.from_env.Error.{Error}
+use Rattle.gitconf_loaders.specs.declared.from_env.Error.TheVariants as env
 use Rattle.gix_config.specs.Edited.{IsEdited}
 use Rattle.gix_config.specs.Environment.{ArePut, Edited, env_meta, IsEntryPut, IsEnvCause, IsFromEnv, IsMadeOfEntries, IsOverrides, IsSome, IsPushed, IsPut, IsPutUnder, IsSectionFor}
 use Rattle.gix_config.specs.SectionEditors.{IsFoundOrMade}

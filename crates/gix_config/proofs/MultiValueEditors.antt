@@ -1,12 +1,12 @@
 -- Editors of several values that are made, and places that move up.
 use Rattle.std.proofs.Common.{◌≡◌, ℕ, zero, suc, ◌+◌, ◌<◌, List, [], ◌∷◌, ◌++◌, length, map, take, drop, set, get_or, Result, Ok, Err, arith, refl, ap, sym, subst, ◌∙◌}
 use Rattle.std.specs.declared.vec.Vec.{Vec}
-use Rattle.gitconf_base.specs.Key.{Key}
+use Rattle.gitconf_sources.specs.Key.{Key}
 use Rattle.gitconf_state.specs.State.{State}
-use Rattle.gitconf_finding.specs.declared.existing.Error.{Error}
-use Rattle.gitconf_finding.specs.declared.existing.Error.TheVariants.{Memory}
+use Rattle.gitconf_lookups.specs.declared.existing.Error.{Error}
+use Rattle.gitconf_lookups.specs.declared.existing.Error.TheVariants.{Memory}
 use Rattle.gitconf_store.specs.Several.{moved_up}
-use Rattle.gitconf_finding.specs.ValuePlaces.{ArePlaces}
+use Rattle.gitconf_lookups.specs.ValuePlaces.{ArePlaces}
 use Rattle.gitconf_store.proofs.Edits.Several.{other_memory}
 use Rattle.gix_config.specs.MultiValueEditors.{AreFoundTargets, AreTargets}
 use Rattle.gix_config.specs.Targeted.{Targeted}

@@ -3,7 +3,7 @@ use Rattle.std.proofs.Common.{◌≡◌, ◌==◌, ◌&&◌, ℕ, Bool, true, fa
 use Rattle.std.specs.List.{last_or, list_all, AllByRecursion}
 use Rattle.gitconf_text.specs.Bytes.{is_blank}
 use Rattle.gitconf_text.specs.Part.{Item}
-use Rattle.gitconf_base.specs.Metadata.{Meta}
+use Rattle.gitconf_sources.specs.Metadata.{Meta}
 use Rattle.gitconf_state.specs.Clean.{IsClean, IsCleanSection}
 use Rattle.gitconf_state.specs.Edit.{new_section, spacing_of}
 use Rattle.gitconf_state.specs.Edits.{has_blank_leading, items_of_numbered, numbered, IsEditor}
@@ -13,8 +13,8 @@ use Rattle.gitconf_state.specs.Lookup.{is_named, listing}
 use Rattle.gitconf_state.specs.State.{HasItems, HasSectionItems, SectionState, State, is_item}
 use Rattle.gitconf_state.proofs.Edits.Items.{are_blanks, file_line_end_is, one_line_end, spacing_blank, spacing_fits}
 use Rattle.gitconf_state.proofs.Edits.Lists.{filter_both}
-use Rattle.gitconf_finding.specs.Picks.{picked}
-use Rattle.gitconf_finding.specs.ValuePlaces.{editor_of_numbered}
+use Rattle.gitconf_lookups.specs.Picks.{picked}
+use Rattle.gitconf_lookups.specs.ValuePlaces.{editor_of_numbered}
 use Rattle.gix_config.specs.SectionEditors.{with_leading}
 
 -- what holds of all holds of the last one that passes

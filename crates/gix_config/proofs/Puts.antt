@@ -11,8 +11,8 @@ use Rattle.gitconf_state.specs.Edits.{Edit, items_of_numbered, new_bytes, value_
 use Rattle.gitconf_state.specs.Editors as states
 use Rattle.gitconf_state.specs.Editors.{comment_made, end_made, entry_made, line_made}
 use Rattle.gitconf_state.specs.State.{State}
-use Rattle.gitconf_lines.specs.Puts as puts
-use Rattle.gitconf_lines.specs.Puts.{assigned_bytes, changed_bytes, line_bytes, value_set_bytes}
+use Rattle.gitconf_body.specs.Puts as puts
+use Rattle.gitconf_body.specs.Puts.{assigned_bytes, changed_bytes, line_bytes, value_set_bytes}
 use Rattle.gitconf_store.proofs.Headers.HeaderBytes.{header_tokens}
 use Rattle.gitconf_views.proofs.LineBytes.{both_bytes, comment_within, items_bytes, made_bytes, one_bytes, run_bytes}
 use Rattle.gix_config.specs.Puts.{put_bytes}

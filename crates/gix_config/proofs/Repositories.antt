@@ -4,9 +4,9 @@ use Rattle.std.specs.Prelude.{IfErr, IsErrAnd}
 use Rattle.std.specs.Option.{option_map}
 use Rattle.std.proofs.lemmas.Bool.{eqb-true}
 use Rattle.gitconf_text.specs.ValueErrors.{ValueError, wanting}
-use Rattle.gitconf_base.specs.declared.source.Source.TheVariants.{Local, Worktree}
-use Rattle.gitconf_host.specs.Reports.{FileReport, IsNoLess, VariableReport}
-use Rattle.gitconf_host.specs.declared.host.Places.{Places}
+use Rattle.gitconf_sources.specs.declared.source.Source.TheVariants.{Local, Worktree}
+use Rattle.gitconf_sources.specs.Reports.{FileReport, IsNoLess, VariableReport}
+use Rattle.gitconf_sources.specs.declared.host.Places.{Places}
 use Rattle.gitconf_includes.specs.declared.includes.Error.{Error as Includes}
 use Rattle.gitconf_includes.specs.declared.includes.Error.TheVariants as includes
 use Rattle.gitconf_includes.specs.declared.init.Options.{Options}
@@ -17,17 +17,17 @@ use Rattle.gitconf_state.specs.Edit.{with_used}
 use Rattle.gitconf_state.specs.Edits.{Append, apply}
 use Rattle.gitconf_state.specs.State.{State}
 use Rattle.gitconf_store.specs.Appends.{appended_bytes}
-use Rattle.gitconf_expansion.specs.Expansion.{Asks}
-use Rattle.gitconf_expansion.specs.Outcomes.{asks_of, IsCause}
+use Rattle.gitconf_includes.specs.Expansion.{Asks}
+use Rattle.gitconf_includes.specs.Outcomes.{asks_of, IsCause}
 use Rattle.gitconf_loaders.specs.Resolving.{MakesOf}
-use Rattle.gitconf_refusals.specs.Errors.{env_number, git_number, git_of_env, git_of_includes, git_of_paths, git_of_span, paths_number}
+use Rattle.gitconf_loaders.specs.Errors.{env_number, git_number, git_of_env, git_of_includes, git_of_paths, git_of_span, paths_number}
 use Rattle.gitconf_loaders.specs.Paths.{CountsLoad, has_room_behind, IsBehind, IsLoadedFrom, left_by, numbered, Then}
-use Rattle.gitconf_refusals.specs.declared.from_env.Error.{Error as EnvError}
-use Rattle.gitconf_refusals.specs.declared.from_env.Error.TheVariants as env
-use Rattle.gitconf_refusals.specs.declared.from_git_dir.Error.{Error}
-use Rattle.gitconf_refusals.specs.declared.from_git_dir.Error.TheVariants as git
-use Rattle.gitconf_refusals.specs.declared.from_paths.Error.{Error as PathsError}
-use Rattle.gitconf_refusals.specs.declared.from_paths.Error.TheVariants as paths
+use Rattle.gitconf_loaders.specs.declared.from_env.Error.{Error as EnvError}
+use Rattle.gitconf_loaders.specs.declared.from_env.Error.TheVariants as env
+use Rattle.gitconf_loaders.specs.declared.from_git_dir.Error.{Error}
+use Rattle.gitconf_loaders.specs.declared.from_git_dir.Error.TheVariants as git
+use Rattle.gitconf_loaders.specs.declared.from_paths.Error.{Error as PathsError}
+use Rattle.gitconf_loaders.specs.declared.from_paths.Error.TheVariants as paths
 use Rattle.std.specs.Result.{result_map_both}
 use Rattle.gitconf_loaders.specs.Globals.{IsGlobal, IsGlobalCause}
 use Rattle.gitconf_loaders.proofs.Counts.{later, renumbered}

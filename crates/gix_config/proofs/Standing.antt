@@ -4,7 +4,7 @@ use Rattle.std.specs.List.{last_or, list_any}
 use Rattle.std.specs.Option.{option_map}
 use Rattle.std.proofs.lemmas.Bool.{eq-eqb}
 use Rattle.gitconf_text.specs.declared.parse.section.header.Error.TheVariants as headers
-use Rattle.gitconf_base.specs.Metadata.{Meta}
+use Rattle.gitconf_sources.specs.Metadata.{Meta}
 use Rattle.gitconf_state.specs.Edit.{Spacing}
 use Rattle.gitconf_state.specs.Edits.{numbered, with_sections}
 use Rattle.gitconf_state.specs.LineEnds.{file_line_end}
@@ -12,11 +12,11 @@ use Rattle.gitconf_state.specs.Lookup as states
 use Rattle.gitconf_state.specs.Lookup.{Listed, Miss, is_named, listed, listing, miss_of}
 use Rattle.gitconf_state.specs.State.{SectionState, State}
 use Rattle.gitconf_state.proofs.Edits.Lists.{filter_both, filter_none}
-use Rattle.gitconf_finding.specs.declared.existing.Error.{Error as Existing}
-use Rattle.gitconf_finding.specs.declared.existing.Error.TheVariants.{SectionMissing, SubSectionMissing, KeyMissing, ValueName, Memory}
-use Rattle.gitconf_finding.specs.Misses.{IsExisting, missing}
-use Rattle.gitconf_finding.specs.Picks.{picked, IsMissing}
-use Rattle.gitconf_finding.specs.SomeSections.{AreSome, WithSome}
+use Rattle.gitconf_lookups.specs.declared.existing.Error.{Error as Existing}
+use Rattle.gitconf_lookups.specs.declared.existing.Error.TheVariants.{SectionMissing, SubSectionMissing, KeyMissing, ValueName, Memory}
+use Rattle.gitconf_lookups.specs.Misses.{IsExisting, missing}
+use Rattle.gitconf_lookups.specs.Picks.{picked, IsMissing}
+use Rattle.gitconf_lookups.specs.SomeSections.{AreSome, WithSome}
 use Rattle.gix_config.specs.declared.file.section_mut.making.Error.{Error}
 use Rattle.gix_config.specs.declared.file.section_mut.making.Error.TheVariants.{NonePasses, Lookup}
 use Rattle.gitconf_store.proofs.Places.Numbering.{numbered_has}

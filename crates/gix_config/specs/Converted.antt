@@ -4,15 +4,15 @@ use Rattle.std.specs.Option.{option_map}
 use Rattle.std.specs.declared.vec.Vec.{Vec}
 use Rattle.bstr.specs.declared.bstring.BString.{BString}
 use Rattle.bstr.specs.Owned.{bstring_bytes}
-use Rattle.gitconf_base.specs.Key.{Key}
+use Rattle.gitconf_sources.specs.Key.{Key}
 use Rattle.gitconf_state.specs.Lookup.{Miss}
 use Rattle.gitconf_state.specs.State.{SectionState, State}
 use Rattle.gitconf_views.specs.declared.section.SectionRef.{SectionRef}
-use Rattle.gitconf_finding.specs.Lookups.{miss_at, value_at, value_in, values_at, values_in}
-use Rattle.gitconf_finding.specs.Misses.{missing}
+use Rattle.gitconf_lookups.specs.Lookups.{miss_at, value_at, value_in, values_at, values_in}
+use Rattle.gitconf_lookups.specs.Misses.{missing}
 use Rattle.gitconf_views.specs.Views.{shown}
-use Rattle.gitconf_numbers.specs.declared.lookup.Error.{Error}
-use Rattle.gitconf_numbers.specs.declared.lookup.Error.TheVariants.{ValueMissing, FailedConversion, Memory}
+use Rattle.gitconf_loaders.specs.declared.lookup.Error.{Error}
+use Rattle.gitconf_loaders.specs.declared.lookup.Error.TheVariants.{ValueMissing, FailedConversion, Memory}
 
 -- The type's own conversion gives this for the value, if there is one.
 abbrev pub IsGiven : {R : Type 0} → (gives : BString → R → Type 0) → Option (List ℕ) → R → Type 0

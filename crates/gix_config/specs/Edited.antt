@@ -4,7 +4,7 @@ use Rattle.std.specs.List.{list_any}
 use Rattle.gitconf_text.specs.Names.{is_value_name}
 use Rattle.gitconf_state.specs.Edits.{Edit, Push, PushAfterLast, SetValue}
 use Rattle.gitconf_state.specs.State.{State}
-pub use Rattle.gitconf_lines.specs.ValueErrors.{edit_numbers, value_number}
+pub use Rattle.gitconf_body.specs.ValueErrors.{edit_numbers, value_number}
 use Rattle.gix_config.specs.Puts.{done, put_bytes}
 
 -- a section has the number

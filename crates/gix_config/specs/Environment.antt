@@ -3,11 +3,11 @@
 use Rattle.std.specs.Prelude.{◌≡◌, ◌⊎◌, ℕ, zero, suc, ◌+◌, ◌==◌, true, false, List, Option, Some, None, Result, Ok, Err}
 use Rattle.gitconf_text.specs.declared.parse.section.header.Error.{Error as HeaderError}
 use Rattle.gitconf_text.specs.HeaderErrors.{header_number}
-use Rattle.gitconf_base.specs.Key.{Key, parsed_key}
-use Rattle.gitconf_base.specs.Metadata.{Meta, meta_of_source}
-use Rattle.gitconf_base.specs.declared.source.Source.TheVariants.{Env}
-use Rattle.gitconf_host.specs.Reports.{FileReport, VariableReport}
-use Rattle.gitconf_host.specs.declared.host.Places.{Places}
+use Rattle.gitconf_sources.specs.Key.{Key, parsed_key}
+use Rattle.gitconf_sources.specs.Metadata.{Meta, meta_of_source}
+use Rattle.gitconf_sources.specs.declared.source.Source.TheVariants.{Env}
+use Rattle.gitconf_sources.specs.Reports.{FileReport, VariableReport}
+use Rattle.gitconf_sources.specs.declared.host.Places.{Places}
 use Rattle.gitconf_includes.specs.Rules.{rules_of}
 use Rattle.gitconf_includes.specs.declared.init.Options.{Options}
 use Rattle.gitconf_state.specs.Clean.{is_nameless}
@@ -15,16 +15,16 @@ use Rattle.gitconf_state.specs.Edit.{made_header}
 use Rattle.gitconf_state.specs.Edits.{Push}
 use Rattle.gitconf_state.specs.Editors.{Editor}
 use Rattle.gitconf_state.specs.State.{State}
-use Rattle.gitconf_expansion.specs.Expansion.{Asks}
-use Rattle.gitconf_expansion.specs.Outcomes.{IsCause}
+use Rattle.gitconf_includes.specs.Expansion.{Asks}
+use Rattle.gitconf_includes.specs.Outcomes.{IsCause}
 use Rattle.gitconf_loaders.specs.Resolving.{MakesOf}
 use Rattle.gitconf_loaders.specs.Globals.{empty_file, home_rules, IsOrEmpty}
 use Rattle.gitconf_loaders.specs.Paths.{left_by, Then}
-use Rattle.gitconf_refusals.specs.Variables.{IsCount, IsCountCause, IsEntryCause, IsKeyAt, IsValueAt, reported_key, key_variable}
-use Rattle.gitconf_refusals.specs.declared.from_env.Error.{Error}
-use Rattle.gitconf_refusals.specs.declared.from_env.Error.TheVariants as env
-use Rattle.gitconf_lines.specs.ValueErrors.{value_number}
-use Rattle.gitconf_lines.specs.declared.value.Error.{Error as ValueError}
+use Rattle.gitconf_loaders.specs.Variables.{IsCount, IsCountCause, IsEntryCause, IsKeyAt, IsValueAt, reported_key, key_variable}
+use Rattle.gitconf_loaders.specs.declared.from_env.Error.{Error}
+use Rattle.gitconf_loaders.specs.declared.from_env.Error.TheVariants as env
+use Rattle.gitconf_body.specs.ValueErrors.{value_number}
+use Rattle.gitconf_body.specs.declared.value.Error.{Error as ValueError}
 use Rattle.gix_config.specs.Edited.{IsEdited}
 use Rattle.gix_config.specs.SectionEditors.{editor_at, IsFoundOrMade}
 

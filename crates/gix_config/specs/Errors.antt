@@ -1,6 +1,6 @@
 -- The numbers of the reasons why there is no editor.
 use Rattle.std.specs.Prelude.{ℕ}
-use Rattle.gitconf_finding.specs.Misses.{existing_number}
+use Rattle.gitconf_lookups.specs.Misses.{existing_number}
 use Rattle.gix_config.specs.declared.file.section_mut.making.Error.{Error as NoEditor}
 use Rattle.gix_config.specs.declared.file.section_mut.making.Error.TheVariants as no_editor
 

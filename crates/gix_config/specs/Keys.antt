@@ -1,8 +1,8 @@
 -- What a lookup by key finds, and what an edit by key does.
 use Rattle.std.specs.Prelude.{◌≡◌, Bool, List, ℕ, Option, Some, None, Result, Ok}
 use Rattle.bstr.specs.declared.bstring.BString.{BString}
-use Rattle.gitconf_base.specs.Key.{Key}
-use Rattle.gitconf_base.specs.Metadata.{Meta}
+use Rattle.gitconf_sources.specs.Key.{Key}
+use Rattle.gitconf_sources.specs.Metadata.{Meta}
 use Rattle.gitconf_state.specs.State.{State}
 use Rattle.gitconf_store.specs.declared.set_raw_value.Error.{Error}
 use Rattle.gitconf_store.specs.Edits.{IsSet}

@@ -4,18 +4,18 @@ use Rattle.std.specs.Borrow.{GName}
 use Rattle.std.specs.declared.vec.Vec.{Vec}
 use Rattle.bstr.specs.declared.bstring.BString.{BString}
 use Rattle.gitconf_text.specs.Names.{is_value_name}
-use Rattle.gitconf_base.specs.Key.{Key}
-use Rattle.gitconf_base.specs.Metadata.{Meta}
+use Rattle.gitconf_sources.specs.Key.{Key}
+use Rattle.gitconf_sources.specs.Metadata.{Meta}
 use Rattle.gitconf_state.specs.Edit.{with_used}
 use Rattle.gitconf_state.specs.Edits.{Edit, DeleteAt, apply, items_of_numbered, numbered}
 use Rattle.gitconf_state.specs.State.{State}
 use Rattle.gitconf_body.specs.ValuesAt.{rewritten_put}
-use Rattle.gitconf_finding.specs.declared.existing.Error.{Error}
-use Rattle.gitconf_finding.specs.declared.existing.Error.TheVariants.{KeyMissing, Memory}
+use Rattle.gitconf_lookups.specs.declared.existing.Error.{Error}
+use Rattle.gitconf_lookups.specs.declared.existing.Error.TheVariants.{KeyMissing, Memory}
 use Rattle.gitconf_store.specs.Editors.{PutsIn}
-use Rattle.gitconf_finding.specs.Lookups.{texts_of}
+use Rattle.gitconf_lookups.specs.Lookups.{texts_of}
 use Rattle.gitconf_store.specs.Several.{all_meanings, one_rewriting}
-use Rattle.gitconf_finding.specs.ValuePlaces.{AreInOrder, ArePlaces, key_places}
+use Rattle.gitconf_lookups.specs.ValuePlaces.{AreInOrder, ArePlaces, key_places}
 use Rattle.gix_config.specs.Targeted.{Targeted, place_at}
 use Rattle.gix_config.specs.declared.file.multi_value_mut.MultiValueMut.{MultiValueMut}
 

@@ -5,7 +5,7 @@ use Rattle.gitconf_state.specs.Edit.{header_bytes, with_used}
 use Rattle.gitconf_state.specs.Edits.{Edit, NewSection, Push, PushAfterLast, PushLineEnd, Rename, SetValue, WriteAt, apply, items_of_numbered}
 use Rattle.gitconf_state.specs.LineEnds.{file_line_end}
 use Rattle.gitconf_state.specs.State.{State}
-use Rattle.gitconf_lines.specs.Puts.{after_last_bytes, assigned_bytes, line_bytes, value_set_bytes}
+use Rattle.gitconf_body.specs.Puts.{after_last_bytes, assigned_bytes, line_bytes, value_set_bytes}
 
 -- how many bytes an editor's edit, with all blanks that it writes, or a section that is made, adds to the buffer
 abbrev pub put_bytes : Edit → State → ℕ

@@ -4,23 +4,23 @@ use Rattle.std.specs.Prelude.{◌≡◌, ◌⊎◌, ℕ, Bool, true, false, List
 use Rattle.std.specs.Option.{option_map, unwrap_or}
 use Rattle.gitconf_text.specs.ValueErrors.{ValueError}
 use Rattle.gitconf_values.specs.Paths.{join, parent}
-use Rattle.gitconf_base.specs.Key.{Key}
-use Rattle.gitconf_base.specs.declared.source.Source.TheVariants.{Local, Worktree}
-use Rattle.gitconf_host.specs.Reports.{FileReport, VariableReport}
-use Rattle.gitconf_host.specs.declared.host.Places.{Places}
+use Rattle.gitconf_sources.specs.Key.{Key}
+use Rattle.gitconf_sources.specs.declared.source.Source.TheVariants.{Local, Worktree}
+use Rattle.gitconf_sources.specs.Reports.{FileReport, VariableReport}
+use Rattle.gitconf_sources.specs.declared.host.Places.{Places}
 use Rattle.gitconf_includes.specs.Rules.{Rules, rules_of}
 use Rattle.gitconf_includes.specs.declared.init.Options.{Options}
 use Rattle.gitconf_state.specs.State.{State}
-use Rattle.gitconf_expansion.specs.Expansion.{Asks}
-use Rattle.gitconf_expansion.specs.Outcomes.{IsCause}
-use Rattle.gitconf_finding.specs.Lookups.{implicit_at}
+use Rattle.gitconf_includes.specs.Expansion.{Asks}
+use Rattle.gitconf_includes.specs.Outcomes.{IsCause}
+use Rattle.gitconf_lookups.specs.Lookups.{implicit_at}
 use Rattle.gitconf_loaders.specs.Resolving.{MakesOf}
 use Rattle.gitconf_loaders.specs.Causes.{IsFileCause}
 use Rattle.gitconf_loaders.specs.Globals.{home_rules, IsGlobal, IsGlobalCause}
 use Rattle.gitconf_loaders.specs.Paths.{has_room_behind, IsBehind, IsLoadedFrom, Then}
-use Rattle.gitconf_refusals.specs.declared.from_git_dir.Error.{Error}
-use Rattle.gitconf_refusals.specs.declared.from_git_dir.Error.TheVariants as git
-use Rattle.gitconf_refusals.specs.declared.from_paths.Error.{Error as PathsError}
+use Rattle.gitconf_loaders.specs.declared.from_git_dir.Error.{Error}
+use Rattle.gitconf_loaders.specs.declared.from_git_dir.Error.TheVariants as git
+use Rattle.gitconf_loaders.specs.declared.from_paths.Error.{Error as PathsError}
 use Rattle.gix_config.specs.declared.file.init.repository.Parts.{Parts}
 use Rattle.gix_config.specs.Environment.{IsOverrides, IsOverridesCause}
 use Rattle.gix_config.specs.Typed.{boolean_or_refusal}

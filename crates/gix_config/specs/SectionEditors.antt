@@ -9,18 +9,18 @@ use Rattle.gitconf_text.specs.Names.{is_made_name, is_valid_or_none}
 use Rattle.gitconf_text.specs.SectionKeys.{SectionKey}
 use Rattle.gitconf_text.specs.declared.parse.section.header.Error.{Error as HeaderError}
 use Rattle.gitconf_text.specs.declared.parse.section.header.Error.TheVariants.{InvalidName, InvalidSubSection}
-use Rattle.gitconf_base.specs.Metadata.{Meta}
+use Rattle.gitconf_sources.specs.Metadata.{Meta}
 use Rattle.gitconf_state.specs.Edit.{new_section, Spacing, spacing_of}
 use Rattle.gitconf_state.specs.Edits.{NewSection, numbered}
 use Rattle.gitconf_state.specs.Editors.{Editor, editor_of}
 use Rattle.gitconf_state.specs.Lookup.{listed, miss_of}
 use Rattle.gitconf_state.specs.State.{SectionState, State}
-use Rattle.gitconf_lines.specs.Blanks.{editor_with}
-use Rattle.gitconf_finding.specs.declared.existing.Error.{Error as Existing}
-use Rattle.gitconf_finding.specs.declared.existing.Error.TheVariants.{KeyMissing, Memory}
-use Rattle.gitconf_finding.specs.Misses.{IsExisting}
+use Rattle.gitconf_body.specs.Blanks.{editor_with}
+use Rattle.gitconf_lookups.specs.declared.existing.Error.{Error as Existing}
+use Rattle.gitconf_lookups.specs.declared.existing.Error.TheVariants.{KeyMissing, Memory}
+use Rattle.gitconf_lookups.specs.Misses.{IsExisting}
 use Rattle.gitconf_store.specs.NewSections.{HasNoPlace}
-use Rattle.gitconf_finding.specs.Picks.{picked, HasSection, IsMissing}
+use Rattle.gitconf_lookups.specs.Picks.{picked, HasSection, IsMissing}
 use Rattle.gix_config.specs.Puts.{done}
 use Rattle.gix_config.specs.declared.file.section_mut.SectionMut.{SectionMut}
 use Rattle.gix_config.specs.declared.file.section_mut.making.Error.{Error}

@@ -5,10 +5,10 @@ use Rattle.std.specs.declared.vec.Vec.{Vec}
 use Rattle.gitconf_text.specs.Typed.{boolean_of}
 use Rattle.gitconf_text.specs.ValueErrors.{ValueError, refused, wanting}
 use Rattle.gitconf_values.specs.Integers.{integer_or_refusal}
-use Rattle.gitconf_base.specs.Key.{Key}
-use Rattle.gitconf_base.specs.Metadata.{Meta}
+use Rattle.gitconf_sources.specs.Key.{Key}
+use Rattle.gitconf_sources.specs.Metadata.{Meta}
 use Rattle.gitconf_state.specs.State.{State}
-use Rattle.gitconf_finding.specs.Lookups.{IsFound, if_any, implicit_at, value_at, values_at}
+use Rattle.gitconf_lookups.specs.Lookups.{IsFound, if_any, implicit_at, value_at, values_at}
 
 -- the boolean of an entry by what it means, or its refusal: true if the entry has no value
 abbrev pub boolean_or_refusal : Option (List ℕ) → Result Bool ValueError

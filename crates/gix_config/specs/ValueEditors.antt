@@ -1,15 +1,15 @@
 -- Editors of a value: the file, the number of its section, its place there, whether the entry exists, and what they write besides the value.
 use Rattle.std.specs.Prelude.{◌≡◌, ◌≢◌, ℕ, Bool, true, List, Option, None, Result, Ok, Err, if◌then◌else◌}
 use Rattle.std.specs.Borrow.{GName}
-use Rattle.gitconf_base.specs.Key.{Key}
-use Rattle.gitconf_base.specs.Metadata.{Meta}
+use Rattle.gitconf_sources.specs.Key.{Key}
+use Rattle.gitconf_sources.specs.Metadata.{Meta}
 use Rattle.gitconf_state.specs.Edits.{Edit, DeleteAt, WriteAt, apply, said_in_section}
 use Rattle.gitconf_state.specs.Editors.{Editor, OfNothing, OfEntryButLineEnd}
 use Rattle.gitconf_state.specs.State.{State}
-use Rattle.gitconf_lines.specs.Blanks.{editor_with}
-use Rattle.gitconf_finding.specs.declared.existing.Error.{Error}
-use Rattle.gitconf_finding.specs.declared.existing.Error.TheVariants.{Memory}
-use Rattle.gitconf_finding.specs.ValuePlaces.{IsPlace, editor_of_numbered, meaning_at, value_place}
+use Rattle.gitconf_body.specs.Blanks.{editor_with}
+use Rattle.gitconf_lookups.specs.declared.existing.Error.{Error}
+use Rattle.gitconf_lookups.specs.declared.existing.Error.TheVariants.{Memory}
+use Rattle.gitconf_lookups.specs.ValuePlaces.{IsPlace, editor_of_numbered, meaning_at, value_place}
 use Rattle.gix_config.specs.Spelled.{Spelled}
 use Rattle.gix_config.specs.declared.file.value_mut.ValueMut.{ValueMut}
 

@@ -23,8 +23,8 @@ mod values;
 mod white_space;
 
 use bstr::BString;
-use gitconf_base::key::AsKey;
-pub use gitconf_base::meta::Metadata;
+use gitconf_sources::key::AsKey;
+pub use gitconf_sources::meta::Metadata;
 pub use gitconf_includes::includes;
 pub use gitconf_items::events::ItemEvents;
 use gitconf_items::sink::{Sink, SinkFault};
@@ -76,8 +76,8 @@ impl File {
     ghost use Rattle.gitconf_text.specs.Part.{Part};
     ghost use Rattle.gitconf_text.specs.Token.{tokens_of, spelled_token};
     ghost use Rattle.gitconf_text.specs.Names.{is_value_name};
-    ghost use Rattle.gitconf_base.specs.Key.{the_key};
-    ghost use Rattle.gitconf_base.specs.Metadata.{Meta, api_meta};
+    ghost use Rattle.gitconf_sources.specs.Key.{the_key};
+    ghost use Rattle.gitconf_sources.specs.Metadata.{Meta, api_meta};
     ghost use Rattle.gitconf_items.specs.EventList.{IsSelected, IsWhole};
     ghost use Rattle.gitconf_read.specs.EventResult.{IsRefused};
     ghost use Rattle.gitconf_items.specs.ShownEvents.{shown_token};

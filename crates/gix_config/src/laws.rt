@@ -1,24 +1,24 @@
 //! What holds of editors and of loaded files, for all of them: each law is a function that does nothing.
 ghost use Rattle.std.specs.Prelude.{◌≡◌, ◌≤◌, ℕ, Bool, true, List, [], Ok, Option, Some};
-ghost use Rattle.gitconf_base.specs.Metadata.{Meta};
-ghost use Rattle.gitconf_host.specs.Reports.{FileReport, VariableReport};
-ghost use Rattle.gitconf_host.specs.declared.host.Places.{Places};
+ghost use Rattle.gitconf_sources.specs.Metadata.{Meta};
+ghost use Rattle.gitconf_sources.specs.Reports.{FileReport, VariableReport};
+ghost use Rattle.gitconf_sources.specs.declared.host.Places.{Places};
 ghost use Rattle.gitconf_state.specs.Clean.{IsClean};
 ghost use Rattle.gitconf_state.specs.Edit.{new_section};
 ghost use Rattle.gitconf_state.specs.Edits.{Edit, has_blank_leading, new_bytes, numbered, IsEditor};
 ghost use Rattle.gitconf_state.specs.Editors.{Editor, editor_of};
 ghost use Rattle.gitconf_state.specs.State.{entries_of, HasItems, SectionState, State};
-ghost use Rattle.gitconf_expansion.specs.Expansion.{Asks};
-ghost use Rattle.gitconf_expansion.specs.Laws.{AreHeaded};
-ghost use Rattle.gitconf_finding.specs.Picks.{picked};
-ghost use Rattle.gitconf_finding.specs.ValuePlaces.{editor_of_numbered};
+ghost use Rattle.gitconf_includes.specs.Expansion.{Asks};
+ghost use Rattle.gitconf_includes.specs.Laws.{AreHeaded};
+ghost use Rattle.gitconf_lookups.specs.Picks.{picked};
+ghost use Rattle.gitconf_lookups.specs.ValuePlaces.{editor_of_numbered};
 ghost use Rattle.gix_config.specs.Environment.{AreNamed, IsFromEnv, IsOverrides};
 ghost use Rattle.gix_config.specs.Puts.{put_bytes};
 ghost use Rattle.gix_config.specs.Repository.{IsRepository};
 ghost use Rattle.gix_config.specs.SectionEditors.{with_leading};
 
 /// Those of files that others are put into.
-pub use gitconf_expansion::laws as includes;
+pub use gitconf_includes::laws as includes;
 /// Those of files that are loaded by their paths.
 pub use gitconf_loaders::laws as loaders;
 

@@ -2,7 +2,7 @@
 ghost use Rattle.std.specs.Prelude.{◌≡◌};
 
 use crate::file::section_mut;
-pub use gitconf_numbers::refusals::Refusal;
+pub use gitconf_loaders::refusals::Refusal;
 
 /// That no section passes has no number of its own: it counts as 9, as when sections are renamed.
 impl Refusal for section_mut::Error {

@@ -1,0 +1,4 @@
+pub mod Steps
+pub mod Words
+pub mod Owners
+pub mod LineStart

@@ -1,10 +1,10 @@
 -- What calls answer, by what is in the handle.
 use Rattle.std.specs.Prelude.{◌≡◌, ℕ, Option, Some, None}
-use Rattle.gitconf_base.specs.Key.{Key}
+use Rattle.gitconf_sources.specs.Key.{Key}
 use Rattle.gitconf_text.specs.SectionKeys.{SectionKey}
 use Rattle.gitconf_state.specs.State.{State}
-use Rattle.gitconf_handles.specs.declared.object.Object.{Object}
-use Rattle.gitconf_handles.specs.declared.object.Object.TheVariants.{File}
+use Rattle.gix_config_c.specs.declared.object.Object.{Object}
+use Rattle.gix_config_c.specs.declared.object.Object.TheVariants.{File}
 
 -- what is said of the file that is in the handle; if none is, the number is 102
 pub record OfFile (it : Option Object) (number : ℕ) (said : State → Type 0) : Type 0 where

@@ -2,12 +2,12 @@
 use Rattle.std.specs.Prelude.{◌≡◌, ◌↔◌, ℕ, Bool, true, List, map, slice_get, Option, Some, None}
 use Rattle.std.specs.declared.alloc.Global.{Global}
 use Rattle.std.specs.declared.vec.Vec.{Vec}
-use Rattle.gitconf_handles.specs.Differences.{DifferenceLiesAt}
-use Rattle.gitconf_handles.specs.declared.difference.Difference.{Difference}
-use Rattle.gitconf_handles.specs.declared.difference.DifferencePlace.{DifferencePlace}
-use Rattle.gitconf_handles.specs.declared.object.Object.{Object}
-use Rattle.gitconf_handles.specs.declared.object.Object.TheVariants.{Differences}
-use Rattle.gitconf_settings.specs.Differences.{AreDifferences, Different}
+use Rattle.gix_config_c.specs.Differences.{DifferenceLiesAt}
+use Rattle.gix_config_c.specs.declared.difference.Difference.{Difference}
+use Rattle.gix_config_c.specs.declared.difference.DifferencePlace.{DifferencePlace}
+use Rattle.gix_config_c.specs.declared.object.Object.{Object}
+use Rattle.gix_config_c.specs.declared.object.Object.TheVariants.{Differences}
+use Rattle.gitconf_diff.specs.Differences.{AreDifferences, Different}
 use Rattle.gitconf_state.specs.Equality.{AreEqual}
 use Rattle.gitconf_state.specs.State.{State}
 use Rattle.gix_config_c.specs.Answers.{OfFile}

@@ -2,9 +2,9 @@
 use Rattle.std.specs.Prelude.{◌≡◌, ℕ, Bool, true, false, List, Option, Some, None, Result, Ok, Err}
 use Rattle.bstr.specs.declared.bstring.BString.{BString}
 use Rattle.bstr.specs.Owned.{bstring_bytes}
-use Rattle.gitconf_base.specs.Key.{Key}
-use Rattle.gitconf_handles.specs.Blocks.{Holds}
-use Rattle.gitconf_handles.specs.declared.block.Block.{Block}
+use Rattle.gitconf_sources.specs.Key.{Key}
+use Rattle.gix_config_c.specs.Blocks.{Holds}
+use Rattle.gix_config_c.specs.declared.block.Block.{Block}
 use Rattle.gitconf_state.specs.State.{State}
 use Rattle.gitconf_store.specs.Edits.{IsSet}
 use Rattle.gitconf_store.specs.SetErrors.{set_number}

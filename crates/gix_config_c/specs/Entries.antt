@@ -1,11 +1,11 @@
 -- What edits of entries answer.
 use Rattle.std.specs.Prelude.{◌≡◌, ℕ, true, List, Option, Some, None, Result, Ok, Err}
-use Rattle.gitconf_base.specs.Key.{Key}
-use Rattle.gitconf_finding.specs.Misses.{existing_number, missing}
-use Rattle.gitconf_finding.specs.Picks.{picked}
-use Rattle.gitconf_handles.specs.Blocks.{Holds}
-use Rattle.gitconf_handles.specs.declared.block.Block.{Block}
-use Rattle.gitconf_lines.specs.declared.value.Error.{Error}
+use Rattle.gitconf_sources.specs.Key.{Key}
+use Rattle.gitconf_lookups.specs.Misses.{existing_number, missing}
+use Rattle.gitconf_lookups.specs.Picks.{picked}
+use Rattle.gix_config_c.specs.Blocks.{Holds}
+use Rattle.gix_config_c.specs.declared.block.Block.{Block}
+use Rattle.gitconf_body.specs.declared.value.Error.{Error}
 use Rattle.gitconf_state.specs.Edits.{Push, Raw, Remove, answer, apply}
 use Rattle.gitconf_state.specs.Editors.{editor_of}
 use Rattle.gitconf_state.specs.Lookup.{listed, miss_of}

@@ -3,16 +3,16 @@ use Rattle.std.specs.Prelude.{◌≡◌, ◌≢◌, ℕ, ℤ, Bool, List, Option
 use Rattle.std.specs.Option.{option_map}
 use Rattle.std.specs.declared.alloc.Global.{Global}
 use Rattle.std.specs.declared.vec.Vec.{Vec}
-use Rattle.gitconf_base.specs.Key.{Key}
-use Rattle.gitconf_base.specs.Metadata.{Meta}
-use Rattle.gitconf_finding.specs.Lookups.{if_any, implicit_at, miss_at, value_at, values_at}
-use Rattle.gitconf_finding.specs.Misses.{existing_number, missing}
-use Rattle.gitconf_handles.specs.Blocks.{Holds}
-use Rattle.gitconf_handles.specs.Origins.{keeps}
-use Rattle.gitconf_handles.specs.declared.block.Block.{Block}
-use Rattle.gitconf_handles.specs.declared.object.Object.{Object}
-use Rattle.gitconf_handles.specs.declared.object.Object.TheVariants.{Texts}
-use Rattle.gitconf_handles.specs.declared.origin.Filter.{Filter}
+use Rattle.gitconf_sources.specs.Key.{Key}
+use Rattle.gitconf_sources.specs.Metadata.{Meta}
+use Rattle.gitconf_lookups.specs.Lookups.{if_any, implicit_at, miss_at, value_at, values_at}
+use Rattle.gitconf_lookups.specs.Misses.{existing_number, missing}
+use Rattle.gix_config_c.specs.Blocks.{Holds}
+use Rattle.gix_config_c.specs.Origins.{keeps}
+use Rattle.gix_config_c.specs.declared.block.Block.{Block}
+use Rattle.gix_config_c.specs.declared.object.Object.{Object}
+use Rattle.gix_config_c.specs.declared.object.Object.TheVariants.{Texts}
+use Rattle.gix_config_c.specs.declared.origin.Filter.{Filter}
 use Rattle.gitconf_state.specs.Printing.{printed_kept}
 use Rattle.gitconf_state.specs.State.{State}
 use Rattle.gix_config.specs.Typed.{boolean_or_refusal}

@@ -1,7 +1,7 @@
 -- A text that is laid out.
 use Rattle.std.specs.Prelude.{◌≡◌, ℕ, List}
-use Rattle.gitconf_handles.specs.Blocks.{Holds}
-use Rattle.gitconf_handles.specs.declared.block.Block.{Block}
+use Rattle.gix_config_c.specs.Blocks.{Holds}
+use Rattle.gix_config_c.specs.declared.block.Block.{Block}
 use Rattle.gitconf_layout.specs.Layout.{IsLayout}
 use Rattle.gitconf_layout.specs.declared.format.Options.{Options}
 

@@ -13,3 +13,13 @@ pub mod Paths
 pub mod SectionLists
 pub mod Sections
 pub mod Texts
+pub mod Blocks
+pub mod Columns
+pub mod Differences
+pub mod EntryPlaces
+pub mod Folders
+pub mod Held
+pub mod Keys
+pub mod Layouts
+pub mod Origins
+pub mod SectionPlaces

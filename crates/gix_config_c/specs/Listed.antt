@@ -3,14 +3,14 @@ use Rattle.std.specs.Prelude.{◌≡◌, ℕ, List, map, slice_get, Option, Some
 use Rattle.std.specs.Option.{option_map}
 use Rattle.std.specs.declared.alloc.Global.{Global}
 use Rattle.std.specs.declared.vec.Vec.{Vec}
-use Rattle.gitconf_compared.specs.Settings.{Names, PlainSetting}
-use Rattle.gitconf_compared.specs.declared.setting.Side.TheVariants.{One}
-use Rattle.gitconf_handles.specs.Entries.{LiesAt}
-use Rattle.gitconf_handles.specs.declared.entry.Entry.{Entry}
-use Rattle.gitconf_handles.specs.declared.entry.EntryPlace.{EntryPlace}
-use Rattle.gitconf_handles.specs.declared.object.Object.{Object}
-use Rattle.gitconf_handles.specs.declared.object.Object.TheVariants.{Entries}
-use Rattle.gitconf_settings.specs.Settings.{settings_of}
+use Rattle.gitconf_diff.specs.PlainSettings.{Names, PlainSetting}
+use Rattle.gitconf_diff.specs.declared.setting.Side.TheVariants.{One}
+use Rattle.gix_config_c.specs.EntryPlaces.{LiesAt}
+use Rattle.gix_config_c.specs.declared.entry.Entry.{Entry}
+use Rattle.gix_config_c.specs.declared.entry.EntryPlace.{EntryPlace}
+use Rattle.gix_config_c.specs.declared.object.Object.{Object}
+use Rattle.gix_config_c.specs.declared.object.Object.TheVariants.{Entries}
+use Rattle.gitconf_diff.specs.Settings.{settings_of}
 use Rattle.gitconf_state.specs.State.{State}
 
 -- an entry: its names, and what it means, if it has `=`

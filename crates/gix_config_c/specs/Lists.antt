@@ -1,10 +1,10 @@
 -- What is in a list of texts.
 use Rattle.std.specs.Prelude.{◌≡◌, ℕ, List, length, slice_get, Option, Some, None}
 use Rattle.std.specs.declared.vec.Vec.{Vec}
-use Rattle.gitconf_handles.specs.Blocks.{LieAt}
-use Rattle.gitconf_handles.specs.declared.block.Span.{Span}
-use Rattle.gitconf_handles.specs.declared.object.Object.{Object}
-use Rattle.gitconf_handles.specs.declared.object.Object.TheVariants.{Differences, Entries, Sections, Texts}
+use Rattle.gix_config_c.specs.Blocks.{LieAt}
+use Rattle.gix_config_c.specs.declared.block.Span.{Span}
+use Rattle.gix_config_c.specs.declared.object.Object.{Object}
+use Rattle.gix_config_c.specs.declared.object.Object.TheVariants.{Differences, Entries, Sections, Texts}
 
 -- the number of texts, entries, sections or differences in the handle: 0 if it has no list
 abbrev pub IsLength : Option Object → (number : ℕ) → Type 0

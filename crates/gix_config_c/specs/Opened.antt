@@ -1,8 +1,8 @@
 -- What is opened of a text, and how it is refused.
 use Rattle.std.specs.Prelude.{◌≡◌, ◌-◌, ℕ, Bool, List, length, take}
-use Rattle.gitconf_base.specs.Metadata.{api_meta}
-use Rattle.gitconf_handles.specs.Columns.{column_behind}
-use Rattle.gitconf_handles.specs.declared.fault.Fault.{Fault}
+use Rattle.gitconf_sources.specs.Metadata.{api_meta}
+use Rattle.gix_config_c.specs.Columns.{column_behind}
+use Rattle.gix_config_c.specs.declared.fault.Fault.{Fault}
 use Rattle.gitconf_read.specs.ParseError.{Refusal}
 use Rattle.gitconf_state.specs.Made.{IsMade}
 use Rattle.gitconf_state.specs.State.{State, document_of}

@@ -1,10 +1,10 @@
 -- What is answered for a path.
 use Rattle.std.specs.Prelude.{◌≡◌, ℕ, true, List, Option, Some, None, Result, Ok, Err}
-use Rattle.gitconf_base.specs.Key.{Key}
-use Rattle.gitconf_finding.specs.Lookups.{value_at}
-use Rattle.gitconf_handles.specs.Blocks.{Holds}
-use Rattle.gitconf_handles.specs.Folders.{KnownFolders}
-use Rattle.gitconf_handles.specs.declared.block.Block.{Block}
+use Rattle.gitconf_sources.specs.Key.{Key}
+use Rattle.gitconf_lookups.specs.Lookups.{value_at}
+use Rattle.gix_config_c.specs.Blocks.{Holds}
+use Rattle.gix_config_c.specs.Folders.{KnownFolders}
+use Rattle.gix_config_c.specs.declared.block.Block.{Block}
 use Rattle.gitconf_state.specs.State.{State}
 use Rattle.gitconf_values.specs.Interpolated.{interpolated}
 use Rattle.gix_config_c.specs.Answers.{OfKey}

@@ -3,15 +3,15 @@ use Rattle.std.specs.Prelude.{◌≡◌, ℕ, List, length, map, slice_get, Opti
 use Rattle.std.specs.Option.{option_map}
 use Rattle.std.specs.declared.alloc.Global.{Global}
 use Rattle.std.specs.declared.vec.Vec.{Vec}
-use Rattle.gitconf_base.specs.Metadata.{Meta}
-use Rattle.gitconf_compared.specs.declared.setting.Side.TheVariants.{One}
-use Rattle.gitconf_handles.specs.Sections.{SectionLiesAt}
-use Rattle.gitconf_handles.specs.declared.entry.Entry.{Entry}
-use Rattle.gitconf_handles.specs.declared.object.Object.{Object}
-use Rattle.gitconf_handles.specs.declared.object.Object.TheVariants.{Entries, Sections}
-use Rattle.gitconf_handles.specs.declared.section.Section.{Section}
-use Rattle.gitconf_handles.specs.declared.section.SectionPlace.{SectionPlace}
-use Rattle.gitconf_settings.specs.Settings.{section_settings}
+use Rattle.gitconf_sources.specs.Metadata.{Meta}
+use Rattle.gitconf_diff.specs.declared.setting.Side.TheVariants.{One}
+use Rattle.gix_config_c.specs.SectionPlaces.{SectionLiesAt}
+use Rattle.gix_config_c.specs.declared.entry.Entry.{Entry}
+use Rattle.gix_config_c.specs.declared.object.Object.{Object}
+use Rattle.gix_config_c.specs.declared.object.Object.TheVariants.{Entries, Sections}
+use Rattle.gix_config_c.specs.declared.section.Section.{Section}
+use Rattle.gix_config_c.specs.declared.section.SectionPlace.{SectionPlace}
+use Rattle.gitconf_diff.specs.Settings.{section_settings}
 use Rattle.gitconf_state.specs.State.{SectionState, State, entries_of}
 use Rattle.gitconf_text.specs.Header.{name_of, subsection_of}
 use Rattle.gix_config_c.specs.Listed.{listed_entry, listed_setting}

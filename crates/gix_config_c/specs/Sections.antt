@@ -1,7 +1,7 @@
 -- What edits of whole sections answer.
 use Rattle.std.specs.List.{list_any}
 use Rattle.std.specs.Prelude.{◌≡◌, ◌≢◌, ◌↔◌, ◌==◌, ◌⊎◌, ℕ, true, false, List, Option, Some, None, Result, Ok, Err, IfErr, IsErrAnd, IsErrOf, OnErr, OnOk}
-use Rattle.gitconf_finding.specs.Picks.{picked}
+use Rattle.gitconf_lookups.specs.Picks.{picked}
 use Rattle.gitconf_state.specs.Edits.{NewSection, RemoveSection, apply}
 use Rattle.gitconf_state.specs.State.{State}
 use Rattle.gitconf_store.specs.NewSections.{HasNoPlace}

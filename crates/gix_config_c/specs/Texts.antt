@@ -1,12 +1,12 @@
 -- What look-ups answer for a key of a text.
 use Rattle.std.specs.Prelude.{◌≡◌, ℕ, List, Option, Some, None}
-use Rattle.gitconf_base.specs.Found.{if_any}
-use Rattle.gitconf_base.specs.Key.{Key}
-use Rattle.gitconf_handles.specs.Blocks.{Holds}
-use Rattle.gitconf_handles.specs.declared.block.Block.{Block}
-use Rattle.gitconf_handles.specs.declared.fault.Fault.{Fault}
-use Rattle.gitconf_handles.specs.declared.object.Object.{Object}
-use Rattle.gitconf_lookup.specs.Lookup.{value_of_key, values_of_key}
+use Rattle.gitconf_sources.specs.Found.{if_any}
+use Rattle.gitconf_sources.specs.Key.{Key}
+use Rattle.gix_config_c.specs.Blocks.{Holds}
+use Rattle.gix_config_c.specs.declared.block.Block.{Block}
+use Rattle.gix_config_c.specs.declared.fault.Fault.{Fault}
+use Rattle.gix_config_c.specs.declared.object.Object.{Object}
+use Rattle.gitconf_parse.specs.Lookup.{value_of_key, values_of_key}
 use Rattle.gitconf_read.specs.EventResult.{IsRefused}
 use Rattle.gitconf_read.specs.ParseError.{Refusal}
 use Rattle.gitconf_text.specs.Document.{Document, Reads}

@@ -1,14 +1,14 @@
 //! Files, appended to files.
 ghost use Rattle.std.specs.Prelude.{◌≡◌, Some};
-ghost use Rattle.gitconf_handles.specs.declared.object.Object.TheVariants as object;
+ghost use Rattle.gix_config_c.specs.declared.object.Object.TheVariants as object;
 ghost use Rattle.gitconf_state.specs.State.{State};
 ghost use Rattle.gix_config_c.specs.Answers.{OfFile};
 ghost use Rattle.gix_config_c.specs.Appended.{IsAppended};
 ghost use Rattle.gix_config_c.specs.Edited.{IsEditedFile};
 
 use crate::{DONE, OUT_OF_MEMORY, WRONG_HANDLE};
-use gitconf_handles::object::Object;
-use gitconf_handles::slot::Slot;
+use crate::object::Object;
+use crate::slot::Slot;
 use gix_config::File;
 use gix_config::refusals::Refusal as _;
 use std::alloc::Global;

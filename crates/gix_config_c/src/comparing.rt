@@ -1,17 +1,17 @@
 //! Two files, compared.
 ghost use Rattle.std.specs.Prelude.{◌≡◌, map, IfOk};
-ghost use Rattle.gitconf_settings.specs.Differences.{different_of};
+ghost use Rattle.gitconf_diff.specs.Differences.{different_of};
 ghost use Rattle.gix_config_c.specs.Answers.{OfFile};
 ghost use Rattle.gix_config_c.specs.Compared.{AreDifferencesFrom, AreDifferencesOf, AreListed, IsDifferenceAt, IsDifferenceIn, IsToldEqual, IsToldEqualFrom, told_difference};
 
 use crate::entries::vector;
 use crate::lists::put_list;
 use crate::{DONE, NOTHING_THERE, OUT_OF_MEMORY, WRONG_HANDLE};
-use gitconf_differences::differences;
-use gitconf_handles::difference::{Difference, DifferencePlace};
-use gitconf_handles::entry::Entry;
-use gitconf_handles::object::Object;
-use gitconf_handles::slot::Slot;
+use gix_config::diff::differences;
+use crate::difference::{Difference, DifferencePlace};
+use crate::entry::Entry;
+use crate::object::Object;
+use crate::slot::Slot;
 use gix_config::{File, NoMemory};
 use std::alloc::Global;
 
@@ -134,7 +134,7 @@ fn differences_of(alloc: Global, file: &File, other: &File) -> Result<Vec<Differ
 /// Differences, as a list has them.
 fn listed(
     alloc: Global,
-    found: Vec<gitconf_differences::Difference>,
+    found: Vec<gix_config::diff::Difference>,
 ) -> Result<Vec<Difference>, NoMemory>
     ensures { IfOk result (λ made. map told_difference made.items ≡ map different_of found.items) }
 {
@@ -146,10 +146,10 @@ fn listed(
 }
 
 /// A difference, as a list has it.
-fn difference_of(difference: gitconf_differences::Difference) -> Difference
+fn difference_of(difference: gix_config::diff::Difference) -> Difference
     ensures { told_difference result ≡ different_of difference }
 {
-    let gitconf_differences::Difference {
+    let gix_config::diff::Difference {
         side,
         section_name,
         subsection_name,

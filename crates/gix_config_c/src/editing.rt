@@ -1,8 +1,8 @@
 //! Entries, put into sections and removed from them.
 ghost use Rattle.std.specs.Prelude.{◌≡◌, if◌then◌else◌, None, Some};
-ghost use Rattle.gitconf_handles.specs.Blocks.{IsKept};
-ghost use Rattle.gitconf_handles.specs.Keys.{names_of};
-ghost use Rattle.gitconf_handles.specs.declared.object.Object.TheVariants as object;
+ghost use Rattle.gix_config_c.specs.Blocks.{IsKept};
+ghost use Rattle.gix_config_c.specs.Keys.{names_of};
+ghost use Rattle.gix_config_c.specs.declared.object.Object.TheVariants as object;
 ghost use Rattle.gitconf_state.specs.State.{State};
 ghost use Rattle.gix_config.specs.SectionEditors.{edited, lent, number_of};
 ghost use Rattle.gix_config_c.specs.Answers.{OfFile, OfKey};
@@ -10,10 +10,10 @@ ghost use Rattle.gix_config_c.specs.Edited.{IsEditedFile};
 ghost use Rattle.gix_config_c.specs.Entries.{IsEntryRemoved, IsPushed, IsValueRemoved};
 
 use crate::{DONE, NOT_UTF8, NOTHING_THERE, OUT_OF_MEMORY, WRONG_HANDLE};
-use gitconf_handles::block::{Block, room};
-use gitconf_handles::key::{Key, names};
-use gitconf_handles::object::Object;
-use gitconf_handles::slot::Slot;
+use crate::block::{Block, room};
+use crate::key::{Key, names};
+use crate::object::Object;
+use crate::slot::Slot;
 use gix_config::File;
 use gix_config::file::SectionMut;
 use gix_config::refusals::Refusal as _;

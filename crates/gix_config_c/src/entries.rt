@@ -2,18 +2,18 @@
 ghost use Rattle.std.specs.Prelude.{◌≡◌, map, IfOk};
 ghost use Rattle.std.specs.Option.{option_map};
 ghost use Rattle.bstr.specs.Owned.{bstring_bytes};
-ghost use Rattle.gitconf_compared.specs.Settings.{plain_setting, plain_settings};
+ghost use Rattle.gitconf_diff.specs.PlainSettings.{plain_setting, plain_settings};
 ghost use Rattle.gix_config_c.specs.Answers.{OfFile};
 ghost use Rattle.gix_config_c.specs.Listed.{AreEntries, AreOf, IsEntryAt, IsEntryIn, listed_setting, listed_entry};
 
 use crate::lists::put_list;
 use crate::{DONE, NOTHING_THERE, OUT_OF_MEMORY, WRONG_HANDLE};
 use bstr::BString;
-use gitconf_compared::setting::{Setting, Side};
-use gitconf_handles::entry::{Entry, EntryPlace};
-use gitconf_handles::object::Object;
-use gitconf_handles::slot::Slot;
-use gitconf_settings::settings::add_settings;
+use gitconf_diff::setting::{Setting, Side};
+use crate::entry::{Entry, EntryPlace};
+use crate::object::Object;
+use crate::slot::Slot;
+use gitconf_diff::settings::add_settings;
 use gix_config::{File, NoMemory};
 use std::alloc::Global;
 

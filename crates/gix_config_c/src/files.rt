@@ -1,14 +1,14 @@
 //! The text of a file, and what is handed out.
 ghost use Rattle.std.specs.Prelude.{◌≡◌, ◌⊎◌, Some};
-ghost use Rattle.gitconf_handles.specs.Blocks.{Holds, IsFreed, IsKept};
+ghost use Rattle.gix_config_c.specs.Blocks.{Holds, IsFreed, IsKept};
 ghost use Rattle.gitconf_state.specs.Printing.{printed};
 ghost use Rattle.gix_config_c.specs.Answers.{OfFile};
 ghost use Rattle.gix_config_c.specs.Messages.{message_of};
 
 use crate::{DONE, OUT_OF_MEMORY, WRONG_HANDLE};
-use gitconf_handles::block::{Block, room};
-use gitconf_handles::object::Object;
-use gitconf_handles::slot::Slot;
+use crate::block::{Block, room};
+use crate::object::Object;
+use crate::slot::Slot;
 use gix_config::File;
 use std::alloc::Global;
 

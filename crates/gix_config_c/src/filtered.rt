@@ -1,8 +1,8 @@
 //! Values of keys in the sections that a filter keeps, and the text of these sections.
 ghost use Rattle.std.specs.Prelude.{◌≡◌, IfOk, Some};
-ghost use Rattle.gitconf_handles.specs.Blocks.{IsKept};
-ghost use Rattle.gitconf_handles.specs.Keys.{names_of};
-ghost use Rattle.gitconf_handles.specs.Origins.{keeps};
+ghost use Rattle.gix_config_c.specs.Blocks.{IsKept};
+ghost use Rattle.gix_config_c.specs.Keys.{names_of};
+ghost use Rattle.gix_config_c.specs.Origins.{keeps};
 ghost use Rattle.gitconf_items.specs.Sink.{Writes};
 ghost use Rattle.gitconf_state.specs.Printing.{printed_kept};
 ghost use Rattle.gix_config_c.specs.Answers.{OfFile, OfKey};
@@ -11,11 +11,11 @@ ghost use Rattle.gix_config_c.specs.Found.{AreValues, IsBooleanOf, IsIntegerOf, 
 use crate::finding::{boolean_where, integer_where};
 use crate::look_ups::{put_value, put_values};
 use crate::{DONE, NOT_UTF8, NOTHING_THERE, OUT_OF_MEMORY, WRONG_HANDLE};
-use gitconf_handles::block::{Block, room};
-use gitconf_handles::key::{Key, names};
-use gitconf_handles::object::Object;
-use gitconf_handles::origin::{Filter, passes};
-use gitconf_handles::slot::Slot;
+use crate::block::{Block, room};
+use crate::key::{Key, names};
+use crate::object::Object;
+use crate::origin::{Filter, passes};
+use crate::slot::Slot;
 use gitconf_items::sink::SinkFault;
 use gix_config::refusals::Refusal as _;
 use gix_config::{File, NoMemory};

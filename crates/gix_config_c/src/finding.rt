@@ -1,13 +1,13 @@
 //! Lookups of a file with a filter, or without one.
 ghost use Rattle.std.specs.Option.{option_copied};
-ghost use Rattle.gitconf_base.specs.Key.{key_of};
-ghost use Rattle.gitconf_finding.specs.Lookups.{AreRawValues, IsRawValue};
-ghost use Rattle.gitconf_handles.specs.Origins.{keeps, keeps_if};
+ghost use Rattle.gitconf_sources.specs.Key.{key_of};
+ghost use Rattle.gitconf_lookups.specs.Lookups.{AreRawValues, IsRawValue};
+ghost use Rattle.gix_config_c.specs.Origins.{keeps, keeps_if};
 ghost use Rattle.gix_config.specs.Typed.{IsBoolean, IsInteger};
 
 use bstr::BString;
-use gitconf_base::key::KeyRef;
-use gitconf_handles::origin::{Filter, passes};
+use gitconf_sources::key::KeyRef;
+use crate::origin::{Filter, passes};
 use gix_config::lookup::existing;
 use gix_config::{File, value};
 

@@ -1,8 +1,8 @@
 //! Texts, laid out, and path patterns: calls that need no handle.
 ghost use Rattle.std.specs.Prelude.{◌≡◌, ◌⊎◌};
 ghost use Rattle.gitconf_glob.specs.Pattern.{matches};
-ghost use Rattle.gitconf_handles.specs.Blocks.{IsKept};
-ghost use Rattle.gitconf_handles.specs.Layouts.{options_of};
+ghost use Rattle.gix_config_c.specs.Blocks.{IsKept};
+ghost use Rattle.gix_config_c.specs.Layouts.{options_of};
 ghost use Rattle.gitconf_layout.specs.Layout.{default_options};
 ghost use Rattle.gix_config_c.specs.LaidOut.{IsLaidOut};
 ghost use Rattle.gix_config_c.specs.Opened.{IsKeptPlace};
@@ -11,9 +11,9 @@ ghost use Rattle.gix_config_c.specs.Texts.{IsRefusedText};
 use crate::opening::refused;
 use crate::{DONE, OUT_OF_MEMORY};
 use gitconf_glob::wildmatch;
-use gitconf_handles::block::{Block, room};
-use gitconf_handles::fault::Fault;
-use gitconf_handles::layout::{Layout, options};
+use crate::block::{Block, room};
+use crate::fault::Fault;
+use crate::layout::{Layout, options};
 use gitconf_layout::format::normalize;
 use std::alloc::Global;
 

@@ -5,20 +5,32 @@
 #![tactic(auto)]
 
 mod appending;
+pub mod block;
 mod comparing;
+pub mod difference;
 mod editing;
 mod entries;
+pub mod entry;
+pub mod fault;
 mod files;
 mod filtered;
 mod finding;
+pub mod folders;
+pub mod key;
+pub mod layout;
 mod layouts;
 mod lists;
 mod look_ups;
+pub mod object;
 mod opening;
+pub mod origin;
+mod parts;
 mod paths;
+pub mod section;
 mod section_lists;
 mod sections;
 mod setting;
+pub mod slot;
 mod texts;
 
 /// The call is done.

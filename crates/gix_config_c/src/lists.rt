@@ -3,9 +3,9 @@ ghost use Rattle.std.specs.Prelude.{◌≡◌, ◌⊎◌, None, Some};
 ghost use Rattle.gix_config_c.specs.Lists.{IsAt, IsLength, IsTextAt};
 
 use crate::{DONE, NOTHING_THERE, OUT_OF_MEMORY, WRONG_HANDLE};
-use gitconf_handles::block::Span;
-use gitconf_handles::object::Object;
-use gitconf_handles::slot::Slot;
+use crate::block::Span;
+use crate::object::Object;
+use crate::slot::Slot;
 use std::alloc::Global;
 
 /// Puts a list into a handle, in the place of what was there, which is closed.

@@ -1,10 +1,10 @@
 //! Values of keys.
 ghost use Rattle.std.specs.Option.{option_copied};
 ghost use Rattle.std.specs.Prelude.{◌≡◌, ◌⊎◌, IfOk, true};
-ghost use Rattle.gitconf_finding.specs.Lookups.{texts_of};
-ghost use Rattle.gitconf_handles.specs.Blocks.{IsKept};
-ghost use Rattle.gitconf_handles.specs.Keys.{names_of};
-ghost use Rattle.gitconf_handles.specs.Origins.{keeps_if};
+ghost use Rattle.gitconf_lookups.specs.Lookups.{texts_of};
+ghost use Rattle.gix_config_c.specs.Blocks.{IsKept};
+ghost use Rattle.gix_config_c.specs.Keys.{names_of};
+ghost use Rattle.gix_config_c.specs.Origins.{keeps_if};
 ghost use Rattle.gix_config_c.specs.Answers.{OfFile, OfKey};
 ghost use Rattle.gix_config_c.specs.Found.{AreTexts, AreValues, HaveBytes, IsBooleanOf, IsIntegerOf, IsValue};
 
@@ -12,11 +12,11 @@ use crate::finding::{value_of, values_of};
 use crate::lists::put_list;
 use crate::{DONE, NOT_UTF8, NOTHING_THERE, OUT_OF_MEMORY, WRONG_HANDLE};
 use bstr::BString;
-use gitconf_handles::block::{Block, room};
-use gitconf_handles::key::{Key, names};
-use gitconf_handles::object::Object;
-use gitconf_handles::origin::Filter;
-use gitconf_handles::slot::Slot;
+use crate::block::{Block, room};
+use crate::key::{Key, names};
+use crate::object::Object;
+use crate::origin::Filter;
+use crate::slot::Slot;
 use gix_config::refusals::Refusal as _;
 use gix_config::{File, NoMemory};
 use std::alloc::Global;

@@ -1,6 +1,6 @@
 //! Files, opened and closed.
 ghost use Rattle.std.specs.Prelude.{◌≡◌, ◌⊎◌, IfErr, IfOk, None, Some};
-ghost use Rattle.gitconf_handles.specs.declared.object.Object.TheVariants as object;
+ghost use Rattle.gix_config_c.specs.declared.object.Object.TheVariants as object;
 ghost use Rattle.gitconf_read.specs.EventResult.{IsRefused};
 ghost use Rattle.gitconf_read.specs.ParseError.{Refusal};
 ghost use Rattle.gitconf_state.specs.State.{State};
@@ -8,9 +8,9 @@ ghost use Rattle.gix_config_c.specs.Answers.{OfFile};
 ghost use Rattle.gix_config_c.specs.Opened.{IsFileOf, IsKeptPlace, IsPlace};
 
 use crate::{DONE, OUT_OF_MEMORY, WRONG_HANDLE};
-use gitconf_handles::fault::{Fault, column};
-use gitconf_handles::object::Object;
-use gitconf_handles::slot::Slot;
+use crate::fault::{Fault, column};
+use crate::object::Object;
+use crate::slot::Slot;
 use gix_config::refusals::Refusal as _;
 use gix_config::{File, parse};
 use std::alloc::Global;

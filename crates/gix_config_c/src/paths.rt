@@ -1,17 +1,17 @@
 //! Paths that values write.
 ghost use Rattle.std.specs.Prelude.{◌≡◌};
-ghost use Rattle.gitconf_handles.specs.Blocks.{IsKept};
-ghost use Rattle.gitconf_handles.specs.Folders.{folders_of, known_folders};
-ghost use Rattle.gitconf_handles.specs.Keys.{names_of};
+ghost use Rattle.gix_config_c.specs.Blocks.{IsKept};
+ghost use Rattle.gix_config_c.specs.Folders.{folders_of, known_folders};
+ghost use Rattle.gix_config_c.specs.Keys.{names_of};
 ghost use Rattle.gix_config_c.specs.Answers.{OfFile};
 ghost use Rattle.gix_config_c.specs.Paths.{IsPathFor, IsWhole};
 
 use crate::{DONE, NOT_UTF8, NOTHING_THERE, OUT_OF_MEMORY, WRONG_HANDLE};
-use gitconf_handles::block::{Block, room};
-use gitconf_handles::folders::{Folders, context};
-use gitconf_handles::key::{Key, names};
-use gitconf_handles::object::Object;
-use gitconf_handles::slot::Slot;
+use crate::block::{Block, room};
+use crate::folders::{Folders, context};
+use crate::key::{Key, names};
+use crate::object::Object;
+use crate::slot::Slot;
 use gitconf_values::path::interpolate::Context;
 use gix_config::refusals::Refusal as _;
 use gix_config::{File, Path};

@@ -2,8 +2,8 @@
 ghost use Rattle.std.specs.Prelude.{◌≡◌, IfOk, Some};
 ghost use Rattle.std.specs.Option.{option_copied, option_map};
 ghost use Rattle.bstr.specs.Owned.{bstring_bytes};
-ghost use Rattle.gitconf_handles.specs.Keys.{section_names_of};
-ghost use Rattle.gitconf_handles.specs.declared.object.Object.TheVariants as object;
+ghost use Rattle.gix_config_c.specs.Keys.{section_names_of};
+ghost use Rattle.gix_config_c.specs.declared.object.Object.TheVariants as object;
 ghost use Rattle.gitconf_state.specs.State.{State};
 ghost use Rattle.gix_config_c.specs.Answers.{OfFile, OfSection};
 ghost use Rattle.gix_config_c.specs.Edited.{IsEditedFile};
@@ -11,9 +11,9 @@ ghost use Rattle.gix_config_c.specs.Sections.{IsMadeNew, IsNew, IsRemoved, IsRen
 
 use crate::{DONE, NOT_UTF8, NOTHING_THERE, OUT_OF_MEMORY, WRONG_HANDLE};
 use bstr::BString;
-use gitconf_handles::key::{SectionKey, section_names};
-use gitconf_handles::object::Object;
-use gitconf_handles::slot::Slot;
+use crate::key::{SectionKey, section_names};
+use crate::object::Object;
+use crate::slot::Slot;
 use gitconf_text::parse::section::header;
 use gix_config::refusals::Refusal as _;
 use gix_config::{File, NoMemory};

@@ -1,17 +1,17 @@
 //! Values that are set.
 ghost use Rattle.std.specs.Prelude.{◌≡◌, false, Some};
-ghost use Rattle.gitconf_handles.specs.Blocks.{IsKept};
-ghost use Rattle.gitconf_handles.specs.Keys.{names_of};
-ghost use Rattle.gitconf_handles.specs.declared.object.Object.TheVariants as object;
+ghost use Rattle.gix_config_c.specs.Blocks.{IsKept};
+ghost use Rattle.gix_config_c.specs.Keys.{names_of};
+ghost use Rattle.gix_config_c.specs.declared.object.Object.TheVariants as object;
 ghost use Rattle.gitconf_state.specs.State.{State};
 ghost use Rattle.gix_config_c.specs.Answers.{OfFile, OfKey};
 ghost use Rattle.gix_config_c.specs.Edited.{IsEditedFile, IsSetTo};
 
 use crate::{DONE, NOT_UTF8, OUT_OF_MEMORY, WRONG_HANDLE};
-use gitconf_handles::block::{Block, room};
-use gitconf_handles::key::{Key, names};
-use gitconf_handles::object::Object;
-use gitconf_handles::slot::Slot;
+use crate::block::{Block, room};
+use crate::key::{Key, names};
+use crate::object::Object;
+use crate::slot::Slot;
 use gix_config::File;
 use gix_config::refusals::Refusal as _;
 use std::alloc::Global;

@@ -1,7 +1,7 @@
 //! Values of keys in texts of which no file is opened.
 ghost use Rattle.std.specs.Prelude.{◌≡◌, ◌⊎◌};
-ghost use Rattle.gitconf_handles.specs.Blocks.{IsKept};
-ghost use Rattle.gitconf_handles.specs.Keys.{names_of};
+ghost use Rattle.gix_config_c.specs.Blocks.{IsKept};
+ghost use Rattle.gix_config_c.specs.Keys.{names_of};
 ghost use Rattle.gix_config_c.specs.Answers.{OfKey};
 ghost use Rattle.gix_config_c.specs.Opened.{IsKeptPlace};
 ghost use Rattle.gix_config_c.specs.Texts.{AreValuesIn, IsRefusedText, IsValueIn};
@@ -9,11 +9,11 @@ ghost use Rattle.gix_config_c.specs.Texts.{AreValuesIn, IsRefusedText, IsValueIn
 use crate::look_ups::put_texts;
 use crate::opening::refused;
 use crate::{DONE, NOT_UTF8, NOTHING_THERE, OUT_OF_MEMORY};
-use gitconf_handles::block::{Block, room};
-use gitconf_handles::fault::Fault;
-use gitconf_handles::key::{Key, names};
-use gitconf_handles::slot::Slot;
-use gitconf_lookup::lookup::{value_in, values_in};
+use crate::block::{Block, room};
+use crate::fault::Fault;
+use crate::key::{Key, names};
+use crate::slot::Slot;
+use gitconf_parse::lookup::{value_in, values_in};
 use std::alloc::Global;
 
 /// Hands out what the last value of a key means in a text: what gix_config_value hands out of its file, which isn't made. The text is

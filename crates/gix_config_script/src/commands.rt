@@ -1,11 +1,11 @@
 //! The commands, by what they ask for.
 
-use gitconf_script::commands::Command;
-use gitconf_script::words::Word;
-use script_answers::answer::{Answer, Outcome};
-use script_answers::session::Session;
-use script_edits::changes::{edit_outcome, loader_outcome, outside_outcome, state_outcome};
-use script_looks::looks::{
+use script_words::commands::Command;
+use script_words::words::Word;
+use script_session::answer::{Answer, Outcome};
+use script_session::session::Session;
+use script_commands::changes::{edit_outcome, loader_outcome, outside_outcome, state_outcome};
+use script_commands::looks::{
     look_up_outcome, part_outcome, print_outcome, section_outcome, text_outcome, typed_outcome,
     value_outcome, view_outcome,
 };

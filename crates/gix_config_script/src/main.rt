@@ -2,6 +2,7 @@
 //! docs/scripts.md has the language.
 #![tactic(auto)]
 
+pub mod blocks;
 mod commands;
 mod program;
 

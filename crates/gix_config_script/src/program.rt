@@ -2,14 +2,14 @@
 ghost use Rattle.std.specs.Prelude.{◌≡◌, ◌≤◌, false};
 
 use crate::commands::outcome_of;
-use gitconf_script::bracket::Bracket;
-use gitconf_script::commands::{Command, StateCommand, command_of};
-use gitconf_script::editors::opening_of;
-use gitconf_script::play::{Fault, NO_MEMORY, Player, Streams, play};
-use gitconf_script::words::{Word, words_of};
-use script_answers::rendering::line_of;
-use script_answers::session::Session;
-use script_blocks::blocks::play_block;
+use script_words::bracket::Bracket;
+use script_words::commands::{Command, StateCommand, command_of};
+use script_words::editors::opening_of;
+use script_words::play::{Fault, NO_MEMORY, Player, Streams, play};
+use script_words::words::{Word, words_of};
+use script_session::rendering::line_of;
+use script_session::session::Session;
+use crate::blocks::play_block;
 use std::alloc::{AllocError, Global};
 use std::io::{Read, Write};
 

@@ -1,6 +1,6 @@
 //! Texts and numbers of refusals of includes and of loads.
 
-use gitconf_host::{FileFault, Stage};
+use gitconf_sources::{FileFault, Stage};
 use gix_config::file::{includes, init};
 use gix_config::path::interpolate;
 use gix_config::refusals::Refusal;

@@ -1,6 +1,6 @@
 //! Options of loads and of includes.
 
-use gitconf_host::{FileFault, Stage};
+use gitconf_sources::{FileFault, Stage};
 use gitconf_tests::users::homes;
 use gix_config::file::includes::conditional;
 use gix_config::file::{includes, init};

@@ -2,8 +2,8 @@
 
 use crate::loads::{loaded, section_at};
 use gitconf_items::sink::SinkFault;
-use gitconf_parse_tests::narrow::{Narrow, check};
-use gitconf_parse_tests::texts::{PRINTED, TEXT};
+use gitconf_tests::narrow::{Narrow, check};
+use gitconf_tests::texts::{PRINTED, TEXT};
 use gix_config::File;
 use gix_config::file::SectionRef;
 use std::alloc::Global;

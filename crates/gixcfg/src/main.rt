@@ -1,12 +1,12 @@
 //! The program `gixcfg`: words and standard input in, an answer and an exit status out.
 #![tactic(auto)]
 
-use gitconf_disk::Process;
+use gitconf_sources::Process;
 use gix_config::NoMemory;
 use gix_config::host::{Env, EnvVar};
 use gix_config::refusals::Refusal;
-use gixcfg_answers::trouble::MEMORY;
-use gixcfg_calls::{Streams, Terminal, run_words};
+use gixcfg_core::trouble::MEMORY;
+use gixcfg_commands::{Streams, Terminal, run_words};
 use std::alloc::Global;
 use std::env;
 use std::io::{ErrorKind, IsTerminal};

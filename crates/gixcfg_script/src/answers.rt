@@ -1,10 +1,10 @@
 //! What a line is answered.
 
 use crate::session::Done;
-use gitconf_script::answers::{put_bytes, put_number};
-use gitconf_script::words::NotUnderstood;
+use script_words::answers::{put_bytes, put_number};
+use script_words::words::NotUnderstood;
 use gix_config::NoMemory;
-use gixcfg_machine::Tree;
+use crate::tree::Tree;
 use std::alloc::{AllocError, AllocFailed, Global};
 
 /// Why a line isn't done.

@@ -2,8 +2,11 @@
 
 use crate::answers::{Refusal, line_of_call};
 use crate::session::Session;
-use gitconf_script::words::{NotUnderstood, Word, named_in};
-use gixcfg_machine::{self as machine, Machine, Node, Source};
+use script_words::words::{NotUnderstood, Word, named_in};
+use crate::refusal;
+use crate::machine::Machine;
+use crate::streams::Source;
+use crate::tree::Node;
 use std::alloc::Global;
 use std::mem::replace;
 
@@ -158,11 +161,11 @@ fn set_input(alloc: Global, session: &mut Session, words: &[Word<'_>]) -> Result
 }
 
 /// `end`, or an error in its place: `fails` of a stream whose other side has gone, `folder` of a folder.
-fn end_of(word: &Word<'_>) -> Result<Option<machine::Refusal>, NotUnderstood> {
+fn end_of(word: &Word<'_>) -> Result<Option<refusal::Refusal>, NotUnderstood> {
     match word.plain()? {
         b"end" => Ok(None),
-        b"fails" => Ok(Some(machine::Refusal::Gone)),
-        b"folder" => Ok(Some(machine::Refusal::Folder)),
+        b"fails" => Ok(Some(refusal::Refusal::Gone)),
+        b"folder" => Ok(Some(refusal::Refusal::Folder)),
         _ => Err(NotUnderstood),
     }
 }

@@ -3,9 +3,28 @@
 #![tactic(auto)]
 
 mod answers;
+#[cfg(test)]
+mod changing;
 mod commands;
+#[cfg(test)]
+mod edits;
+#[cfg(test)]
+mod failing;
+#[cfg(test)]
+mod left;
+mod loads;
+mod machine;
 mod program;
+#[cfg(test)]
+mod reads;
+mod refusal;
 mod session;
+mod streams;
+mod tree;
+#[cfg(test)]
+mod typed;
+#[cfg(test)]
+mod world;
 
 use program::run;
 use std::process::ExitCode;

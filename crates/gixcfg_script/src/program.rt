@@ -4,8 +4,8 @@ ghost use Rattle.std.specs.Prelude.{◌≤◌};
 use crate::answers::{Refusal, line_of};
 use crate::commands::answer_to;
 use crate::session::Session;
-use gitconf_script::play::{Fault, NO_MEMORY, Player, Streams, play};
-use gitconf_script::words::words_of;
+use script_words::play::{Fault, NO_MEMORY, Player, Streams, play};
+use script_words::words::words_of;
 use std::alloc::{AllocError, Global};
 use std::io::{Read, Write};
 

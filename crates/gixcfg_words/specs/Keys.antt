@@ -1,8 +1,8 @@
 -- Which key a word of a call is.
 use Rattle.std.specs.Prelude.{◌≡◌, ℕ, Bool, true, false, not, List, [], ◌∷◌, Option, Some, None, Result, Ok, Err}
 use Rattle.std.specs.Option.{option_map}
-use Rattle.gitconf_base.specs.declared.key.KeyRef.{KeyRef}
-use Rattle.gitconf_base.specs.Key.{Key, key_of, parsed_key}
+use Rattle.gitconf_sources.specs.declared.key.KeyRef.{KeyRef}
+use Rattle.gitconf_sources.specs.Key.{Key, key_of, parsed_key}
 use Rattle.gixcfg_words.specs.declared.fault.Fault.{Fault}
 use Rattle.gixcfg_words.specs.declared.fault.Fault.TheVariants.{Nameless, NoKey}
 

@@ -4,7 +4,7 @@ use crate::keys::Names;
 use crate::kinds::Kind;
 use crate::plain::Task;
 use crate::verbs::Verb;
-use gitconf_base::key::KeyRef;
+use gitconf_sources::key::KeyRef;
 
 /// What the words of a call ask for.
 #[derive(Drop)]

@@ -5,7 +5,7 @@ ghost use Rattle.gixcfg_words.specs.Keys as keys;
 ghost use Rattle.gixcfg_words.specs.Keys.{IsKey};
 
 use crate::fault::Fault;
-use gitconf_base::key::KeyRef;
+use gitconf_sources::key::KeyRef;
 
 /// The names of a section.
 #[derive(Clone, Copy)]

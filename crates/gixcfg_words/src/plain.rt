@@ -1,6 +1,6 @@
 //! What the words of a call without options ask for.
 
-use gitconf_base::key::KeyRef;
+use gitconf_sources::key::KeyRef;
 
 /// What the program is asked to do.
 #[derive(Clone, Copy)]

@@ -3,7 +3,7 @@ use Rattle.std.proofs.Common.{◌≡◌, ℕ, Bool, true, false, List, Some, Non
 use lib.Utf8.{encode}
 use Rattle.std.specs.Prelude.{codes}
 use Rattle.std.specs.Str.{is_utf8, chars, bytes_eq}
-use Rattle.gitconf_base.specs.Metadata.{Meta}
+use Rattle.gitconf_sources.specs.Metadata.{Meta}
 use Rattle.gitconf_glob.specs.Pattern.{front, fronts, run, fit, matches}
 use Rattle.gitconf_values.specs.Paths.{trimmed_length, last_slash}
 use Rattle.gitconf_includes.specs.Conditions.{holds}

@@ -1,6 +1,6 @@
 -- The rules that rows go by.
 use Rattle.std.specs.Prelude.{◌∷◌, true, false, List, [], Option, Some, None, ℕ, codes}
-use Rattle.gitconf_base.specs.Metadata.{Meta, api_meta}
+use Rattle.gitconf_sources.specs.Metadata.{Meta, api_meta}
 use Rattle.gitconf_includes.specs.Rules.{Rules}
 
 -- `follow`: nothing is installed, the home folder is /h, that of u is /u; no git folder and no branch

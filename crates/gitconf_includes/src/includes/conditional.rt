@@ -1,5 +1,5 @@
 //! What the conditions of `includeIf` are about.
-use gitconf_host::FileFault;
+use gitconf_sources::FileFault;
 
 /// What the conditions of `includeIf` are about. The default has nothing, and no condition on it holds.
 #[derive(Clone, Copy, Default)]

@@ -10,7 +10,7 @@ use crate::held::Held;
 use crate::rebasing::rebase;
 use crate::row::Row;
 use crate::sections::SectionList;
-use gitconf_base::meta::Metadata;
+use gitconf_sources::meta::Metadata;
 use gitconf_items::event::{Header, Span};
 use gitconf_items::few::FewItems;
 use gitconf_items::items::Item;

@@ -9,7 +9,7 @@ ghost use Rattle.gitconf_sections.specs.Section.{with_items};
 use crate::body::Body;
 use crate::part::{leave_out_of, move_body, take_out};
 use crate::sections::SectionList;
-use gitconf_base::meta::Metadata;
+use gitconf_sources::meta::Metadata;
 use gitconf_items::event::Header;
 use gitconf_items::items::Item;
 use gitconf_items::moving::moved_header;

@@ -1,9 +1,9 @@
 //! Sections that were added at the end are moved to where they belong.
 ghost use Rattle.std.specs.Prelude.{◌≡◌, ◌-◌, ◌≤◌, length};
-ghost use Rattle.gitconf_index.specs.Runs.{woven, AreRuns};
+ghost use Rattle.gitconf_table.specs.Runs.{woven, AreRuns};
 
 use crate::sections::SectionList;
-use gitconf_index::runs::Run;
+use gitconf_table::runs::Run;
 
 impl SectionList {
     /// Weaves the sections from `first` on among those before them, as [`gitconf_table::table::SectionTable::weave`] does:

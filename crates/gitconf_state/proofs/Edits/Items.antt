@@ -16,7 +16,7 @@ use Rattle.gitconf_items.proofs.Subsections.{reads_back}
 use Rattle.gitconf_text.proofs.ByteLaws.{name_byte_header}
 use Rattle.gitconf_text.proofs.Tests.{both_true, false_not}
 use Rattle.gitconf_text.proofs.ByteLaws.{line_end_is}
-use Rattle.gitconf_base.specs.Metadata.{Meta}
+use Rattle.gitconf_sources.specs.Metadata.{Meta}
 use Rattle.gitconf_state.specs.State.{SectionState, State, is_value, is_assigned, is_item, is_header, HasSectionItems, is_entry}
 use Rattle.gitconf_state.specs.LineEnds.{file_line_end}
 use Rattle.gitconf_state.specs.Clean.{has_blanks, IsCleanSection}

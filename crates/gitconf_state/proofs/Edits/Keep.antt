@@ -6,7 +6,7 @@ use Rattle.gitconf_text.specs.Names.{is_made_name, is_value_name, is_valid_or_no
 use Rattle.gitconf_text.specs.Part.{Item, BlanksItem, LineEndsItem, CommentItem, EntryItem}
 use Rattle.gitconf_text.proofs.Tests.{both_true}
 use Rattle.gitconf_text.proofs.Lists.{all_push}
-use Rattle.gitconf_base.specs.Metadata.{Meta}
+use Rattle.gitconf_sources.specs.Metadata.{Meta}
 use Rattle.gitconf_state.specs.State.{SectionState, State, is_item, entries_of, HasSectionItems, HasItems, is_entry}
 use Rattle.gitconf_state.specs.LineEnds.{file_line_end, ends_line}
 use Rattle.gitconf_state.specs.Clean.{is_nameless, has_blanks, IsCleanSection, IsClean, stand_apart}

@@ -7,7 +7,7 @@ use Rattle.gitconf_text.specs.Part.{Item}
 use Rattle.gitconf_state.specs.State.{SectionState, State, AreNumbered}
 use Rattle.gitconf_state.specs.LineEnds.{file_line_end}
 use Rattle.gitconf_state.specs.Edit.{update_last, new_section, is_target, section_with, set_raw_value}
-use Rattle.gitconf_base.specs.Metadata.{Meta}
+use Rattle.gitconf_sources.specs.Metadata.{Meta}
 use Rattle.gitconf_state.proofs.Edits.Lists.{update_last_holds}
 use Rattle.gitconf_state.specs.Edits.{change_numbered, renamed, with_trust, picked, without_numbered, held_behind_last, numbered_from, Edit, SetRawValue, Push, PushAfterLast, PushLineEnd, SetValue, Remove, RemoveMarked, Pop, WriteAt, DeleteAt, Rename, RenameAll, NewSection, PushSection, RemoveSection, RemoveNumbered, Append, SetTrust, SetMeta, apply, apply_all, edited_number, IsOneChanged}
 

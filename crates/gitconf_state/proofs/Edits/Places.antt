@@ -4,7 +4,7 @@ use Rattle.std.specs.Prelude.{◌+◌}
 use Rattle.std.specs.List.{list_any, last_or}
 use Rattle.std.specs.Prelude.{filter}
 use Rattle.gitconf_text.specs.Part.{Item}
-use Rattle.gitconf_base.specs.Metadata.{Meta}
+use Rattle.gitconf_sources.specs.Metadata.{Meta}
 use Rattle.gitconf_state.specs.State.{SectionState, State}
 use Rattle.gitconf_state.specs.LineEnds.{file_line_end}
 use Rattle.gitconf_state.specs.Edit.{update_last, is_entry_of, spacing_of, with_value, new_entry, set_value, item_raw, old_value, new_section, is_target, section_with, set_raw_value, replaced_value}

@@ -13,7 +13,7 @@ use Rattle.gitconf_text.specs.Names.{is_same_name, is_valid_or_none}
 use Rattle.gitconf_text.specs.Part.{Assigned, Entry, Item, BlanksItem, LineEndsItem, CommentItem, EntryItem}
 use Rattle.gitconf_text.specs.Document.{DocumentEntry, document_entry}
 use Rattle.gitconf_text.proofs.ValuesEscaped.{plain-escaped}
-use Rattle.gitconf_base.specs.Metadata.{Meta}
+use Rattle.gitconf_sources.specs.Metadata.{Meta}
 use Rattle.gitconf_items.proofs.Subsections.{reads_back}
 use Rattle.gitconf_state.specs.State.{SectionState, State, entries_of}
 use Rattle.gitconf_state.specs.LineEnds.{file_line_end}

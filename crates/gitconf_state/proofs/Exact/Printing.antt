@@ -2,7 +2,7 @@
 use Rattle.std.proofs.Common.{◌≡◌, ℕ, Bool, true, false, not, List, [], ◌∷◌, ◌++◌, flat_map, map, refl, ap, sym, subst, ◌∙◌, append-nil, inr}
 use Rattle.std.specs.Prelude.{◌||◌}
 use Rattle.std.specs.List.{list_all, list_any, AllByRecursion}
-use Rattle.gitconf_base.specs.Metadata.{Meta}
+use Rattle.gitconf_sources.specs.Metadata.{Meta}
 use Rattle.gitconf_text.specs.Header.{spelled_header}
 use Rattle.gitconf_text.specs.Part.{Item, Part, ItemPart, HeaderPart, spelled, AreFit}
 use Rattle.gitconf_text.specs.Document.{unmarked, IsText}

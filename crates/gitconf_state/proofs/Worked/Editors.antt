@@ -5,8 +5,8 @@ use Rattle.std.specs.Prelude.{map}
 use Rattle.gitconf_text.specs.Value.{Piece}
 use Rattle.gitconf_text.specs.Header.{Header, PlainHeader, DottedHeader, QuotedHeader}
 use Rattle.gitconf_text.specs.Part.{Item, BlanksItem, LineEndsItem, CommentItem, EntryItem}
-use Rattle.gitconf_base.specs.Metadata.{api_meta}
-use Rattle.gitconf_base.specs.declared.source.Trust.TheVariants.{Reduced}
+use Rattle.gitconf_sources.specs.Metadata.{api_meta}
+use Rattle.gitconf_sources.specs.declared.source.Trust.TheVariants.{Reduced}
 use Rattle.gitconf_state.specs.State.{SectionState, State, cut_last}
 use Rattle.gitconf_state.specs.Printing.{printed}
 use Rattle.gitconf_state.specs.Edit.{is_entry_of}

@@ -6,7 +6,7 @@ use Rattle.std.specs.Str.{bytes_eq}
 use Rattle.gitconf_text.specs.Value.{Piece}
 use Rattle.gitconf_text.specs.Header.{PlainHeader, QuotedHeader, name_of}
 use Rattle.gitconf_text.specs.Part.{Item, BlanksItem, LineEndsItem, CommentItem, EntryItem, Part, ItemPart, HeaderPart, spelled}
-use Rattle.gitconf_base.specs.Metadata.{api_meta}
+use Rattle.gitconf_sources.specs.Metadata.{api_meta}
 use Rattle.gitconf_state.specs.State.{SectionState, State}
 use Rattle.gitconf_state.specs.Printing.{printed, printed_kept, printed_section}
 use Rattle.gitconf_state.specs.Comments.{comments}

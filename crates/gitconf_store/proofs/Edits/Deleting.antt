@@ -8,7 +8,7 @@ use Rattle.gitconf_state.specs.Editors.{deleted_at}
 use Rattle.gitconf_state.specs.Edits.{DeleteAt, apply}
 use Rattle.gitconf_state.specs.State.{SectionState, State}
 use Rattle.gitconf_store.specs.Several.{meaning_of_place, moved_up}
-use Rattle.gitconf_finding.specs.ValuePlaces.{item_meaning, meaning_at}
+use Rattle.gitconf_lookups.specs.ValuePlaces.{item_meaning, meaning_at}
 
 -- what stands before it, and behind it
 stands_before : {A : Type 0} (xs : List A) (gone place : ℕ) → place < gone → slice_get (take gone xs ++ drop (suc gone) xs) place ≡ slice_get xs place

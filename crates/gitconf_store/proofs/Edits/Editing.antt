@@ -5,7 +5,7 @@ use Rattle.std.specs.List.{AllByRecursion, last_or, position_or_len, slice_get}
 use Rattle.std.specs.Option.{option_map}
 use Rattle.std.proofs.lemmas.Bool.{eq-eqb, eqb-false, ne_eqb, ltb-false}
 use Rattle.gitconf_text.specs.Part as parts
-use Rattle.gitconf_base.specs.Metadata.{Meta}
+use Rattle.gitconf_sources.specs.Metadata.{Meta}
 use Rattle.gitconf_text.specs.Sections.{AreNumbered, SectionEntry, Sections, changed_at, has_number, with_section, section_at, place_of, number_at}
 use Rattle.gitconf_items.specs.declared.items.Item.{Item}
 use Rattle.gitconf_items.specs.Events.{header_of}
@@ -15,7 +15,7 @@ use Rattle.gitconf_state.specs.Edit.{with_used}
 use Rattle.gitconf_state.specs.Edits.{change_items, items_of_numbered, numbered, said_in_section, Entry}
 use Rattle.gitconf_state.specs.State.{SectionState, State, HasItems}
 use Rattle.gitconf_items.specs.Items.{items_of}
-use Rattle.gitconf_lines.proofs.Buffers.{extended_fit, extended_items, same_extended}
+use Rattle.gitconf_body.proofs.Buffers.{extended_fit, extended_items, same_extended}
 use Rattle.gitconf_sections.specs.Section.{Section}
 use Rattle.gitconf_sections.proofs.Edits.{put_again}
 use Rattle.gitconf_state.specs.State.{with_items}

@@ -3,22 +3,22 @@ use Rattle.std.proofs.Common.{◌≡◌, ℕ, ◌==◌, Bool, true, false, List,
 use Rattle.std.specs.Prelude.{◌⊎◌, filter, IfSome, OnErr}
 use Rattle.std.specs.List.{last_or, list_any}
 use Rattle.gitconf_text.specs.Names.{is_value_name}
-use Rattle.gitconf_base.specs.Key.{Key}
+use Rattle.gitconf_sources.specs.Key.{Key}
 use Rattle.gitconf_state.specs.Edit.{with_used}
 use Rattle.gitconf_state.specs.Edits.{apply, numbered}
 use Rattle.gitconf_state.specs.Lookup.{is_named, listed}
 use Rattle.gitconf_state.specs.State.{SectionState, State}
 use Rattle.gitconf_state.proofs.Edits.Lists.{last_at, last_passing}
-use Rattle.gitconf_finding.specs.declared.existing.Error.{Error as ExistingError}
+use Rattle.gitconf_lookups.specs.declared.existing.Error.{Error as ExistingError}
 use Rattle.gitconf_store.specs.declared.set_raw_value.Error.{Error}
 use Rattle.gitconf_store.specs.declared.set_raw_value.Error.TheVariants.{ValueName}
 use Rattle.gitconf_store.specs.Edits.{UsedGrows}
 use Rattle.gitconf_store.specs.Editors.{PutsIn}
 use Rattle.gitconf_store.specs.Existing.{IsRewritten, IsSetExisting, IsSetWhere, rewriting, rewriting_bytes, rewriting_numbers}
 use Rattle.gitconf_store.specs.SetErrors.{of_existing, of_span, set_number}
-use Rattle.gitconf_finding.specs.ValuePlaces.{IsPlace, IsValuePlace, refusal_of, value_place}
+use Rattle.gitconf_lookups.specs.ValuePlaces.{IsPlace, IsValuePlace, refusal_of, value_place}
 use Rattle.gitconf_store.proofs.Edits.Sets.{number_of_span}
-use Rattle.gitconf_finding.proofs.ValuePlaces.{none_named, only_key_missing}
+use Rattle.gitconf_lookups.proofs.ValuePlaces.{none_named, only_key_missing}
 
 -- the section of a number that stands
 numbered_some : (id : ℕ) (state : State) → list_any (λ s. s.number == id) state.sections ≡ true → (s : SectionState) × (numbered id state ≡ Some s)

@@ -11,9 +11,9 @@ use Rattle.gitconf_text.specs.Names.{is_made_name, is_valid_or_none, is_value_na
 use Rattle.gitconf_text.specs.declared.parse.section.header.Error.{Error as HeaderError}
 use Rattle.gitconf_text.specs.declared.parse.section.header.Error.TheVariants.{InvalidName, InvalidSubSection}
 use Rattle.gitconf_text.specs.declared.parse.section.header.Error.TheVariants as headers
-use Rattle.gitconf_base.specs.Metadata.{Meta}
+use Rattle.gitconf_sources.specs.Metadata.{Meta}
 use Rattle.gitconf_text.specs.Sections.{no_number}
-use Rattle.gitconf_lines.specs.Places.{IsLastAt}
+use Rattle.gitconf_body.specs.Places.{IsLastAt}
 use Rattle.gitconf_state.specs.Edit.{is_target, old_value, new_section_bytes, section_with, set_bytes, set_raw_value, set_raw_value_bytes, with_used}
 use Rattle.gitconf_state.specs.LineEnds.{file_line_end}
 use Rattle.gitconf_state.specs.State.{SectionState, State}

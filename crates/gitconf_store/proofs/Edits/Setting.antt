@@ -6,7 +6,7 @@ use Rattle.std.specs.Prelude.{◌⊎◌, IfSome}
 use Rattle.gitconf_text.specs.Bytes.{fold}
 use Rattle.gitconf_text.specs.Header.{name_of, subsection_of}
 use Rattle.gitconf_text.specs.Part.{Item as SectionItem}
-use Rattle.gitconf_base.specs.Metadata.{Meta}
+use Rattle.gitconf_sources.specs.Metadata.{Meta}
 use Rattle.gitconf_text.specs.Sections.{SectionEntry, Sections, changed_at, with_section, section_at}
 use Rattle.gitconf_items.specs.declared.items.Item.{Item}
 use Rattle.gitconf_items.specs.declared.event.Event.TheVariants as kinds
@@ -16,7 +16,7 @@ use Rattle.gitconf_items.specs.ShownEvents.{IsExtended, IsShown}
 use Rattle.gitconf_state.specs.Edit.{with_used}
 use Rattle.gitconf_state.specs.State.{SectionState, State, HasItems, HasSectionItems, is_item, with_items}
 use Rattle.gitconf_items.specs.Items.{items_of}
-use Rattle.gitconf_lines.proofs.Buffers.{extended_fit, extended_items}
+use Rattle.gitconf_body.proofs.Buffers.{extended_fit, extended_items}
 use Rattle.gitconf_sections.specs.Section.{Section}
 use Rattle.gitconf_store.specs.Edits.{update_at}
 use Rattle.gitconf_store.specs.ItemsEdits.{changed_at_place}

@@ -4,19 +4,19 @@ use Rattle.std.specs.Prelude.{◌⊎◌, IfSome, IsErr, IsOk, OnErr}
 use Rattle.std.specs.declared.vec.Vec.{Vec}
 use Rattle.std.proofs.lemmas.Bool.{ltb-false, ltb-true}
 use Rattle.gitconf_text.specs.Part as parts
-use Rattle.gitconf_base.specs.Key.{Key}
+use Rattle.gitconf_sources.specs.Key.{Key}
 use Rattle.gitconf_state.specs.Edit.{with_used}
 use Rattle.gitconf_state.specs.Edits.{apply, items_of_numbered, numbered}
 use Rattle.gitconf_state.specs.State.{SectionState, State}
 use Rattle.gitconf_body.specs.ValuesAt.{rewritten_put}
-use Rattle.gitconf_finding.specs.declared.existing.Error.{Error as ExistingError}
-use Rattle.gitconf_finding.specs.declared.existing.Error.TheVariants as errors
+use Rattle.gitconf_lookups.specs.declared.existing.Error.{Error as ExistingError}
+use Rattle.gitconf_lookups.specs.declared.existing.Error.TheVariants as errors
 use Rattle.gitconf_store.specs.declared.set_raw_value.Error.{Error}
 use Rattle.gitconf_store.specs.Editors.{PutsIn}
 use Rattle.gitconf_store.specs.Edits.{UsedGrows}
 use Rattle.gitconf_store.specs.SetErrors.{of_existing, of_span, set_number}
 use Rattle.gitconf_store.specs.Several.{AreRewritten, AreSetExisting, IsStopped, all_bytes, all_rewritten, next_bytes, one_rewriting}
-use Rattle.gitconf_finding.specs.ValuePlaces.{ArePlaces, AreValuePlaces, key_places}
+use Rattle.gitconf_lookups.specs.ValuePlaces.{ArePlaces, AreValuePlaces, key_places}
 use Rattle.gitconf_store.proofs.Edits.Sets.{number_of_span}
 
 -- entries that get values, and others behind them

@@ -2,8 +2,8 @@
 use Rattle.std.proofs.Common.{◌≡◌, ◌==◌, ℕ, zero, suc, List, [], ◌∷◌, map, Option, Some, None, refl, ap, sym, subst, ◌∙◌}
 use Rattle.std.specs.List.{AllByRecursion, slice_get}
 use Rattle.std.specs.Option.{option_map}
-use Rattle.gitconf_base.specs.Metadata.{Meta}
-use Rattle.gitconf_base.specs.declared.source.Trust.{Trust}
+use Rattle.gitconf_sources.specs.Metadata.{Meta}
+use Rattle.gitconf_sources.specs.declared.source.Trust.{Trust}
 use Rattle.gitconf_items.specs.declared.items.Item.{Item}
 use Rattle.gitconf_items.specs.Events.{header_of}
 use Rattle.gitconf_text.specs.Sections.{AreNumbered, SectionEntry, Sections, changed_at, number_at, section_at, with_section}

@@ -10,7 +10,7 @@ use Rattle.gitconf_text.specs.declared.line_end.LineEnd.{LineEnd}
 use Rattle.gitconf_text.specs.declared.line_end.LineEnd.TheVariants as kinds
 use Rattle.gitconf_text.specs.Part as parts
 use Rattle.gitconf_text.specs.Text.{is_line_end}
-use Rattle.gitconf_base.specs.Metadata.{Meta}
+use Rattle.gitconf_sources.specs.Metadata.{Meta}
 use Rattle.gitconf_items.specs.declared.event.Span.{Span}
 use Rattle.gitconf_items.specs.declared.items.Item.{Item}
 use Rattle.gitconf_items.specs.ItemsFit.{AreItemsWithin}
@@ -23,19 +23,19 @@ use Rattle.gitconf_state.specs.State.{HasItems, HasSectionItems, SectionState, S
 use Rattle.gitconf_state.proofs.Edits.Keep.{apply_items}
 use Rattle.gitconf_items.specs.Items.{items_of}
 use Rattle.gitconf_items.specs.Moves.{AreItemsMoved}
-use Rattle.gitconf_lines.proofs.Append.{items_fit_more, items_more}
-use Rattle.gitconf_lines.proofs.Buffers.{extended_fit, extended_items}
+use Rattle.gitconf_body.proofs.Append.{items_fit_more, items_more}
+use Rattle.gitconf_body.proofs.Buffers.{extended_fit, extended_items}
 use Rattle.gitconf_sections.specs.Section.{Section}
 use Rattle.gitconf_store.specs.Edits.{update_at}
 use Rattle.gitconf_store.specs.Appends.{appended_bytes, bytes_at, held_or, holding, included, items_at, kept_at, line_at, line_bytes, line_items, put_at, IsLineAt}
 use Rattle.gitconf_sections.specs.Held.{line_end_item}
-use Rattle.gitconf_joining.specs.Joining.{front_then, held_at, AreBehind, AreSame}
+use Rattle.gitconf_views.specs.Joining.{front_then, held_at, AreBehind, AreSame}
 use Rattle.gitconf_sections.specs.Moves.{IsMovable}
-use Rattle.gitconf_joining.specs.Moves.{AreSectionsMoved, IsEntryMoved}
+use Rattle.gitconf_views.specs.Moves.{AreSectionsMoved, IsEntryMoved}
 use Rattle.gitconf_views.specs.Store.{section_state, state_of, AllSectionsFit, SectionFits, StoreFits}
 use Rattle.gitconf_store.proofs.Files.Appending.{copy_up, header_same, header_shown, header_up, items_there, items_up}
-use Rattle.gitconf_joining.proofs.Joined.{is_at, items_both, within_both}
-use Rattle.gitconf_joining.proofs.Loading.{sections_fit_more}
+use Rattle.gitconf_views.proofs.Joined.{is_at, items_both, within_both}
+use Rattle.gitconf_views.proofs.Loading.{sections_fit_more}
 use Rattle.gitconf_store.proofs.Edits.Setting.{sections_fit_in, sections_in}
 
 -- The items at a place of a store.

@@ -6,7 +6,7 @@ use Rattle.std.specs.Option.{option_map}
 use Rattle.std.specs.Str.{bytes_eq}
 use Rattle.gitconf_text.specs.Header as grammar
 use Rattle.gitconf_text.specs.Token.{HeaderToken}
-use Rattle.gitconf_base.specs.Metadata.{Meta}
+use Rattle.gitconf_sources.specs.Metadata.{Meta}
 use Rattle.gitconf_items.specs.declared.event.Copied.{Copied}
 use Rattle.gitconf_items.specs.declared.event.Header.{Header}
 use Rattle.gitconf_items.specs.declared.event.Span.{Span}
@@ -27,7 +27,7 @@ use Rattle.gitconf_state.specs.Edits.{with_last}
 use Rattle.gitconf_state.specs.State.{HasItems, HasSectionItems}
 use Rattle.gitconf_items.specs.Items.{items_of}
 use Rattle.gitconf_items.specs.Moves.{copy_of, AreItemsMoved, IsHeaderMoved}
-use Rattle.gitconf_lines.proofs.Buffers.{extended_fit, extended_items}
+use Rattle.gitconf_body.proofs.Buffers.{extended_fit, extended_items}
 use Rattle.gitconf_sections.specs.Section.{Section}
 use Rattle.gitconf_views.specs.declared.section.Section.{Section as Own}
 use Rattle.gitconf_views.specs.Alone.{StandsAlone, detached_of, whole}

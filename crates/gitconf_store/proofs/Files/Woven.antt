@@ -1,13 +1,13 @@
 -- A store whose last sections are woven among the others.
 use Rattle.std.proofs.Common.{◌≡◌, ℕ, List, map, sym, subst, ◌∙◌}
 use Rattle.std.specs.List.{AllByRecursion}
-use Rattle.gitconf_base.specs.Metadata.{Meta}
+use Rattle.gitconf_sources.specs.Metadata.{Meta}
 use Rattle.gitconf_items.specs.declared.items.Item.{Item}
 use Rattle.gitconf_state.specs.State.{HasSectionItems}
-use Rattle.gitconf_index.specs.declared.runs.Run.{Run}
-use Rattle.gitconf_index.specs.Runs.{woven}
+use Rattle.gitconf_table.specs.declared.runs.Run.{Run}
+use Rattle.gitconf_table.specs.Runs.{woven}
 use Rattle.gitconf_text.specs.Sections.{Sections}
-use Rattle.gitconf_index.proofs.Woven.{all_woven, map_woven}
+use Rattle.gitconf_table.proofs.Woven.{all_woven, map_woven}
 use Rattle.gitconf_sections.specs.Section.{Section}
 use Rattle.gitconf_views.specs.Store.{section_state, state_of, SectionFits, StoreFits}
 

@@ -6,7 +6,7 @@ use Rattle.gitconf_text.specs.Bytes.{fold}
 use Rattle.gitconf_text.specs.Header.{name_of, subsection_of}
 use Rattle.gitconf_text.specs.Names.{is_made_name, is_valid_or_none}
 use Rattle.gitconf_text.specs.Part as parts
-use Rattle.gitconf_base.specs.Metadata.{Meta}
+use Rattle.gitconf_sources.specs.Metadata.{Meta}
 use Rattle.gitconf_text.specs.Sections.{Sections, entry_of, with_last}
 use Rattle.gitconf_items.specs.declared.items.Item.{Item}
 use Rattle.gitconf_items.specs.declared.event.Event.TheVariants as kinds
@@ -20,10 +20,10 @@ use Rattle.gitconf_state.specs.State.{HasItems, HasSectionItems, SectionState, S
 use Rattle.gitconf_state.proofs.Edits.Items.{new_section_is}
 use Rattle.gitconf_state.proofs.Edits.Values.{made_name, made_subsection}
 use Rattle.gitconf_items.specs.Items.{items_of}
-use Rattle.gitconf_lines.proofs.Buffers.{extended_fit, extended_items, same_extended}
+use Rattle.gitconf_body.proofs.Buffers.{extended_fit, extended_items, same_extended}
 use Rattle.gitconf_sections.specs.Section.{Section}
 use Rattle.gitconf_views.specs.Store.{section_state, state_of, SectionFits, AllSectionsFit, StoreFits}
-use Rattle.gitconf_joining.proofs.Loading.{sections_fit_more}
+use Rattle.gitconf_views.proofs.Loading.{sections_fit_more}
 use Rattle.gitconf_store.proofs.Edits.Setting.{sections_in, sections_fit_in}
 
 -- a section that was made with these items, in the buffer

@@ -7,7 +7,7 @@ use Rattle.std.proofs.lemmas.Bool.{eq-eqb}
 use Rattle.gitconf_text.specs.Bytes.{fold}
 use Rattle.gitconf_text.specs.Header.{name_of, subsection_of}
 use Rattle.gitconf_text.specs.Names.{is_made_name, is_valid_or_none}
-use Rattle.gitconf_base.specs.Metadata.{Meta}
+use Rattle.gitconf_sources.specs.Metadata.{Meta}
 use Rattle.gitconf_items.specs.declared.event.Header.{Header}
 use Rattle.gitconf_items.specs.declared.event.Event.TheVariants as kinds
 use Rattle.gitconf_items.specs.declared.items.Item.{Item}
@@ -22,12 +22,12 @@ use Rattle.gitconf_state.specs.State.{HasItems, HasSectionItems, SectionState, S
 use Rattle.gitconf_state.proofs.Edits.Items.{new_section_is}
 use Rattle.gitconf_state.proofs.Edits.Values.{made_name, made_subsection}
 use Rattle.gitconf_items.specs.Items.{items_of}
-use Rattle.gitconf_lines.proofs.Buffers.{extended_fit, extended_items}
+use Rattle.gitconf_body.proofs.Buffers.{extended_fit, extended_items}
 use Rattle.gitconf_sections.specs.Section.{Section}
 use Rattle.gitconf_store.specs.Renamings.{marked, marked_places, with_headers, with_renamed, AreMarks}
 use Rattle.gitconf_views.specs.Store.{section_state, state_of, SectionFits, StoreFits}
 use Rattle.gitconf_store.proofs.Edits.Editing.{missing, number_apart, others_untold}
-use Rattle.gitconf_joining.proofs.Loading.{sections_fit_more}
+use Rattle.gitconf_views.proofs.Loading.{sections_fit_more}
 use Rattle.gitconf_store.proofs.Places.Named.{named_so}
 use Rattle.gitconf_store.proofs.Edits.Setting.{section_in, sections_fit_in, sections_in}
 

@@ -6,18 +6,18 @@ use Rattle.std.proofs.lemmas.Bool.{or_left, or_parts, or_right}
 use Rattle.gitconf_text.specs.Names.{is_made_name, is_valid_or_none}
 use Rattle.gitconf_text.specs.declared.parse.section.header.Error.{Error as HeaderError}
 use Rattle.gitconf_text.specs.declared.parse.section.header.Error.TheVariants as headers
-use Rattle.gitconf_base.specs.Metadata.{Meta}
+use Rattle.gitconf_sources.specs.Metadata.{Meta}
 use Rattle.gitconf_state.specs.Edit.{header_bytes, is_target, with_used}
 use Rattle.gitconf_state.specs.Edits.{renamed, with_sections}
 use Rattle.gitconf_state.specs.Lookup.{Miss, has_name, is_named, listed, listing, miss_of}
 use Rattle.gitconf_state.specs.Lookup as state
 use Rattle.gitconf_state.specs.State.{SectionState, State}
-use Rattle.gitconf_lines.specs.Places.{IsLastPlace}
+use Rattle.gitconf_body.specs.Places.{IsLastPlace}
 use Rattle.gitconf_store.specs.Edits.{UsedGrows}
-use Rattle.gitconf_finding.specs.declared.existing.Error.{Error as LookupError}
-use Rattle.gitconf_finding.specs.declared.existing.Error.TheVariants.{KeyMissing}
+use Rattle.gitconf_lookups.specs.declared.existing.Error.{Error as LookupError}
+use Rattle.gitconf_lookups.specs.declared.existing.Error.TheVariants.{KeyMissing}
 use Rattle.gitconf_store.specs.declared.rename_section.Error.TheVariants.{Lookup, Memory}
-use Rattle.gitconf_finding.specs.Misses.{missing}
+use Rattle.gitconf_lookups.specs.Misses.{missing}
 use Rattle.gitconf_store.specs.RenameErrors.{of_header, of_lookup, of_span}
 use Rattle.gitconf_store.specs.Renamings.{marked_places, with_renamed, AreMarks, IsHeaderChecked, IsRenamed}
 use Rattle.gitconf_store.proofs.Headers.Renaming.{all_changed}
@@ -210,7 +210,7 @@ all_marks test (m ∷ marks) [] are = elim are [ ]
 all_marks test (m ∷ marks) (x ∷ xs) are = (λ is. refl, all_marks test marks xs are.1)
 
 -- one that is found passes
-pub target_found : {A : Type 0} (test : A → Bool) (xs : List A) (at : ℕ) → Rattle.gitconf_lines.specs.Places.IsLastAt test xs at → list_any test xs ≡ true
+pub target_found : {A : Type 0} (test : A → Bool) (xs : List A) (at : ℕ) → Rattle.gitconf_body.specs.Places.IsLastAt test xs at → list_any test xs ≡ true
 target_found test xs at l = ap (list_any test) l.is ∙ Rattle.gitconf_state.proofs.Edits.Lists.any_at test l.before l.found l.behind l.passes
 
 -- no places, and some

@@ -5,13 +5,13 @@ use Rattle.std.specs.List.{AllByRecursion, list_any}
 use Rattle.std.specs.Iterator.{YieldsFirstBy}
 use Rattle.gitconf_text.specs.Sections.{SectionEntry}
 use Rattle.gitconf_text.specs.Sections as table
-use Rattle.gitconf_base.specs.Metadata.{Meta}
+use Rattle.gitconf_sources.specs.Metadata.{Meta}
 use Rattle.gitconf_items.specs.declared.items.Item.{Item}
 use Rattle.gitconf_state.specs.State.{State}
 use Rattle.gitconf_state.specs.Lookup as state
 use Rattle.gitconf_sections.specs.Section.{Section}
 use Rattle.gitconf_views.specs.Store.{section_state, state_of, SectionFits, AllSectionsFit}
-use Rattle.gitconf_finding.proofs.SectionsKept.{name_so}
+use Rattle.gitconf_lookups.proofs.SectionsKept.{name_so}
 use Rattle.gitconf_store.proofs.Places.Named.{named_so}
 
 -- none of the sections passes

@@ -4,7 +4,7 @@ use Rattle.std.specs.Prelude.{not, ◌&&◌, ◌⊎◌, filter, find, slice_get,
 use Rattle.std.specs.List.{AllByRecursion, last_or}
 use Rattle.std.specs.Option.{option_map}
 use Rattle.std.proofs.lemmas.Bool.{eqb-true}
-use Rattle.gitconf_base.specs.Metadata.{Meta}
+use Rattle.gitconf_sources.specs.Metadata.{Meta}
 use Rattle.gitconf_items.specs.declared.items.Item.{Item}
 use Rattle.gitconf_text.specs.Sections.{SectionEntry, Sections, AreNumbered, has_number, section_of, without}
 use Rattle.gitconf_state.specs.Edits.{Detached, RemoveSection, apply, numbered, with_sections, without_numbered}
@@ -13,7 +13,7 @@ use Rattle.gitconf_state.specs.Lookup.{is_named, listing}
 use Rattle.gitconf_state.specs.State.{HasSectionItems, SectionState, State}
 use Rattle.gitconf_sections.specs.Section.{Section}
 use Rattle.gitconf_views.specs.Alone.{copied_alone}
-use Rattle.gitconf_finding.specs.Picks.{picked}
+use Rattle.gitconf_lookups.specs.Picks.{picked}
 use Rattle.gitconf_store.specs.Removals.{IsTakenOut, without_section}
 use Rattle.gitconf_views.specs.Store.{section_under, section_state, state_of, StoreFits, SectionFits}
 use Rattle.gitconf_views.specs.Viewed.{IsViewed}

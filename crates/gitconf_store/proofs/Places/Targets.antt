@@ -5,18 +5,18 @@ use Rattle.std.specs.Option.{option_map}
 use Rattle.std.specs.Prelude.{filter, position, slice_get, IfSome}
 use Rattle.std.proofs.lemmas.Bool.{eq-eqb, lt-ltb, ne_eqb, eqb-false}
 use Rattle.std.proofs.lemmas.List.{map-append, length-map, length-append}
-use Rattle.gitconf_base.specs.Metadata.{Meta}
+use Rattle.gitconf_sources.specs.Metadata.{Meta}
 use Rattle.gitconf_text.specs.Sections.{SectionEntry, AreNumbered, has_number}
 use Rattle.gitconf_state.specs.Edit.{is_target}
 use Rattle.gitconf_state.specs.Lookup.{is_named, listing}
 use Rattle.gitconf_state.specs.State.{SectionState}
-use Rattle.gitconf_lines.specs.Places.{IsLastPlace}
+use Rattle.gitconf_body.specs.Places.{IsLastPlace}
 use Rattle.gitconf_sections.specs.Section.{Section}
-use Rattle.gitconf_finding.specs.SomeSections.{AreSome}
+use Rattle.gitconf_lookups.specs.SomeSections.{AreSome}
 use Rattle.gitconf_views.specs.Store.{section_state}
-use Rattle.gitconf_finding.specs.Walks.{passing}
+use Rattle.gitconf_lookups.specs.Walks.{passing}
 use Rattle.gitconf_store.proofs.Places.Numbering.{filter_both, last_of_some}
-use Rattle.gitconf_finding.proofs.SectionsKept.{any_of_none}
+use Rattle.gitconf_lookups.proofs.SectionsKept.{any_of_none}
 
 -- what holds of all holds of each
 parts_fit : {A : Type 0} (P : A → Type 0) (before : List A) (x : A) (behind : List A) → AllByRecursion P (before ++ x ∷ behind) → P x × AllByRecursion P behind

@@ -3,7 +3,7 @@ use Rattle.std.proofs.Common.{◌≡◌, ◌++◌, ℕ, true, List, length, map,
 use Rattle.gitconf_text.specs.Part.{Part}
 use Rattle.gitconf_text.specs.Document.{IsText, Reads, unmarked}
 use Rattle.gitconf_text.specs.Token.{spelled_token, tokens_of}
-use Rattle.gitconf_base.specs.Metadata.{Meta}
+use Rattle.gitconf_sources.specs.Metadata.{Meta}
 use Rattle.gitconf_items.specs.declared.items.Keep.{Keep}
 use Rattle.gitconf_items.specs.declared.items.Keep.TheVariants as keeps
 use Rattle.gitconf_items.specs.EventList.{EventList, IsSelected, IsSelection, IsWhole}
@@ -25,10 +25,10 @@ use Rattle.gitconf_items.specs.declared.items.Item.{Item}
 use Rattle.gitconf_text.specs.Sections.{Sections}
 use Rattle.gitconf_state.specs.Loads.{section_tokens}
 use Rattle.gitconf_sections.specs.Section.{Section}
-use Rattle.gitconf_joining.specs.Loading.{IsLoading}
+use Rattle.gitconf_views.specs.Loading.{IsLoading}
 use Rattle.gitconf_state.specs.Made.{IsMade}
 use Rattle.gitconf_views.specs.Store.{section_state, state_of}
-use Rattle.gitconf_joining.proofs.Loading.{loading_is_made}
+use Rattle.gitconf_views.proofs.Loading.{loading_is_made}
 
 -- what was kept of a text, with its entries, is a load of some of its tokens
 selected_load : (input : List ℕ) (list : EventList) (meta : Meta) (s : IsSelected input list) (state : State) → list.keeps_entries ≡ true → IsMade list.tokens meta list.used state → IsPartLoad s.parts state

@@ -8,7 +8,7 @@ use Rattle.gitconf_state.specs.Clean.{IsClean}
 use Rattle.gitconf_state.specs.Comments.{item_comments, comments, comments_of, comments_of_kept}
 use Rattle.gitconf_state.specs.Printing.{printed}
 use Rattle.gitconf_state.proofs.Printing.ReadsBack.{all_reads_back, filter_all}
-use Rattle.gitconf_laws.proofs.CommentLaws.{all_comments}
+use Rattle.gitconf_parse.proofs.CommentLaws.{all_comments}
 
 pub text_reads : (text : List ℕ) (state : State) → HasItems state → text ≡ printed state → IsClean state → Reads text (document_of state)
 text_reads text state has is clean = subst (λ t. Reads t (document_of state)) (sym is) (all_reads_back state has clean)

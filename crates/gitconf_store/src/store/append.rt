@@ -1,7 +1,7 @@
 //! Another store's sections and items, added to those of a store.
 ghost use Rattle.std.specs.Prelude.{◌≡◌, ◌⊎◌, ◌↔◌, ◌+◌, ◌-◌, ◌<◌, ◌≤◌, ◌^◌, ◌++◌, length, IfErr, IfOk, IsErrOf, OnErr, OnOk};
 ghost use Rattle.gitconf_text.specs.LineEnds.{bytes_of_line_end};
-ghost use Rattle.gitconf_lines.specs.Buffers.{Grows};
+ghost use Rattle.gitconf_body.specs.Buffers.{Grows};
 ghost use Rattle.gitconf_text.specs.Sections.{no_number};
 ghost use Rattle.gitconf_state.specs.Edit.{with_used};
 ghost use Rattle.gitconf_state.specs.Edits.{Append, apply};
@@ -10,9 +10,9 @@ ghost use Rattle.gitconf_store.specs.Appends.{appended_bytes, bytes_at, kept_at,
 use crate::store::Store;
 use gitconf_items::event::Span;
 use gitconf_items::items::Item;
-use gitconf_joining::fronts::{parts_lines, put_behind};
-use gitconf_joining::shifted_sections::{copies_before, move_front, move_sections};
-use gitconf_lines::buffer::{append, check_room, take_back};
+use gitconf_views::fronts::{parts_lines, put_behind};
+use gitconf_views::shifted_sections::{copies_before, move_front, move_sections};
+use gitconf_body::buffer::{append, check_room, take_back};
 use gitconf_sections::sections::SectionList;
 use gitconf_text::line_end::LineEnd;
 use gitconf_text::parse::span;
@@ -34,7 +34,7 @@ fn items_at<'a>(front: &'a [Item], sections: &'a SectionList, at: usize) -> &'a 
 /// # Errors
 ///
 /// Those of [`append`].
-#[tactic(auto, using(gitconf_lines::proofs::Buffers::extending))]
+#[tactic(auto, using(gitconf_body::proofs::Buffers::extending))]
 fn put_line_end(buffer: &mut Vec<u8>, line_end: &[u8]) -> Result<Option<Span>, span::Error>
     requires room { length buffer.old.items < 2 ^ 32 }
     ensures ok { OnOk result (buffer.new.items ≡ buffer.old.items ++ line_end.now) }
@@ -53,7 +53,7 @@ fn put_line_end(buffer: &mut Vec<u8>, line_end: &[u8]) -> Result<Option<Span>, s
 /// # Errors
 ///
 /// Those of [`append`], and of [`copies_before`]. The buffer may have grown.
-#[tactic(auto, using(gitconf_lines::proofs::Buffers::extending))]
+#[tactic(auto, using(gitconf_body::proofs::Buffers::extending))]
 pub(crate) fn put_text(
     buffer: &mut Vec<u8>,
     copies: &mut Vec<u8>,
@@ -79,7 +79,7 @@ pub(crate) fn put_text(
 /// # Errors
 ///
 /// Those of [`put_text`].
-#[tactic(auto, using(gitconf_lines::proofs::Buffers::extending))]
+#[tactic(auto, using(gitconf_body::proofs::Buffers::extending))]
 fn put_bytes(
     buffer: &mut Vec<u8>,
     copies: &mut Vec<u8>,

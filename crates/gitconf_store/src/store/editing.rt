@@ -4,7 +4,7 @@ use gitconf_body::items_edits::{
     PopEntry, PushLine, PushLineBelow, PushNewline, RemoveEntry, RemoveMarkedEntries, SetEntry,
 };
 use gitconf_body::take_out;
-use gitconf_lines::editor::Editor;
+use gitconf_body::editor::Editor;
 use gitconf_table::table::SectionId;
 use gitconf_text::NoMemory;
 use gitconf_text::parse::span;
@@ -16,8 +16,8 @@ impl Store {
     ghost use Rattle.gitconf_state.specs.Edit.{with_used};
     ghost use Rattle.gitconf_state.specs.Edits.{answer, apply, items_of_numbered, Count, Entry, IsEditor, Pop, Push, PushAfterLast, PushLineEnd, Raw, Remove, RemoveMarked, SetValue};
     ghost use Rattle.gitconf_text.specs.LineEnds.{bytes_of_line_end};
-    ghost use Rattle.gitconf_lines.specs.Below.{below_put};
-    ghost use Rattle.gitconf_lines.specs.Editors.{line_put, set_put};
+    ghost use Rattle.gitconf_body.specs.Below.{below_put};
+    ghost use Rattle.gitconf_body.specs.Editors.{line_put, set_put};
     ghost use Rattle.gitconf_store.specs.Editors.{given_editor, IsGiven, PutsIn};
 
     /// Pushes a line after the items of the section of a number: the editor's blanks, the key, and if a value is given `=` with the

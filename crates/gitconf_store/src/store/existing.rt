@@ -1,12 +1,12 @@
 //! Setting the value of an existing entry.
 use crate::set_raw_value;
 use crate::store::Store;
-use gitconf_base::key::KeyRef;
+use gitconf_sources::key::KeyRef;
 use gitconf_body::value_at::InPlaceOf;
 
 impl Store {
     ghost use Rattle.gitconf_store.specs.Existing.{IsSetExisting};
-    ghost use Rattle.gitconf_base.specs.Key.{key_of};
+    ghost use Rattle.gitconf_sources.specs.Key.{key_of};
 
     /// Gives the last entry of a key another value, with `=` or without it, in the last section that has one, of those that have the name,
     /// without ASCII case, and exactly the subsection: the entry is rewritten, with the name that is given, the blanks around `=`

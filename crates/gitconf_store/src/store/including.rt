@@ -2,18 +2,18 @@
 ghost use Rattle.std.specs.Prelude.{◌≡◌, ◌⊎◌, ◌↔◌, ◌+◌, ◌<◌, ◌≤◌, is_some, length, option_map, slice_get, Some, IfErr, IsErrOf, OnErr, OnOk};
 ghost use Rattle.gitconf_text.specs.LineEnds.{bytes_of_line_end};
 ghost use Rattle.gitconf_items.specs.Items.{tokens_in};
-ghost use Rattle.gitconf_write.specs.LineEnds.{first_newline, first_newline_of_bodies};
+ghost use Rattle.gitconf_print.specs.LineEnds.{first_newline, first_newline_of_bodies};
 ghost use Rattle.gitconf_views.specs.Views.{shown};
 ghost use Rattle.gitconf_state.specs.Edit.{with_used};
 ghost use Rattle.gitconf_store.specs.Appends.{bytes_at, included, HasNoRoomAt};
 
 use crate::store::Store;
-use gitconf_finding::tokens;
+use gitconf_lookups::tokens;
 use gitconf_text::line_end::LineEnd;
 use gitconf_text::parse::span;
 use gitconf_views::section::SectionRef;
 use gitconf_views::tables::view_of;
-use gitconf_write::line_end::first_line_end;
+use gitconf_print::line_end::first_line_end;
 
 impl Store {
     /// How many sections there are.

@@ -2,16 +2,16 @@
 ghost use Rattle.std.specs.Fn.{ComputesKey};
 ghost use Rattle.std.specs.Option.{option_copied, option_map};
 ghost use Rattle.std.specs.Prelude.{◌≡◌, Bool, OnErr, OnOk, true};
-ghost use Rattle.gitconf_base.specs.Metadata.{Meta};
+ghost use Rattle.gitconf_sources.specs.Metadata.{Meta};
 ghost use Rattle.gitconf_state.specs.Edits.{RemoveNumbered, RemoveSection, apply, numbered};
-ghost use Rattle.gitconf_finding.specs.Picks.{picked};
+ghost use Rattle.gitconf_lookups.specs.Picks.{picked};
 ghost use Rattle.gitconf_store.specs.Removals.{IsTakenOut};
-ghost use Rattle.gitconf_finding.specs.SomeSections.{Filtered};
+ghost use Rattle.gitconf_lookups.specs.SomeSections.{Filtered};
 ghost use Rattle.gitconf_views.specs.Views.{shown};
 
 use crate::store::Store;
-use gitconf_base::meta::Metadata;
-use gitconf_finding::filters::last_passing;
+use gitconf_sources::meta::Metadata;
+use gitconf_lookups::filters::last_passing;
 use gitconf_table::table::SectionId;
 use gitconf_text::NoMemory;
 use gitconf_views::detached;

@@ -3,7 +3,7 @@ use crate::set_raw_value;
 use crate::store::Store;
 use crate::store::leaving_out::before_run;
 use bstr::BString;
-use gitconf_base::key::KeyRef;
+use gitconf_sources::key::KeyRef;
 use gitconf_body::value_at::InPlaceOf;
 use gitconf_table::table::SectionId;
 use gitconf_text::NoMemory;
@@ -13,8 +13,8 @@ impl Store {
     ghost use Rattle.std.specs.Prelude.{◌≡◌, map, true, IfOk};
     ghost use Rattle.bstr.specs.Owned.{bstring_bytes};
     ghost use Rattle.gitconf_text.specs.Names.{is_value_name};
-    ghost use Rattle.gitconf_base.specs.Key.{key_of};
-    ghost use Rattle.gitconf_finding.specs.Lookups.{texts_of};
+    ghost use Rattle.gitconf_sources.specs.Key.{key_of};
+    ghost use Rattle.gitconf_lookups.specs.Lookups.{texts_of};
     ghost use Rattle.gitconf_store.specs.Several.{all_deleted, all_meanings, meaning_of_place, AreRewritten, AreSetExisting};
 
     /// Writes the entries at places again, the first one with the first value and so on, up to the end of the shorter list. A place is the

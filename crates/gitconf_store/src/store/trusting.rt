@@ -3,7 +3,7 @@ ghost use Rattle.std.specs.Prelude.{◌≡◌, IfOk, IsOk, None, OnErr, OnOk};
 ghost use Rattle.gitconf_state.specs.Edits.{SetTrust, apply, numbered};
 
 use crate::store::Store;
-use gitconf_base::source::Trust;
+use gitconf_sources::source::Trust;
 use gitconf_table::table::SectionId;
 use gitconf_text::NoMemory;
 use gitconf_views::section::trusted;

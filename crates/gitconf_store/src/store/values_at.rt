@@ -1,13 +1,13 @@
 //! Entries at a place in the section of a number, for the editors of values.
 use crate::store::Store;
 use bstr::BString;
-use gitconf_base::key::KeyRef;
-use gitconf_base::meta::Metadata;
+use gitconf_sources::key::KeyRef;
+use gitconf_sources::meta::Metadata;
 use gitconf_body::items_edits::{RewriteEntry, WriteEntry};
 use gitconf_body::value_at::InPlaceOf;
-use gitconf_finding::existing;
-use gitconf_finding::places::{all_value_places, last_value_place, put_in_order};
-use gitconf_lines::editor::Editor;
+use gitconf_lookups::existing;
+use gitconf_lookups::places::{all_value_places, last_value_place, put_in_order};
+use gitconf_body::editor::Editor;
 use gitconf_table::table::SectionId;
 use gitconf_text::NoMemory;
 use gitconf_text::parse::section::ValueNameError;
@@ -21,15 +21,15 @@ impl Store {
     ghost use Rattle.std.specs.Prelude.{◌≡◌, ◌==◌, Bool, true, IfOk, IsOk, None, OnOk, OnErr};
     ghost use Rattle.bstr.specs.Owned.{bstring_bytes};
     ghost use Rattle.gitconf_text.specs.Names.{is_value_name};
-    ghost use Rattle.gitconf_base.specs.Metadata.{Meta};
+    ghost use Rattle.gitconf_sources.specs.Metadata.{Meta};
     ghost use Rattle.gitconf_state.specs.Edit.{with_used};
     ghost use Rattle.gitconf_state.specs.Edits.{apply, items_of_numbered, numbered, said_in_section, DeleteAt, IsEditor, WriteAt};
     ghost use Rattle.gitconf_body.specs.ValuesAt.{instead_of, rewritten_put, written_put};
     ghost use Rattle.gitconf_store.specs.Editors.{given_editor, IsGiven, PutsIn};
-    ghost use Rattle.gitconf_base.specs.Key.{key_of};
-    ghost use Rattle.gitconf_finding.specs.Lookups.{IsFound};
-    ghost use Rattle.gitconf_finding.specs.SomeSections.{Filtered};
-    ghost use Rattle.gitconf_finding.specs.ValuePlaces.{all_stand, editor_of_numbered, key_places, meaning_at, value_place, ArePlaces, IsPlace};
+    ghost use Rattle.gitconf_sources.specs.Key.{key_of};
+    ghost use Rattle.gitconf_lookups.specs.Lookups.{IsFound};
+    ghost use Rattle.gitconf_lookups.specs.SomeSections.{Filtered};
+    ghost use Rattle.gitconf_lookups.specs.ValuePlaces.{all_stand, editor_of_numbered, key_places, meaning_at, value_place, ArePlaces, IsPlace};
 
     /// The place of the last entry of a key, with `=` or without it, in the last section that has one, of those that have the name,
     /// without ASCII case, and exactly the subsection, and whose metadata passes the filter: the number of the section, and the entry's

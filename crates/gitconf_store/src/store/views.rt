@@ -1,10 +1,10 @@
 //! The sections of a store, walked over and found by name.
 
 use crate::store::Store;
-use gitconf_base::meta::Metadata;
-use gitconf_finding::existing::Error;
-use gitconf_finding::filters::last_passing;
-use gitconf_finding::walks::{
+use gitconf_sources::meta::Metadata;
+use gitconf_lookups::existing::Error;
+use gitconf_lookups::filters::last_passing;
+use gitconf_lookups::walks::{
     SectionIds, SectionsAndIds, SectionsAndIdsByName, SectionsAndPostmatter, SectionsByName,
     SectionsByNameAndFilter, SectionsNamed,
 };
@@ -15,11 +15,11 @@ impl Store {
     ghost use Rattle.std.specs.Option.{option_copied};
     ghost use Rattle.std.specs.Prelude.{◌≡◌, ◌↔◌, [], map, Bool, IfErr, IfOk, IfSome, IsNone, MatchResult, None};
     ghost use Rattle.gitconf_views.specs.Views.{shown};
-    ghost use Rattle.gitconf_base.specs.Metadata.{Meta};
-    ghost use Rattle.gitconf_finding.specs.Lookups.{sections_named};
-    ghost use Rattle.gitconf_finding.specs.Picks.{HasSection, IsMissing, IsPassingSection, IsSection};
-    ghost use Rattle.gitconf_finding.specs.SomeSections.{Filtered};
-    ghost use Rattle.gitconf_finding.specs.Walks.{named_left, and_held_left, and_ids_by_name_left, and_ids_left, by_name_left, section_ids_left, with_held, with_id, with_name};
+    ghost use Rattle.gitconf_sources.specs.Metadata.{Meta};
+    ghost use Rattle.gitconf_lookups.specs.Lookups.{sections_named};
+    ghost use Rattle.gitconf_lookups.specs.Picks.{HasSection, IsMissing, IsPassingSection, IsSection};
+    ghost use Rattle.gitconf_lookups.specs.SomeSections.{Filtered};
+    ghost use Rattle.gitconf_lookups.specs.Walks.{named_left, and_held_left, and_ids_by_name_left, and_ids_left, by_name_left, section_ids_left, with_held, with_id, with_name};
 
     /// The sections that have the name, without ASCII case, and any subsection, in file order; `None` if there is none.
     /// The sections are found by an index: constant time except for the bytes of the names, and no memory.

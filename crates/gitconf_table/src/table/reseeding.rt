@@ -6,7 +6,7 @@ ghost use Rattle.gitconf_table.specs.Tables.{word_of_name, word_of_names};
 use crate::letters::{name_at, subsection_at};
 use crate::table::{Row, SectionTable};
 use crate::word::{full_state, name_state, word_of};
-use gitconf_index::index::WordIndex;
+use crate::index::WordIndex;
 
 impl<T> SectionTable<T> {
     /// Makes the words by which names are found from another seed, in place. Nothing that the table returns depends on the seed;

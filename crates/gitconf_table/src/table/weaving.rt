@@ -1,10 +1,10 @@
 //! Sections that were added at the end are moved to where they belong.
 ghost use Rattle.std.specs.Prelude.{◌≡◌, ◌-◌, ◌≤◌, length};
-ghost use Rattle.gitconf_index.specs.Runs.{woven, AreRuns};
+ghost use Rattle.gitconf_table.specs.Runs.{woven, AreRuns};
 
 use crate::table::{SectionTable, relocate};
-use gitconf_index::lists::weave;
-use gitconf_index::runs::Run;
+use crate::lists::weave;
+use crate::runs::Run;
 
 impl<T> SectionTable<T> {
     /// Weaves the sections from `first` on among those before them; their numbers, their names and what they hold stay. Takes

@@ -3,18 +3,18 @@ ghost use Rattle.std.specs.Prelude.{◌≡◌, IfOk};
 
 use crate::detached::Section;
 use crate::section::trusted;
-use gitconf_base::source::Trust;
+use gitconf_sources::source::Trust;
 use gitconf_body::heading::put_header;
 use gitconf_body::items_edit::{ItemsEdit, edit_or_leave};
 use gitconf_body::items_edits::{
     PopEntry, PushLine, PushLineBelow, PushNewline, RemoveEntry, RemoveMarkedEntries, SetEntry,
 };
-use gitconf_lines::editor::Editor;
+use gitconf_body::editor::Editor;
 use gitconf_text::NoMemory;
 use gitconf_text::line_end::LineEnd;
 use gitconf_text::parse::section::header;
 use gitconf_text::parse::span;
-use gitconf_write::line_end::body_line_end;
+use gitconf_print::line_end::body_line_end;
 
 impl Section {
     ghost use Rattle.std.specs.List.{list_all};
@@ -29,11 +29,11 @@ impl Section {
     ghost use Rattle.gitconf_state.specs.Edits.{renamed, with_trust, IsEditor};
     ghost use Rattle.gitconf_state.specs.LineEnds.{section_line_end};
     ghost use Rattle.gitconf_text.specs.LineEnds.{bytes_of_line_end};
-    ghost use Rattle.gitconf_lines.specs.Below.{below_put};
-    ghost use Rattle.gitconf_lines.specs.Editors.{line_put, set_put};
+    ghost use Rattle.gitconf_body.specs.Below.{below_put};
+    ghost use Rattle.gitconf_body.specs.Editors.{line_put, set_put};
     ghost use Rattle.gitconf_views.specs.Alone.{is_refusal_of_header, with_items};
     ghost use Rattle.gitconf_body.specs.Growth.{UsedGrows};
-    ghost use Rattle.gitconf_lines.specs.Blanks.{given_editor, IsGiven};
+    ghost use Rattle.gitconf_body.specs.Blanks.{given_editor, IsGiven};
 
     /// The line ending that its editor writes: that of its body's first newline, or LF. It stops at the first one.
     pub fn line_end(&self) -> LineEnd

@@ -2,11 +2,11 @@
 use crate::detached::Section;
 use crate::detached::writing::text_of;
 use bstr::BString;
-use gitconf_base::lists::bytes_of;
-use gitconf_base::source::Trust;
-use gitconf_entries::popped::texts_of;
-use gitconf_lines::blanks::Blanks;
-use gitconf_lines::value;
+use gitconf_sources::lists::bytes_of;
+use gitconf_sources::source::Trust;
+use gitconf_body::popped::texts_of;
+use gitconf_body::blanks::Blanks;
+use gitconf_body::value;
 use gitconf_text::NoMemory;
 use gitconf_text::line_end::LineEnd;
 use gitconf_text::parse::section::header;
@@ -85,10 +85,10 @@ impl<'a> DetachedSectionMut<'a> {
     ghost use Rattle.gitconf_state.specs.Edit.{header_bytes, old_value};
     ghost use Rattle.gitconf_state.specs.Editors.{line_end_pushed, marked_count, popped, popped_entry, pushed, pushed_after_last, removed, removed_marked, value_set};
     ghost use Rattle.gitconf_state.specs.Edits.{renamed, with_trust};
-    ghost use Rattle.gitconf_lines.specs.Puts.{after_last_bytes, line_bytes, value_set_bytes};
+    ghost use Rattle.gitconf_body.specs.Puts.{after_last_bytes, line_bytes, value_set_bytes};
     ghost use Rattle.gitconf_views.specs.Alone.{is_refusal_of_header, with_items, IsEditedAlone};
     ghost use Rattle.gitconf_views.specs.AloneEditors.{edited, editor, lent};
-    ghost use Rattle.gitconf_lines.specs.ValueErrors.{value_number};
+    ghost use Rattle.gitconf_body.specs.ValueErrors.{value_number};
 
     /// Pushes a line after the section's others: the blanks before a name, the name, and if a value is given `=` with the blanks around it
     /// and the value, as a file spells it; then the line ending, unless it is switched off. It looks at no item. Takes memory for what is

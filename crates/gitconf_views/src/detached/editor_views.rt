@@ -3,8 +3,8 @@ use crate::detached::editor::DetachedSectionMut;
 use crate::section::SectionRef;
 use crate::views::{BodyRef, HeaderRef, ValueNames};
 use bstr::BString;
-use gitconf_base::lists::if_any;
-use gitconf_base::meta::Metadata;
+use gitconf_sources::lists::if_any;
+use gitconf_sources::meta::Metadata;
 use gitconf_table::table::SectionId;
 use gitconf_text::NoMemory;
 
@@ -15,9 +15,9 @@ impl<'a> DetachedSectionMut<'a> {
     ghost use Rattle.gitconf_state.specs.Printing.{printed_section};
     ghost use Rattle.gitconf_state.specs.State.{entries_of};
     ghost use Rattle.gitconf_views.specs.AloneEditors.{edited, editor};
-    ghost use Rattle.gitconf_entries.specs.Bodies.{has_key, implicit_value_in, value_in, values_in, AreFound, IsFoundImplicit};
+    ghost use Rattle.gitconf_body.specs.Bodies.{has_key, implicit_value_in, value_in, values_in, AreFound, IsFoundImplicit};
     ghost use Rattle.gitconf_views.specs.Counts.{is_empty_body};
-    ghost use Rattle.gitconf_base.specs.Found.{if_any, IsFound};
+    ghost use Rattle.gitconf_sources.specs.Found.{if_any, IsFound};
     ghost use Rattle.gitconf_views.specs.Views.{names_left, shown, shown_body, shown_header};
 
     /// The section as it now is. Constant time, and no memory.

@@ -4,8 +4,8 @@ ghost use Rattle.bstr.specs.Owned.{bstring_bytes};
 
 use crate::detached::Section;
 use bstr::BString;
-use gitconf_lines::editor::Editor;
-use gitconf_lines::value;
+use gitconf_body::editor::Editor;
+use gitconf_body::value;
 use gitconf_text::parse::section::ValueNameError;
 use gitconf_text::parse::section::bytes::is_value_name;
 use gitconf_text::parse::span;
@@ -29,12 +29,12 @@ impl Section {
     ghost use Rattle.gitconf_state.specs.Editors.{line_end_pushed, pushed, pushed_after_last, value_set};
     ghost use Rattle.gitconf_state.specs.Edits.{IsEditor};
     ghost use Rattle.gitconf_views.specs.Alone.{IsEditedAlone};
-    ghost use Rattle.gitconf_lines.specs.Blanks.{given_editor, IsGiven, PutsAround};
-    ghost use Rattle.gitconf_lines.specs.Puts.{after_last_bytes, line_bytes, value_set_bytes};
-    ghost use Rattle.gitconf_lines.specs.ValueErrors.{value_number};
+    ghost use Rattle.gitconf_body.specs.Blanks.{given_editor, IsGiven, PutsAround};
+    ghost use Rattle.gitconf_body.specs.Puts.{after_last_bytes, line_bytes, value_set_bytes};
+    ghost use Rattle.gitconf_body.specs.ValueErrors.{value_number};
 
     /// [`Section::push_entry`], for a name that may be invalid.
-    #[tactic(auto, using(crate::proofs::AloneEdits::done_alone, crate::proofs::AloneEdits::done_with, crate::proofs::AloneEdits::refused_with, crate::proofs::AloneEdits::span_number, crate::proofs::AloneEdits::unnamed, gitconf_lines::proofs::Puts::line_is))]
+    #[tactic(auto, using(crate::proofs::AloneEdits::done_alone, crate::proofs::AloneEdits::done_with, crate::proofs::AloneEdits::refused_with, crate::proofs::AloneEdits::span_number, crate::proofs::AloneEdits::unnamed, gitconf_body::proofs::Puts::line_is))]
     pub fn push_line(
         &mut self,
         editor: &Editor<'_>,
@@ -59,7 +59,7 @@ impl Section {
     }
 
     /// [`Section::push_entry_after_last`], for a name that may be invalid.
-    #[tactic(auto, using(crate::proofs::AloneEdits::done_alone, crate::proofs::AloneEdits::done_with, crate::proofs::AloneEdits::refused_with, crate::proofs::AloneEdits::span_number, crate::proofs::AloneEdits::unnamed, gitconf_lines::proofs::Puts::below_is))]
+    #[tactic(auto, using(crate::proofs::AloneEdits::done_alone, crate::proofs::AloneEdits::done_with, crate::proofs::AloneEdits::refused_with, crate::proofs::AloneEdits::span_number, crate::proofs::AloneEdits::unnamed, gitconf_body::proofs::Puts::below_is))]
     pub fn push_line_after_last(
         &mut self,
         editor: &Editor<'_>,
@@ -92,7 +92,7 @@ impl Section {
     }
 
     /// [`Section::set_entry`], for a name that may be invalid.
-    #[tactic(auto, using(crate::proofs::AloneEdits::done_alone, crate::proofs::AloneEdits::done_with, crate::proofs::AloneEdits::refused_with, crate::proofs::AloneEdits::span_number, crate::proofs::AloneEdits::unnamed, gitconf_lines::proofs::Puts::set_is))]
+    #[tactic(auto, using(crate::proofs::AloneEdits::done_alone, crate::proofs::AloneEdits::done_with, crate::proofs::AloneEdits::refused_with, crate::proofs::AloneEdits::span_number, crate::proofs::AloneEdits::unnamed, gitconf_body::proofs::Puts::set_is))]
     pub fn set_line(
         &mut self,
         editor: &Editor<'_>,

@@ -1,19 +1,19 @@
 //! Lookups of all values of a key, in types of the caller's.
 ghost use Rattle.std.specs.Option.{option_copied};
 ghost use Rattle.std.specs.Prelude.{◌≡◌, ℕ, List, IfOk, IfErr, IsSome, map};
-ghost use Rattle.gitconf_base.specs.Key.{the_key};
+ghost use Rattle.gitconf_sources.specs.Key.{the_key};
 ghost use Rattle.gitconf_state.specs.Lookup.{Miss};
 ghost use Rattle.gitconf_state.specs.State.{SectionState};
-ghost use Rattle.gitconf_finding.specs.Lookups.{if_any, key_at, shown_with, texts_of};
-ghost use Rattle.gitconf_finding.specs.Misses.{IsExisting};
+ghost use Rattle.gitconf_lookups.specs.Lookups.{if_any, key_at, shown_with, texts_of};
+ghost use Rattle.gitconf_lookups.specs.Misses.{IsExisting};
 ghost use Rattle.gix_config.specs.Converted.{AreConverted, AreConvertedWith, AreGiven, AreValues, AreValuesWithSections, IsListed, IsListedWith};
 
 use crate::file::{File, SectionRef};
 use crate::lookup;
 use crate::lookup::existing;
 use bstr::BString;
-use gitconf_base::key::AsKey;
-use gitconf_base::lists::{put, with_room};
+use gitconf_sources::key::AsKey;
+use gitconf_sources::lists::{put, with_room};
 
 /// The values of texts, up to the first that the type refuses.
 fn values_of<T: TryFrom<BString> + Drop>(

@@ -7,7 +7,7 @@ ghost use Rattle.gitconf_store.specs.Appends.{appended_bytes};
 ghost use Rattle.gix_config.specs.Edited.{has_number};
 
 use crate::file::{File, Section, SectionId};
-use gitconf_lines::blanks::Blanks;
+use gitconf_body::blanks::Blanks;
 use gitconf_text::parse::span;
 
 impl File {

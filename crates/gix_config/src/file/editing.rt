@@ -1,8 +1,8 @@
 //! Edits of the section of a number, for editors.
 use crate::file::{File, SectionId, SectionRef};
-use gitconf_base::source::Trust;
-use gitconf_lines::blanks::Blanks;
-use gitconf_lines::editor::Editor;
+use gitconf_sources::source::Trust;
+use gitconf_body::blanks::Blanks;
+use gitconf_body::editor::Editor;
 use gitconf_text::NoMemory;
 use gitconf_text::line_end::LineEnd;
 use gitconf_text::parse::section::header;
@@ -21,7 +21,7 @@ impl File {
     ghost use Rattle.gitconf_text.specs.HeaderErrors.{header_number, header_numbers};
     ghost use Rattle.gitconf_store.specs.NewSections.{HasNoPlace};
     ghost use Rattle.gitconf_store.specs.Renamings.{HeaderGrows};
-    ghost use Rattle.gitconf_lines.specs.Blanks.{PutsAround};
+    ghost use Rattle.gitconf_body.specs.Blanks.{PutsAround};
     ghost use Rattle.gitconf_store.specs.Editors.{given_editor, IsGiven};
     ghost use Rattle.gitconf_views.specs.Views.{shown};
     ghost use Rattle.gix_config.specs.Edited.{has_number, IsEdited};

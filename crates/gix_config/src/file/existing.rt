@@ -1,13 +1,13 @@
 //! Setting the values of existing entries.
 ghost use Rattle.std.specs.Option.{option_copied};
 ghost use Rattle.std.specs.Prelude.{IsSome, map};
-ghost use Rattle.gitconf_base.specs.Key.{the_key};
+ghost use Rattle.gitconf_sources.specs.Key.{the_key};
 ghost use Rattle.gitconf_store.specs.Existing.{IsSetExisting};
-ghost use Rattle.gitconf_finding.specs.Lookups.{key_at};
+ghost use Rattle.gitconf_lookups.specs.Lookups.{key_at};
 ghost use Rattle.gitconf_store.specs.Several.{AreSetExisting};
 
 use crate::file::{File, set_raw_value};
-use gitconf_base::key::{AsKey, KeyRef};
+use gitconf_sources::key::{AsKey, KeyRef};
 
 impl File {
     /// Gives the last entry of a key such as `remote.origin.url` another value, whether it has `=` or not, in the last section of the key's

@@ -5,8 +5,8 @@ use std::fmt;
 impl PartialEq for File {
     ghost use Rattle.std.specs.Prelude.{◌≡◌, ◌↔◌, true};
     ghost use Rattle.gitconf_state.specs.Equality.{AreEqual};
-    ghost use Rattle.gitconf_finding.specs.Same.{same_state};
-    ghost use Rattle.gitconf_finding.specs.SameLaws.{same_state_partial};
+    ghost use Rattle.gitconf_lookups.specs.Same.{same_state};
+    ghost use Rattle.gitconf_lookups.specs.SameLaws.{same_state_partial};
 
     ghost eq = { same_state };
 
@@ -24,7 +24,7 @@ impl PartialEq for File {
 }
 
 impl Eq for File {
-    ghost use Rattle.gitconf_finding.specs.SameLaws.{same_state_equiv};
+    ghost use Rattle.gitconf_lookups.specs.SameLaws.{same_state_equiv};
 
     ghost laws = { same_state_equiv };
 }

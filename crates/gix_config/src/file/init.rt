@@ -5,9 +5,9 @@ mod loading;
 mod repository;
 
 use crate::file::File;
-use gitconf_base::meta::Metadata;
+use gitconf_sources::meta::Metadata;
 pub use gitconf_includes::init::{Error, Options};
-pub use gitconf_refusals::{from_env, from_git_dir, from_paths};
+pub use gitconf_loaders::{from_env, from_git_dir, from_paths};
 use gitconf_store::store::Store;
 use std::alloc::Global;
 use std::rc::Rc;

@@ -3,16 +3,16 @@ ghost use Rattle.std.specs.Fn.{ComputesKey};
 ghost use Rattle.std.specs.Option.{option_copied};
 ghost use Rattle.std.specs.Prelude.{◌≡◌, map, true, IsSome};
 ghost use Rattle.bstr.specs.Owned.{bstring_bytes};
-ghost use Rattle.gitconf_base.specs.Key.{the_key};
-ghost use Rattle.gitconf_finding.specs.Lookups.{AreRawValues, AreRawValuesWithSections, AreStrings, IsRawValue, IsRawValueWithSection, IsString, if_any, key_at, miss_at, shown_with, texts_of, value_at, value_in, values_at, values_in};
-ghost use Rattle.gitconf_finding.specs.Misses.{IsExisting};
-ghost use Rattle.gitconf_finding.specs.SomeSections.{Filtered};
+ghost use Rattle.gitconf_sources.specs.Key.{the_key};
+ghost use Rattle.gitconf_lookups.specs.Lookups.{AreRawValues, AreRawValuesWithSections, AreStrings, IsRawValue, IsRawValueWithSection, IsString, if_any, key_at, miss_at, shown_with, texts_of, value_at, value_in, values_at, values_in};
+ghost use Rattle.gitconf_lookups.specs.Misses.{IsExisting};
+ghost use Rattle.gitconf_lookups.specs.SomeSections.{Filtered};
 ghost use Rattle.gix_config.specs.Keys.{OfKey};
 
 use crate::file::{File, Metadata, SectionRef};
 use crate::lookup::existing;
 use bstr::BString;
-use gitconf_base::key::{AsKey, KeyRef};
+use gitconf_sources::key::{AsKey, KeyRef};
 use gitconf_text::NoMemory;
 
 impl File {

@@ -2,11 +2,11 @@
 ghost use Rattle.std.specs.Fn.{ComputesKey};
 ghost use Rattle.std.specs.Option.{option_copied};
 ghost use Rattle.std.specs.Prelude.{◌≡◌, Bool, OnErr, OnOk, true};
-ghost use Rattle.gitconf_base.specs.Metadata.{Meta};
+ghost use Rattle.gitconf_sources.specs.Metadata.{Meta};
 ghost use Rattle.gitconf_state.specs.Edits.{RemoveNumbered, RemoveSection, apply, numbered};
-ghost use Rattle.gitconf_finding.specs.Picks.{picked};
+ghost use Rattle.gitconf_lookups.specs.Picks.{picked};
 ghost use Rattle.gitconf_store.specs.Removals.{IsTakenOut};
-ghost use Rattle.gitconf_finding.specs.SomeSections.{Filtered};
+ghost use Rattle.gitconf_lookups.specs.SomeSections.{Filtered};
 
 use crate::file::{File, Metadata, Section, SectionId};
 use gitconf_text::NoMemory;

@@ -3,13 +3,13 @@ ghost use Rattle.std.specs.Fn.{ComputesKey};
 ghost use Rattle.std.specs.Option.{option_copied};
 ghost use Rattle.std.specs.Prelude.{◌≡◌, ◌+◌, ◌≤◌, option_map, Bool, OnErr, OnOk, true};
 ghost use Rattle.bstr.specs.Owned.{bstring_bytes};
-ghost use Rattle.gitconf_base.specs.Metadata.{Meta};
+ghost use Rattle.gitconf_sources.specs.Metadata.{Meta};
 ghost use Rattle.gitconf_state.specs.Edit.{header_bytes, with_used};
 ghost use Rattle.gitconf_store.specs.Renamings.{AreSomeRenamed, IsRenamed};
 
 use crate::file::{File, Metadata, rename_section};
 use bstr::BString;
-use gitconf_base::lists::bytes_of;
+use gitconf_sources::lists::bytes_of;
 
 impl File {
     /// Gives all sections that have the name, without ASCII case, and exactly the subsection, another name and subsection: they get new

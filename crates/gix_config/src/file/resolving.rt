@@ -1,8 +1,8 @@
 //! Files that include others.
 
 use crate::file::File;
-use gitconf_base::meta::Metadata;
-use gitconf_host::{Files, Host};
+use gitconf_sources::meta::Metadata;
+use gitconf_sources::{Files, Host};
 use gitconf_includes::includes;
 use gitconf_includes::init::{Error, Options};
 use gitconf_loaders::resolving::{Resolved, resolve, resolved_text};
@@ -13,8 +13,8 @@ use std::rc::Rc;
 
 impl File {
     ghost use Rattle.std.specs.Prelude.{◌≡◌, IfErr};
-    ghost use Rattle.gitconf_expansion.specs.Expansion.{Resolves};
-    ghost use Rattle.gitconf_expansion.specs.Outcomes.{asks_of, CountsFaults, IsCause};
+    ghost use Rattle.gitconf_includes.specs.Expansion.{Resolves};
+    ghost use Rattle.gitconf_includes.specs.Outcomes.{asks_of, CountsFaults, IsCause};
     ghost use Rattle.gitconf_includes.specs.Errors.{includes_number, init_number};
     ghost use Rattle.gitconf_loaders.specs.Resolving.{IsMadeCause, IsMadeOf, MakesCounted};
 

@@ -1,7 +1,7 @@
 //! The sections of a file, walked over and found by name.
 use crate::file::{File, Metadata, SectionRef};
 use crate::lookup::existing::Error;
-pub use gitconf_finding::walks::{
+pub use gitconf_lookups::walks::{
     SectionIds, SectionsAndIds, SectionsAndIdsByName, SectionsAndPostmatter, SectionsByName,
     SectionsByNameAndFilter,
 };
@@ -12,10 +12,10 @@ impl File {
     ghost use Rattle.std.specs.Option.{option_copied};
     ghost use Rattle.std.specs.Prelude.{◌≡◌, ◌↔◌, [], map, Bool, IfErr, IfSome, IsNone};
     ghost use Rattle.gitconf_text.specs.SectionKeys.{parsed_section_key};
-    ghost use Rattle.gitconf_base.specs.Metadata.{Meta};
-    ghost use Rattle.gitconf_finding.specs.Picks.{IsMissing, IsPassingSection, IsPassingSectionOfKey, IsSection, IsSectionOfKey};
-    ghost use Rattle.gitconf_finding.specs.SomeSections.{Filtered};
-    ghost use Rattle.gitconf_finding.specs.Walks.{and_held_left, and_ids_by_name_left, and_ids_left, by_name_left, section_ids_left, with_held, with_id, with_name};
+    ghost use Rattle.gitconf_sources.specs.Metadata.{Meta};
+    ghost use Rattle.gitconf_lookups.specs.Picks.{IsMissing, IsPassingSection, IsPassingSectionOfKey, IsSection, IsSectionOfKey};
+    ghost use Rattle.gitconf_lookups.specs.SomeSections.{Filtered};
+    ghost use Rattle.gitconf_lookups.specs.Walks.{and_held_left, and_ids_by_name_left, and_ids_left, by_name_left, section_ids_left, with_held, with_id, with_name};
 
     /// The sections that have the name, without ASCII case, and any subsection, in file order; `None` if there is none.
     /// They are found by an index: constant time except for the bytes of the names, and no memory.

@@ -2,23 +2,23 @@
 ghost use Rattle.std.specs.Fn.{ComputesKey};
 ghost use Rattle.std.specs.Option.{option_copied};
 ghost use Rattle.std.specs.Prelude.{◌≡◌, Bool, true, IsSome};
-ghost use Rattle.gitconf_base.specs.Key.{the_key};
-ghost use Rattle.gitconf_base.specs.Metadata.{Meta};
+ghost use Rattle.gitconf_sources.specs.Key.{the_key};
+ghost use Rattle.gitconf_sources.specs.Metadata.{Meta};
 ghost use Rattle.std.specs.Option.{option_map};
 ghost use Rattle.std.specs.Prelude.{◌⊎◌, ℕ, List, Option, Ok, Err, IfOk, IfErr};
 ghost use Rattle.bstr.specs.Owned.{bstring_bytes};
 ghost use Rattle.gitconf_text.specs.ValueErrors.{wanting};
 ghost use Rattle.gitconf_values.specs.Integers.{integer_or_refusal};
-ghost use Rattle.gitconf_finding.specs.Lookups.{IsFound, if_any, key_at, texts_of};
-ghost use Rattle.gitconf_finding.specs.SomeSections.{Filtered};
+ghost use Rattle.gitconf_lookups.specs.Lookups.{IsFound, if_any, key_at, texts_of};
+ghost use Rattle.gitconf_lookups.specs.SomeSections.{Filtered};
 ghost use Rattle.gix_config.specs.Keys.{OfKey};
 ghost use Rattle.gix_config.specs.Typed.{AreIntegers, IsBoolean, IsInteger, IsPath, IsTyped, boolean_or_refusal, integers_or_refusal};
 
 use crate::file::{File, Metadata};
 use crate::values::{Boolean, Path};
 use bstr::BString;
-use gitconf_base::key::{AsKey, KeyRef};
-use gitconf_base::lists::{put, with_room};
+use gitconf_sources::key::{AsKey, KeyRef};
+use gitconf_sources::lists::{put, with_room};
 use gitconf_text::{NoMemory, value};
 use gitconf_values::integer;
 

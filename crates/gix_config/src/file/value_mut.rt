@@ -56,7 +56,7 @@ impl<'a> ValueMut<'a> {
     ghost use Rattle.bstr.specs.Owned.{bstring_bytes};
     ghost use Rattle.gitconf_state.specs.Edits.{numbered};
     ghost use Rattle.gitconf_state.specs.Lookup.{KeyMissing};
-    ghost use Rattle.gitconf_finding.specs.Misses.{IsExisting};
+    ghost use Rattle.gitconf_lookups.specs.Misses.{IsExisting};
     ghost use Rattle.gitconf_views.specs.Views.{shown};
     ghost use Rattle.gix_config.specs.Edited.{IsEdited};
     ghost use Rattle.gix_config.specs.SectionEditors as sections;

@@ -2,18 +2,18 @@
 ghost use Rattle.std.specs.Option.{option_copied};
 ghost use Rattle.std.specs.Prelude.{◌≡◌, ℕ, Bool, true, List, Option, IsSome};
 ghost use Rattle.bstr.specs.Owned.{bstring_bytes};
-ghost use Rattle.gitconf_base.specs.Key.{the_key};
+ghost use Rattle.gitconf_sources.specs.Key.{the_key};
 ghost use Rattle.gitconf_state.specs.Lookup.{Miss};
 ghost use Rattle.gitconf_state.specs.State.{SectionState};
-ghost use Rattle.gitconf_finding.specs.Lookups.{IsFound, key_at, shown_with};
-ghost use Rattle.gitconf_finding.specs.Misses.{IsExisting};
+ghost use Rattle.gitconf_lookups.specs.Lookups.{IsFound, key_at, shown_with};
+ghost use Rattle.gitconf_lookups.specs.Misses.{IsExisting};
 ghost use Rattle.gix_config.specs.Converted.{IsConverted, IsConvertedWith, IsTried, IsTriedValue, IsValue, IsValueWithSection};
 
 use crate::file::{File, SectionRef};
 use crate::lookup;
 use crate::lookup::existing;
 use bstr::BString;
-use gitconf_base::key::AsKey;
+use gitconf_sources::key::AsKey;
 use gitconf_text::NoMemory;
 
 /// The value that was found, in the type.

@@ -3,7 +3,7 @@ use Rattle.std.specs.Prelude.{OnOk}
 use Rattle.gitconf_items.specs.ItemsFit.{AreItemsWithin}
 use Rattle.gitconf_items.specs.Items.{items_of}
 use Rattle.gitconf_text.specs.LineEnds.{bytes_of_line_end}
-use Rattle.gitconf_lines.specs.Buffers.{Grows}
+use Rattle.gitconf_body.specs.Buffers.{Grows}
 use Rattle.gitconf_body.proofs.Changing.{set_by_editor, put_by_editor}
 use Rattle.gitconf_body.proofs.entry.set_value.Goals as goal
 

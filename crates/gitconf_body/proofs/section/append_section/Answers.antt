@@ -1,5 +1,5 @@
 use Rattle.std.proofs.Common.{◌∙◌}
-use Rattle.gitconf_lines.proofs.Buffers.{extended_fit, extended_items}
+use Rattle.gitconf_body.proofs.Buffers.{extended_fit, extended_items}
 use Rattle.gitconf_body.proofs.section.append_section.Goals as goal
 
 pub returns-clause-items : goal.returns-clause-items

@@ -2,7 +2,7 @@ use Rattle.std.proofs.Common.{rules, ◌≡◌, Err, refl, ap, ◌∙◌, arith}
 use Rattle.std.specs.Option.{option_copied}
 use Rattle.gitconf_state.specs.Edit.{new_section_bytes, set_bytes, set_value}
 use Rattle.gitconf_text.specs.LineEnds.{bytes_of_line_end}
-use Rattle.gitconf_lines.proofs.Buffers.{extended_fit, extended_items, grows_err, grows_then, grows_until}
+use Rattle.gitconf_body.proofs.Buffers.{extended_fit, extended_items, grows_err, grows_then, grows_until}
 use Rattle.gitconf_body.proofs.section.append_section_with.Goals as goal
 
 pub returns-clause-items : goal.returns-clause-items

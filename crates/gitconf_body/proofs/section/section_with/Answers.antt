@@ -4,7 +4,7 @@ use Rattle.gitconf_text.specs.Part as parts
 use Rattle.gitconf_items.specs.Items.{items_of}
 use Rattle.gitconf_items.specs.ItemsFit.{AreItemsWithin}
 use Rattle.gitconf_state.specs.Edit.{set_value}
-use Rattle.gitconf_lines.proofs.Buffers.{still_so}
+use Rattle.gitconf_body.proofs.Buffers.{still_so}
 use Rattle.gitconf_body.proofs.section.section_with.Goals as goal
 
 pub returns-clause-items : goal.returns-clause-items

@@ -1,7 +1,7 @@
 use Rattle.std.proofs.Common.{rules, arith, ◌≡◌, get_or, refl, subst}
-use Rattle.gitconf_lines.proofs.Buffers.{extended_fit, grows_ok, grows_err}
+use Rattle.gitconf_body.proofs.Buffers.{extended_fit, grows_ok, grows_err}
 use Rattle.gitconf_body.proofs.Changing.{entry_put_at, entry_replaced}
-use Rattle.gitconf_lines.specs.Editors.{editor_in, leading_in}
+use Rattle.gitconf_body.specs.Editors.{editor_in, leading_in}
 use Rattle.gitconf_body.proofs.set.change.Goals as goal
 
 pub returns-in_err-entry-in-Entry-clause-within : goal.returns-in_err-entry-in-Entry-clause-within

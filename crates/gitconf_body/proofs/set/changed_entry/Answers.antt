@@ -1,11 +1,11 @@
 use Rattle.std.proofs.Common.{[], ◌∷◌, refl, subst, sym}
 use Rattle.gitconf_items.specs.Events.{bytes_of}
-use Rattle.gitconf_lines.specs.Buffers.{StandsAt}
+use Rattle.gitconf_body.specs.Buffers.{StandsAt}
 use Rattle.gitconf_items.specs.declared.items.Item.TheVariants as kinds
-use Rattle.gitconf_lines.specs.Standing.{Stand}
-use Rattle.gitconf_lines.proofs.Buffers.{stands_more, twice_extended}
+use Rattle.gitconf_body.specs.Standing.{Stand}
+use Rattle.gitconf_body.proofs.Buffers.{stands_more, twice_extended}
 use Rattle.gitconf_body.proofs.Changing.{changed_is}
-use Rattle.gitconf_lines.proofs.Standing.{entry_stands}
+use Rattle.gitconf_body.proofs.Standing.{entry_stands}
 use Rattle.gitconf_body.proofs.set.changed_entry.Goals as goal
 
 pub returns-clause-stands : goal.returns-clause-stands

@@ -4,7 +4,7 @@ use Rattle.std.specs.List.{list_any}
 use Rattle.gitconf_items.specs.Items.{item_of, items_of}
 use Rattle.gitconf_state.specs.Edit.{is_entry_of}
 use Rattle.gitconf_body.proofs.Changing.{set_put_new}
-use Rattle.gitconf_lines.proofs.Places.{any_shown}
+use Rattle.gitconf_body.proofs.Places.{any_shown}
 use Rattle.gitconf_body.proofs.set.place_to_set.Goals as goal
 
 pub returns-in_err-check_push-in-None-clause-too_large : goal.returns-in_err-check_push-in-None-clause-too_large

@@ -3,11 +3,11 @@ use Rattle.std.specs.List.{list_any}
 use Rattle.gitconf_items.specs.Items.{item_of, items_of}
 use Rattle.gitconf_state.specs.Edit.{is_entry_of, item_raw}
 use Rattle.gitconf_state.proofs.Edits.Places.{old_value_at, old_value_none}
-use Rattle.gitconf_lines.specs.Editors.{editor_in}
-use Rattle.gitconf_lines.specs.Places.{IsLastAt}
-use Rattle.gitconf_lines.proofs.Buffers.{grows_ok, grows_err}
-use Rattle.gitconf_lines.proofs.Places.{any_shown, found_at}
-use Rattle.gitconf_lines.proofs.Entries.{last_shown}
+use Rattle.gitconf_body.specs.Editors.{editor_in}
+use Rattle.gitconf_body.specs.Places.{IsLastAt}
+use Rattle.gitconf_body.proofs.Buffers.{grows_ok, grows_err}
+use Rattle.gitconf_body.proofs.Places.{any_shown, found_at}
+use Rattle.gitconf_body.proofs.EntryLemmas.{last_shown}
 use Rattle.gitconf_body.proofs.Changing.{value_set_new, set_put_new}
 use Rattle.gitconf_body.proofs.set.set_at.Goals as goal
 

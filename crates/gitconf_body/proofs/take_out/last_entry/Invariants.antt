@@ -1,6 +1,6 @@
 use Rattle.std.proofs.Common.{length}
-use Rattle.gitconf_lines.specs.Places.{IsFront}
-use Rattle.gitconf_lines.specs.Spacings.{is_stored_entry}
+use Rattle.gitconf_body.specs.Places.{IsFront}
+use Rattle.gitconf_body.specs.Spacings.{is_stored_entry}
 use Rattle.gitconf_body.proofs.take_out.last_entry.Given as goal
 
 abbrev pub invariant-loop-item : goal.invariant-loop-item

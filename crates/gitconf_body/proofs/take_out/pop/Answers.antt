@@ -1,8 +1,8 @@
 use Rattle.std.proofs.Common.{rules, ◌≡◌, false, ap, sym, ◌∙◌}
 use Rattle.std.specs.List.{list_any}
 use Rattle.gitconf_items.specs.Items.{items_of}
-use Rattle.gitconf_lines.specs.Places.{IsLastAt}
-use Rattle.gitconf_lines.specs.Spacings.{is_stored_entry}
+use Rattle.gitconf_body.specs.Places.{IsLastAt}
+use Rattle.gitconf_body.specs.Spacings.{is_stored_entry}
 use Rattle.gitconf_body.proofs.Taken.{popped_none, popped_entry_none, some_popped}
 use Rattle.gitconf_body.proofs.take_out.pop.Goals as goal
 

@@ -2,8 +2,8 @@ use Rattle.std.proofs.Common.{◌≡◌, get_or, ap, sym, subst, ◌∙◌}
 use Rattle.gitconf_items.specs.Items.{item_of}
 use Rattle.gitconf_items.specs.declared.items.Item.TheVariants as kinds
 use Rattle.gitconf_state.specs.Editors.{key_and_meaning}
-use Rattle.gitconf_lines.specs.Spacings.{is_stored_entry}
-use Rattle.gitconf_lines.proofs.Places.{found_at}
+use Rattle.gitconf_body.specs.Spacings.{is_stored_entry}
+use Rattle.gitconf_body.proofs.Places.{found_at}
 use Rattle.gitconf_body.proofs.Taken.{popped_at, popped_entry_at, popped_within}
 use Rattle.gitconf_body.proofs.take_out.pop_at.Goals as goal
 

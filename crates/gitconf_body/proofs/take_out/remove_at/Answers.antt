@@ -2,8 +2,8 @@ use Rattle.std.proofs.Common.{rules, ◌≡◌, Some, ap, sym, ◌∙◌}
 use Rattle.gitconf_items.specs.Items.{item_of, items_of}
 use Rattle.gitconf_state.specs.Edit.{is_entry_of, item_raw}
 use Rattle.gitconf_state.proofs.Edits.Places.{old_value_at}
-use Rattle.gitconf_lines.proofs.Places.{found_at}
-use Rattle.gitconf_lines.proofs.Entries.{last_shown}
+use Rattle.gitconf_body.proofs.Places.{found_at}
+use Rattle.gitconf_body.proofs.EntryLemmas.{last_shown}
 use Rattle.gitconf_body.proofs.Taken.{removed_at, taken_within}
 use Rattle.gitconf_body.proofs.take_out.remove_at.Goals as goal
 

@@ -1,8 +1,8 @@
 use Rattle.std.proofs.Common.{rules, ◌≡◌, ◌∷◌, ◌++◌, drop, take, length, min, ap, ◌∙◌}
 use Rattle.gitconf_items.specs.declared.items.Item.TheVariants as kinds
-use Rattle.gitconf_lines.specs.Editors.{editor_in, leading_in}
+use Rattle.gitconf_body.specs.Editors.{editor_in, leading_in}
 use Rattle.gitconf_body.specs.ValuesAt.{behind_way, way_before}
-use Rattle.gitconf_lines.proofs.Buffers.{extended_fit}
+use Rattle.gitconf_body.proofs.Buffers.{extended_fit}
 use Rattle.gitconf_body.proofs.ValuesAt.{written_stand}
 use Rattle.gitconf_body.proofs.value_at.write_at.Goals as goal
 

@@ -1,8 +1,8 @@
 use Rattle.std.proofs.Common.{rules, ◌≡◌, ℕ, Ok, Err, subst, false, string_bytes}
 use Rattle.std.specs.Prelude.{IfSome}
-use Rattle.gitconf_host.specs.Reports.{IsReadOf, IsTrustOf}
-use Rattle.gitconf_expansion.specs.Expansion.{IsLoaded}
-use Rattle.gitconf_refusals.specs.Errors.{paths_number}
+use Rattle.gitconf_sources.specs.Reports.{IsReadOf, IsTrustOf}
+use Rattle.gitconf_includes.specs.Expansion.{IsLoaded}
+use Rattle.gitconf_loaders.specs.Errors.{paths_number}
 use Rattle.gitconf_loaders.proofs.OneFile.{loads, not_parsed, not_read}
 use Rattle.gitconf_loaders.proofs.paths.from_path.Goals as goal
 

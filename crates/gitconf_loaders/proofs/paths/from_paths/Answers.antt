@@ -1,7 +1,7 @@
 use Rattle.std.proofs.Common.{rules, ◌≡◌, [], ◌∷◌, Ok, Err, None, refl, sym, ◌∙◌, subst, true}
 use Rattle.std.specs.Vec.Iter.{into_iter_items}
-use Rattle.gitconf_expansion.specs.Outcomes.{asks_of}
-use Rattle.gitconf_refusals.specs.Errors.{paths_number}
+use Rattle.gitconf_includes.specs.Outcomes.{asks_of}
+use Rattle.gitconf_loaders.specs.Errors.{paths_number}
 use Rattle.std.specs.List.{list_any}
 use Rattle.gitconf_loaders.specs.Causes.{has_path}
 use Rattle.gitconf_loaders.specs.Paths.{AreLoaded, IsMetaLoaded, once}

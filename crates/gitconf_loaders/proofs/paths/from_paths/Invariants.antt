@@ -1,9 +1,9 @@
 use Rattle.std.proofs.Common.{◌≡◌, ℕ, List, [], None, Option, Result, true}
 use Rattle.std.specs.List.{list_any}
 use Rattle.std.specs.Vec.Iter.{into_iter_items}
-use Rattle.gitconf_host.specs.Reports.{IsNoLess}
+use Rattle.gitconf_sources.specs.Reports.{IsNoLess}
 use Rattle.gitconf_state.specs.State.{State}
-use Rattle.gitconf_expansion.specs.Outcomes.{asks_of}
+use Rattle.gitconf_includes.specs.Outcomes.{asks_of}
 use Rattle.gitconf_loaders.specs.Causes.{has_path}
 use Rattle.gitconf_loaders.specs.Paths.{AreLoaded, once}
 use Rattle.gitconf_loaders.proofs.paths.from_paths.Given as goal

@@ -1,8 +1,8 @@
 use Rattle.std.proofs.Common.{rules, ◌≡◌, Ok, Err, Some, None, sym, ap, ◌∙◌, subst, string_bytes}
 use Rattle.gitconf_includes.specs.Errors.{init_number}
-use Rattle.gitconf_expansion.specs.Outcomes.{asks_of}
+use Rattle.gitconf_includes.specs.Outcomes.{asks_of}
 use Rattle.gitconf_loaders.specs.Resolving.{IsMadeOf}
-use Rattle.gitconf_refusals.specs.Errors.{paths_number}
+use Rattle.gitconf_loaders.specs.Errors.{paths_number}
 use Rattle.gitconf_loaders.specs.Paths.{left_by, load_fault, text_taken}
 use Rattle.gitconf_loaders.proofs.Several.{faulted, Loads, made_counts, not_made_left, of_meta, passed, put, Takes}
 use Rattle.gitconf_loaders.proofs.paths.load_behind.Goals as goal

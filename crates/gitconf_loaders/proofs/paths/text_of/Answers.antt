@@ -1,5 +1,5 @@
 use Rattle.std.proofs.Common.{rules, ◌≡◌, ℕ, Ok, Err, Some, None, inr, sym, ◌∙◌}
-use Rattle.gitconf_host.specs.declared.fault.Stage.TheVariants.{Memory}
+use Rattle.gitconf_sources.specs.declared.fault.Stage.TheVariants.{Memory}
 use Rattle.gitconf_loaders.specs.Paths.{load_fault}
 use Rattle.gitconf_loaders.proofs.Several.{counts_as_empty, no_memory, not_opened, not_read, passed_over, text_faulted, text_read}
 use Rattle.gitconf_loaders.proofs.paths.text_of.Goals.{in-Open+else-is_passed_over, in-Read+else-ignores, in-Memory-1}

@@ -1,7 +1,7 @@
 use Rattle.std.proofs.Common.{None, Err, subst}
 use Rattle.gitconf_includes.specs.Errors.{includes_number}
-use Rattle.gitconf_expansion.specs.Expansion.{Expands, Leaves, Reached}
-use Rattle.gitconf_expansion.specs.Outcomes.{asks_of}
+use Rattle.gitconf_includes.specs.Expansion.{Expands, Leaves, Reached}
+use Rattle.gitconf_includes.specs.Outcomes.{asks_of}
 use Rattle.gitconf_loaders.proofs.Made.{made, not_expanded, not_loaded}
 use Rattle.gitconf_loaders.proofs.resolving.resolved_text.Goals as goal
 

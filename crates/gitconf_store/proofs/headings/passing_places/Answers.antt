@@ -66,7 +66,7 @@ returns-in_err-put_place-clause-refused g c = λ keeps h.
     let kept : keeps it.1.meta.value ≡ true = search rules in
     let test : SectionEntry Section → Bool = λ e. named e && keeps e.section.meta.value in
     let passes : test r.found ≡ true = both_pass (named r.found) (keeps r.found.section.meta.value) r.has (ap (λ (s : Section). keeps s.meta.value) r.holds ∙ kept) in
-    Rattle.gitconf_entries.proofs.Outcomes.if_err_at_all c.from_residual.result (passes_any named es r.before r.later r.found places test passes r.so_far)
+    Rattle.gitconf_body.proofs.Outcomes.if_err_at_all c.from_residual.result (passes_any named es r.before r.later r.found places test passes r.so_far)
 
 pub loop-found-preserved : goal.loop-found-preserved
 loop-found-preserved g c =

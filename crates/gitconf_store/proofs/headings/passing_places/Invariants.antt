@@ -1,7 +1,7 @@
 use Rattle.std.proofs.Common.{◌≡◌, ◌&&◌, ◌++◌, Bool, List, length, map}
 use Rattle.std.specs.Fn.{ComputesKey}
 use Rattle.std.specs.Option.{option_copied}
-use Rattle.gitconf_base.specs.Metadata.{Meta}
+use Rattle.gitconf_sources.specs.Metadata.{Meta}
 use Rattle.gitconf_text.specs.Sections.{SectionEntry, is_named}
 use Rattle.gitconf_sections.specs.Walks.{named_left}
 use Rattle.gitconf_sections.specs.Section.{Section}

@@ -1,4 +1,4 @@
-use Rattle.gitconf_lines.proofs.Append.{items_more, items_fit_more}
+use Rattle.gitconf_body.proofs.Append.{items_more, items_fit_more}
 use Rattle.gitconf_views.proofs.Append.{header_more}
 use Rattle.gitconf_store.proofs.laws.appending_leaves_every_view.Goals as goal
 

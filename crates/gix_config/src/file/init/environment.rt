@@ -1,30 +1,30 @@
 //! Files that are made of the entries that variables of the environment set.
 ghost use Rattle.std.specs.Option.{option_map};
 ghost use Rattle.std.specs.Prelude.{◌≡◌, ℕ, Ok, unwrap_or, IfErr, IfOk, string_bytes};
-ghost use Rattle.gitconf_base.specs.Key.{key_of, parsed_key};
-ghost use Rattle.gitconf_base.specs.Metadata.{api_meta};
-ghost use Rattle.gitconf_expansion.specs.Outcomes.{asks_of, CountsFaults, IsCause};
+ghost use Rattle.gitconf_sources.specs.Key.{key_of, parsed_key};
+ghost use Rattle.gitconf_sources.specs.Metadata.{api_meta};
+ghost use Rattle.gitconf_includes.specs.Outcomes.{asks_of, CountsFaults, IsCause};
 ghost use Rattle.gitconf_includes.specs.Errors.{includes_number};
-ghost use Rattle.gitconf_refusals.specs.Errors.{env_number};
+ghost use Rattle.gitconf_loaders.specs.Errors.{env_number};
 ghost use Rattle.gitconf_loaders.specs.Globals.{empty_file};
 ghost use Rattle.gitconf_loaders.specs.Resolving.{MakesOf};
 ghost use Rattle.gitconf_loaders.specs.Paths.{CountsLoad, left_by, numbered};
-ghost use Rattle.gitconf_refusals.specs.Variables.{IsEntryCause};
+ghost use Rattle.gitconf_loaders.specs.Variables.{IsEntryCause};
 ghost use Rattle.gix_config.specs.Environment.{ArePut, IsEntryPut, IsEnvCause, IsFromEnv, IsOverrides, IsOverridesCause, IsPushed, IsPut, IsPutUnder};
 ghost use Rattle.gix_config.specs.SectionEditors.{edited, lent, told};
 
 use crate::file::section_mut::SectionMut;
 use crate::file::{File, shared};
-use gitconf_base::key::KeyRef;
-use gitconf_base::meta::Metadata;
-use gitconf_base::source::Source;
-use gitconf_host::{Env, Files, Host, Places};
+use gitconf_sources::key::KeyRef;
+use gitconf_sources::meta::Metadata;
+use gitconf_sources::source::Source;
+use gitconf_sources::{Env, Files, Host, Places};
 use gitconf_includes::includes;
 use gitconf_includes::init::Options;
 use gitconf_loaders::globals::home_options;
 use gitconf_loaders::resolving::{Resolved, resolve};
-use gitconf_refusals::from_env::Error;
-use gitconf_refusals::variables::{count, key_at, value_at};
+use gitconf_loaders::from_env::Error;
+use gitconf_loaders::variables::{count, key_at, value_at};
 use gitconf_text::NoMemory;
 use std::alloc::Global;
 
@@ -230,8 +230,8 @@ pub(crate) fn overrides<F: Files, E: Env>(
 
 impl File {
     ghost use Rattle.std.specs.Prelude.{◌≡◌, IfErr};
-    ghost use Rattle.gitconf_expansion.specs.Outcomes.{asks_of};
-    ghost use Rattle.gitconf_refusals.specs.Errors.{env_number};
+    ghost use Rattle.gitconf_includes.specs.Outcomes.{asks_of};
+    ghost use Rattle.gitconf_loaders.specs.Errors.{env_number};
     ghost use Rattle.gitconf_loaders.specs.Paths.{CountsLoad, numbered};
     ghost use Rattle.gix_config.specs.Environment.{IsEnvCause, IsFromEnv, IsOverrides, IsOverridesCause};
 

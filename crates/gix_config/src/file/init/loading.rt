@@ -1,19 +1,19 @@
 //! Files that are loaded by their paths.
 
 use crate::file::File;
-use gitconf_base::meta::Metadata;
-use gitconf_base::source::Source;
-use gitconf_host::{Env, Files, Host};
+use gitconf_sources::meta::Metadata;
+use gitconf_sources::source::Source;
+use gitconf_sources::{Env, Files, Host};
 use gitconf_includes::init::Options;
 use gitconf_loaders::{globals, paths};
-use gitconf_refusals::from_paths::Error;
+use gitconf_loaders::from_paths::Error;
 use std::alloc::Global;
 
 impl File {
     ghost use Rattle.std.specs.Prelude.{◌≡◌, true, IfErr, string_bytes};
-    ghost use Rattle.gitconf_expansion.specs.Outcomes.{asks_of};
+    ghost use Rattle.gitconf_includes.specs.Outcomes.{asks_of};
     ghost use Rattle.gitconf_loaders.specs.Causes.{IsFileCause, IsLoadCause};
-    ghost use Rattle.gitconf_refusals.specs.Errors.{paths_number};
+    ghost use Rattle.gitconf_loaders.specs.Errors.{paths_number};
     ghost use Rattle.gitconf_loaders.specs.Globals.{IsGlobal, IsGlobalCause};
     ghost use Rattle.gitconf_loaders.specs.Paths.{CountsLoad, IsLoadedFrom, IsLoadOfPaths, numbered};
 

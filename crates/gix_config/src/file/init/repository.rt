@@ -1,24 +1,24 @@
 //! The configuration of a repository.
 ghost use Rattle.std.specs.Prelude.{◌≡◌, ◌⊎◌, Err, IfErr, IfOk, string_bytes};
 ghost use Rattle.std.specs.Result.{result_map_both};
-ghost use Rattle.gitconf_expansion.specs.Outcomes.{asks_of};
+ghost use Rattle.gitconf_includes.specs.Outcomes.{asks_of};
 ghost use Rattle.gitconf_includes.specs.Rules.{resolved, rules_of};
 ghost use Rattle.gitconf_loaders.specs.Causes.{IsFileCause};
-ghost use Rattle.gitconf_refusals.specs.Errors.{git_number, paths_number};
+ghost use Rattle.gitconf_loaders.specs.Errors.{git_number, paths_number};
 ghost use Rattle.gitconf_loaders.specs.Paths.{CountsLoad, left_by, numbered};
 ghost use Rattle.gix_config.specs.Repository as spec;
 ghost use Rattle.gix_config.specs.Repository.{AreOverridesBehind, AreOwnAndOverridesBehind, IsExpandedBehind, IsGitCause, IsIncludeCause, IsJoined, IsOverridingCause, IsOwnBehind, IsReadCause, IsReadOf, IsRepository, IsRepositoryCause, IsWorktree, IsWorktreeBehind, parts_of, repository_rules, worktree_path};
 
 use crate::file::File;
 use crate::file::init::environment::{expanded, overrides};
-use gitconf_base::source::Source;
-use gitconf_host::{Env, FileFault, Files, Host, Places};
+use gitconf_sources::source::Source;
+use gitconf_sources::{Env, FileFault, Files, Host, Places};
 use gitconf_includes::includes;
 use gitconf_includes::init::Options;
 use gitconf_loaders::globals::from_globals;
 use gitconf_loaders::paths::from_path;
-use gitconf_refusals::from_git_dir::Error;
-use gitconf_refusals::from_paths;
+use gitconf_loaders::from_git_dir::Error;
+use gitconf_loaders::from_paths;
 use gitconf_text::NoMemory;
 use gitconf_values::path::{interpolate, join, parent};
 use includes::conditional::{Context, GitDir};
@@ -310,7 +310,7 @@ fn repository<F: Files, E: Env>(
 impl File {
     ghost use Rattle.std.specs.Prelude.{◌≡◌, IfErr};
     ghost use Rattle.gitconf_includes.specs.Rules.{resolved};
-    ghost use Rattle.gitconf_refusals.specs.Errors.{git_number};
+    ghost use Rattle.gitconf_loaders.specs.Errors.{git_number};
     ghost use Rattle.gitconf_loaders.specs.Paths.{CountsLoad, numbered};
     ghost use Rattle.gix_config.specs.Repository.{IsRepository, IsRepositoryCause};
 

@@ -3,7 +3,7 @@ use crate::file::multi_value_mut::targets::Targets;
 use crate::file::{File, Metadata, SectionId};
 use crate::lookup::existing;
 use bstr::BString;
-use gitconf_base::key::KeyRef;
+use gitconf_sources::key::KeyRef;
 use gitconf_body::value_at::InPlaceOf;
 use gitconf_text::NoMemory;
 use gitconf_text::parse::span;
@@ -12,15 +12,15 @@ impl File {
     ghost use Rattle.std.specs.Fn.{ComputesKey};
     ghost use Rattle.std.specs.Prelude.{◌≡◌, Bool, map, true, IfOk, IsOk, None, OnErr, OnOk};
     ghost use Rattle.gitconf_text.specs.Names.{is_value_name};
-    ghost use Rattle.gitconf_base.specs.Key.{key_of};
+    ghost use Rattle.gitconf_sources.specs.Key.{key_of};
     ghost use Rattle.gitconf_state.specs.Edit.{with_used};
     ghost use Rattle.gitconf_state.specs.Edits.{apply, items_of_numbered, numbered};
     ghost use Rattle.gitconf_body.specs.ValuesAt.{rewritten_put};
     ghost use Rattle.gitconf_store.specs.Editors.{PutsIn};
-    ghost use Rattle.gitconf_finding.specs.Lookups.{texts_of};
+    ghost use Rattle.gitconf_lookups.specs.Lookups.{texts_of};
     ghost use Rattle.gitconf_store.specs.Several.{all_deleted, all_meanings, one_rewriting, AreRewritten};
-    ghost use Rattle.gitconf_finding.specs.SomeSections.{Filtered};
-    ghost use Rattle.gitconf_finding.specs.ValuePlaces.{key_places};
+    ghost use Rattle.gitconf_lookups.specs.SomeSections.{Filtered};
+    ghost use Rattle.gitconf_lookups.specs.ValuePlaces.{key_places};
     ghost use Rattle.gix_config.specs.MultiValueEditors.{AreFoundTargets};
 
     /// The entries of a key, by [`Store::value_places_filter`](gitconf_store::store::Store::value_places_filter).

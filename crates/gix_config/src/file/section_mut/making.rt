@@ -3,8 +3,8 @@ use crate::file::section_mut::SectionMut;
 use crate::file::{File, Metadata, Section, SectionId};
 use crate::lookup::existing;
 use bstr::BString;
-use gitconf_base::lists::bytes_of;
-use gitconf_lines::blanks::Blanks;
+use gitconf_sources::lists::bytes_of;
+use gitconf_body::blanks::Blanks;
 use gitconf_text::NoMemory;
 use gitconf_text::line_end::LineEnd;
 use gitconf_text::parse::section::header;
@@ -37,7 +37,7 @@ impl From<existing::Error> for Error {
 
 impl From<NoMemory> for Error {
     ghost use Rattle.std.specs.Prelude.{◌≡◌};
-    ghost use Rattle.gitconf_finding.specs.declared.existing.Error.TheVariants.{Memory};
+    ghost use Rattle.gitconf_lookups.specs.declared.existing.Error.TheVariants.{Memory};
     ghost use Rattle.gix_config.specs.declared.file.section_mut.making.Error.TheVariants.{Lookup};
 
     ghost from_gives = { λ _ e. e ≡ Lookup Memory };
@@ -58,17 +58,17 @@ impl File {
     ghost use Rattle.gitconf_text.specs.HeaderErrors.{header_number, header_numbers};
     ghost use Rattle.gitconf_text.specs.Names.{is_made_name, is_valid_or_none};
     ghost use Rattle.gitconf_text.specs.SectionKeys.{parsed_section_key};
-    ghost use Rattle.gitconf_base.specs.Metadata.{Meta};
+    ghost use Rattle.gitconf_sources.specs.Metadata.{Meta};
     ghost use Rattle.gitconf_state.specs.Edit.{new_section, with_used};
     ghost use Rattle.gitconf_state.specs.Edits.{NewSection, PushSection, apply};
     ghost use Rattle.gitconf_state.specs.Editors.{editor_of};
-    ghost use Rattle.gitconf_lines.specs.Blanks.{editor_with};
+    ghost use Rattle.gitconf_body.specs.Blanks.{editor_with};
     ghost use Rattle.gitconf_text.specs.Sections.{no_number};
     ghost use Rattle.gitconf_state.specs.Lookup.{listed, miss_of};
-    ghost use Rattle.gitconf_finding.specs.Misses.{IsExisting};
+    ghost use Rattle.gitconf_lookups.specs.Misses.{IsExisting};
     ghost use Rattle.gitconf_store.specs.NewSections.{HasNoPlace};
-    ghost use Rattle.gitconf_finding.specs.Picks.{picked};
-    ghost use Rattle.gitconf_finding.specs.SomeSections.{Filtered};
+    ghost use Rattle.gitconf_lookups.specs.Picks.{picked};
+    ghost use Rattle.gitconf_lookups.specs.SomeSections.{Filtered};
     ghost use Rattle.gix_config.specs.contracts.file.File.{the_row};
     ghost use Rattle.gix_config.specs.Edited.{has_number};
     ghost use Rattle.gix_config.specs.Puts.{done};

@@ -3,7 +3,7 @@ use crate::file::section::{BodyRef, HeaderRef, ValueNames};
 use crate::file::section_mut::SectionMut;
 use crate::file::{Metadata, SectionId, SectionRef};
 use bstr::BString;
-use gitconf_base::lists::if_any;
+use gitconf_sources::lists::if_any;
 use gitconf_text::NoMemory;
 
 impl<'a> SectionMut<'a> {
@@ -14,9 +14,9 @@ impl<'a> SectionMut<'a> {
     ghost use Rattle.gitconf_state.specs.Edits.{items_of_numbered, numbered};
     ghost use Rattle.gitconf_state.specs.Printing.{printed_section};
     ghost use Rattle.gitconf_state.specs.State.{entries_of};
-    ghost use Rattle.gitconf_entries.specs.Bodies.{has_key, implicit_value_in, value_in, values_in, AreFound, IsFoundImplicit};
+    ghost use Rattle.gitconf_body.specs.Bodies.{has_key, implicit_value_in, value_in, values_in, AreFound, IsFoundImplicit};
     ghost use Rattle.gitconf_views.specs.Counts.{is_empty_body};
-    ghost use Rattle.gitconf_finding.specs.Lookups.{if_any, IsFound};
+    ghost use Rattle.gitconf_lookups.specs.Lookups.{if_any, IsFound};
     ghost use Rattle.gitconf_views.specs.Views.{names_left, shown, shown_body, shown_header};
     ghost use Rattle.gix_config.specs.SectionEditors.{edited, editor, number_of};
 

@@ -3,9 +3,9 @@ use crate::file::value_mut::spelling::Spelling;
 use crate::file::{File, Metadata, SectionId};
 use crate::lookup::existing;
 use bstr::BString;
-use gitconf_base::key::KeyRef;
+use gitconf_sources::key::KeyRef;
 use gitconf_body::value_at::InPlaceOf;
-use gitconf_lines::editor::Editor;
+use gitconf_body::editor::Editor;
 use gitconf_text::NoMemory;
 use gitconf_text::parse::span;
 
@@ -14,15 +14,15 @@ impl File {
     ghost use Rattle.std.specs.Prelude.{◌≡◌, Bool, true, IfOk};
     ghost use Rattle.bstr.specs.Owned.{bstring_bytes};
     ghost use Rattle.gitconf_text.specs.Names.{is_value_name};
-    ghost use Rattle.gitconf_base.specs.Key.{key_of};
+    ghost use Rattle.gitconf_sources.specs.Key.{key_of};
     ghost use Rattle.gitconf_state.specs.Edit.{spacing_of};
     ghost use Rattle.gitconf_state.specs.Edits.{apply, items_of_numbered, said_in_section, DeleteAt, IsEditor, WriteAt};
-    ghost use Rattle.gitconf_lines.specs.Blanks.{PutsAround};
+    ghost use Rattle.gitconf_body.specs.Blanks.{PutsAround};
     ghost use Rattle.gitconf_body.specs.ValuesAt.{instead_of};
     ghost use Rattle.gitconf_store.specs.Editors.{given_editor, IsGiven};
-    ghost use Rattle.gitconf_finding.specs.Lookups.{IsFound};
-    ghost use Rattle.gitconf_finding.specs.SomeSections.{Filtered};
-    ghost use Rattle.gitconf_finding.specs.ValuePlaces.{meaning_at, value_place, IsPlace};
+    ghost use Rattle.gitconf_lookups.specs.Lookups.{IsFound};
+    ghost use Rattle.gitconf_lookups.specs.SomeSections.{Filtered};
+    ghost use Rattle.gitconf_lookups.specs.ValuePlaces.{meaning_at, value_place, IsPlace};
     ghost use Rattle.gix_config.specs.Edited.{has_number, IsEdited};
 
     /// [`Store::value_place_filter`](gitconf_store::store::Store::value_place_filter).

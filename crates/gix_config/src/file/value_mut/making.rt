@@ -2,17 +2,17 @@
 use crate::file::value_mut::ValueMut;
 use crate::file::{File, Metadata};
 use crate::lookup::existing;
-use gitconf_base::key::{AsKey, KeyRef};
+use gitconf_sources::key::{AsKey, KeyRef};
 
 impl File {
     ghost use Rattle.std.specs.Borrow.{sem, RestsIfErr};
     ghost use Rattle.std.specs.Fn.{ComputesKey};
     ghost use Rattle.std.specs.Option.{option_copied};
     ghost use Rattle.std.specs.Prelude.{◌≡◌, true, IfOk, IsSome};
-    ghost use Rattle.gitconf_base.specs.Key.{the_key};
-    ghost use Rattle.gitconf_finding.specs.Lookups.{key_at};
-    ghost use Rattle.gitconf_finding.specs.SomeSections.{Filtered};
-    ghost use Rattle.gitconf_finding.specs.ValuePlaces.{value_place};
+    ghost use Rattle.gitconf_sources.specs.Key.{the_key};
+    ghost use Rattle.gitconf_lookups.specs.Lookups.{key_at};
+    ghost use Rattle.gitconf_lookups.specs.SomeSections.{Filtered};
+    ghost use Rattle.gitconf_lookups.specs.ValuePlaces.{value_place};
     ghost use Rattle.gix_config.specs.contracts.file.File.{the_row};
     ghost use Rattle.gix_config.specs.ValueEditors.{edited, lent, IsEditorOfValue, IsValueEditor};
 

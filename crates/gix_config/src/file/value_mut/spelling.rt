@@ -2,8 +2,8 @@
 ghost use Rattle.std.specs.Prelude.{◌≡◌, IfOk, true};
 ghost use Rattle.gitconf_text.specs.Names.{is_value_name};
 
-use gitconf_lines::blanks::Blanks;
-use gitconf_lines::editor::Editor;
+use gitconf_body::blanks::Blanks;
+use gitconf_body::editor::Editor;
 use gitconf_text::NoMemory;
 use gitconf_text::line_end::LineEnd;
 use std::alloc::Global;
@@ -33,7 +33,7 @@ impl Spelling {
     ghost use Rattle.std.specs.Prelude.{◌≡◌, IfOk, true};
     ghost use Rattle.gitconf_text.specs.Names.{is_value_name};
     ghost use Rattle.gitconf_state.specs.Edits.{IsEditor};
-    ghost use Rattle.gitconf_lines.specs.Blanks.{editor_with, given_editor, IsGiven, PutsAround};
+    ghost use Rattle.gitconf_body.specs.Blanks.{editor_with, given_editor, IsGiven, PutsAround};
 
     /// A copy of a name, and blanks.
     ///

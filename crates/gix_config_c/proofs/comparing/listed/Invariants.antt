@@ -1,6 +1,6 @@
 use Rattle.std.proofs.Common.{◌≡◌, ◌++◌, map}
 use Rattle.std.specs.Vec.Iter.{into_iter_items}
-use Rattle.gitconf_settings.specs.Differences.{different_of}
+use Rattle.gitconf_diff.specs.Differences.{different_of}
 use Rattle.gix_config_c.specs.Compared.{told_difference}
 use Rattle.gix_config_c.proofs.comparing.listed.Given as goal
 

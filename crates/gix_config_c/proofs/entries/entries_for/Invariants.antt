@@ -1,6 +1,6 @@
 use Rattle.std.proofs.Common.{◌≡◌, ◌++◌, map}
 use Rattle.std.specs.Vec.Iter.{into_iter_items}
-use Rattle.gitconf_compared.specs.Settings.{plain_settings}
+use Rattle.gitconf_diff.specs.PlainSettings.{plain_settings}
 use Rattle.gix_config_c.specs.Listed.{listed_entry, listed_setting}
 use Rattle.gix_config_c.proofs.entries.entries_for.Given as goal
 

@@ -1,6 +1,6 @@
 use Rattle.std.proofs.Common.{rules}
 use Rattle.std.proofs.lemmas.Fn.{always_returns_same}
-use Rattle.gitconf_handles.specs.Origins.{keeps}
+use Rattle.gix_config_c.specs.Origins.{keeps}
 use Rattle.gix_config_c.proofs.finding.boolean_where.Goals as goal
 
 -- the filter answers by what it is shown alone

@@ -3,7 +3,7 @@ use Rattle.std.specs.Prelude.{IfOk, OnOk}
 use Rattle.gitconf_items.specs.Items.{item_of, items_of}
 use Rattle.gitconf_state.specs.Edit.{is_entry_of, old_value}
 use Rattle.gitconf_state.specs.Editors.{removed}
-use Rattle.gitconf_lines.specs.Places.{IsLastAt}
+use Rattle.gitconf_body.specs.Places.{IsLastAt}
 use Rattle.gitconf_body.proofs.items_edits.RemoveEntryItemsEdit.edit.Goals as goal
 
 pub returns-clause-ok : goal.returns-clause-ok

@@ -1,9 +1,9 @@
 use Rattle.std.proofs.Common.{rules, ◌≡◌, sym, subst, ◌∙◌}
 use Rattle.std.specs.Prelude.{IsNone}
 use Rattle.std.specs.List.{list_any}
-use Rattle.gitconf_finding.specs.Walks.{by_name_left}
+use Rattle.gitconf_lookups.specs.Walks.{by_name_left}
 use Rattle.gitconf_state.specs.Including.{whole}
-use Rattle.gitconf_expansion.specs.Inclusion.{has_url}
+use Rattle.gitconf_includes.specs.Inclusion.{has_url}
 use Rattle.gitconf_loaders.specs.Urls.{has_url_in}
 use Rattle.gitconf_loaders.proofs.UrlLemmas.{any_remote}
 use Rattle.gitconf_loaders.proofs.expansion.ExpansionConfigFile.has_url.Goals as goal

@@ -1,6 +1,6 @@
 use Rattle.std.proofs.Common.{length, ap, ◌∙◌}
 use Rattle.gitconf_table.proofs.SectionLemmas.{tables}
-use Rattle.gitconf_index.proofs.Woven.{map_woven}
+use Rattle.gitconf_table.proofs.Woven.{map_woven}
 use Rattle.gitconf_sections.specs.Section.{read_all, read_entry}
 use Rattle.gitconf_sections.proofs.Listing.{listed_woven}
 use Rattle.gitconf_sections.proofs.sections.SectionList.weave.Goals as goal

@@ -7,7 +7,7 @@ use Rattle.gitconf_state.specs.Edits.{appended}
 use Rattle.gitconf_state.specs.State.{State}
 use Rattle.gitconf_store.specs.Appends.{bytes_at, put_at}
 use Rattle.gitconf_store.proofs.Files.AppendedFiles.{appended_at, appended_bytes_at}
-use Rattle.gitconf_entries.proofs.Outcomes.{on_ok}
+use Rattle.gitconf_body.proofs.Outcomes.{on_ok}
 use Rattle.gitconf_views.specs.Store.{section_state}
 use Rattle.gitconf_store.proofs.store.Store.append.Goals as goal
 

@@ -5,8 +5,8 @@ use Rattle.gitconf_text.specs.Sections.{has_name}
 use Rattle.gitconf_state.specs.Lookup as state
 use Rattle.gitconf_state.specs.State.{SectionState}
 use Rattle.gitconf_views.specs.Views.{shown}
-use Rattle.gitconf_finding.specs.Walks.{named_left}
-use Rattle.gitconf_finding.proofs.SectionsKept.{any_kept, any_listed, any_of_none, any_of_some, name_so, section_missing, subsection_missing}
+use Rattle.gitconf_lookups.specs.Walks.{named_left}
+use Rattle.gitconf_lookups.proofs.SectionsKept.{any_kept, any_listed, any_of_none, any_of_some, name_so, section_missing, subsection_missing}
 use Rattle.gitconf_store.proofs.store.Store.check_named.Goals as goal
 
 pub returns-in-Some : goal.returns-in-Some

@@ -6,7 +6,7 @@ use Rattle.gitconf_state.specs.Edit.{with_used}
 use Rattle.gitconf_state.specs.Edits.{change_items, numbered}
 use Rattle.gitconf_state.specs.State.{with_sections, SectionState, State}
 use Rattle.gitconf_sections.proofs.Edits.{there_is}
-use Rattle.gitconf_entries.proofs.Outcomes.{if_ok, on_err, on_ok}
+use Rattle.gitconf_body.proofs.Outcomes.{if_ok, on_err, on_ok}
 use Rattle.gitconf_store.specs.ItemsEdits.{changed_at_place}
 use Rattle.gitconf_store.proofs.Edits.Editing.{changed_there, missing, missing_items, missing_stays, never_missing, none_said, numbered_there, others_untold, said_of_items, said_there, same_there}
 use Rattle.gitconf_store.proofs.Edits.ItemsEdits.{changed_same}

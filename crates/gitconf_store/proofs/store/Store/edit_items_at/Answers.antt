@@ -6,7 +6,7 @@ use Rattle.gitconf_items.specs.Items.{items_of}
 use Rattle.gitconf_sections.specs.Section.{Section, with_items, viewed}
 use Rattle.gitconf_sections.proofs.Edits.{is_taken, taken_within}
 use Rattle.gitconf_views.specs.Store.{section_state, state_of, StoreFits}
-use Rattle.gitconf_entries.proofs.Outcomes.{either_way, if_ok, on_err, on_ok}
+use Rattle.gitconf_body.proofs.Outcomes.{either_way, if_ok, on_err, on_ok}
 use Rattle.gitconf_state.specs.Edit.{with_used}
 use Rattle.gitconf_store.proofs.Edits.Editing.{as_err, items_within_at, on_both, unchanged_there}
 use Rattle.gitconf_store.proofs.Edits.Setting.{asked_at, changed_keeps, changed_view, kept_view, HasOthers}

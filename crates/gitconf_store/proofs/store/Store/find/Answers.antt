@@ -1,10 +1,10 @@
 use Rattle.std.proofs.Common.{true, ap, subst, ◌∙◌}
 use Rattle.std.specs.Option.{option_copied, option_map}
 use Rattle.std.specs.Prelude.{◌≡◌}
-use Rattle.gitconf_finding.specs.Finding.{last_place, place_of}
-use Rattle.gitconf_finding.specs.SomeSections.{AreSome}
-use Rattle.gitconf_finding.specs.Walks.{named_left}
-use Rattle.gitconf_finding.proofs.SomeSections.{with_some_named}
+use Rattle.gitconf_lookups.specs.Finding.{last_place, place_of}
+use Rattle.gitconf_lookups.specs.SomeSections.{AreSome}
+use Rattle.gitconf_lookups.specs.Walks.{named_left}
+use Rattle.gitconf_lookups.proofs.SomeSections.{with_some_named}
 use Rattle.gitconf_store.proofs.store.Store.find.Goals as goal
 
 pub returns : goal.returns

@@ -1,9 +1,9 @@
 use Rattle.std.proofs.Common.{true, ap, subst, ◌∙◌}
 use Rattle.std.specs.Option.{option_copied}
-use Rattle.gitconf_finding.specs.Finding.{AreFound, all_places}
-use Rattle.gitconf_finding.specs.SomeSections.{AreSome}
-use Rattle.gitconf_finding.specs.Walks.{named_left}
-use Rattle.gitconf_finding.proofs.SomeSections.{with_some_named}
+use Rattle.gitconf_lookups.specs.Finding.{AreFound, all_places}
+use Rattle.gitconf_lookups.specs.SomeSections.{AreSome}
+use Rattle.gitconf_lookups.specs.Walks.{named_left}
+use Rattle.gitconf_lookups.proofs.SomeSections.{with_some_named}
 use Rattle.gitconf_store.proofs.store.Store.find_all.Goals as goal
 
 pub returns : goal.returns

@@ -1,6 +1,6 @@
 use Rattle.std.proofs.Common.{◌∙◌, refl, subst, sym}
 use Rattle.gitconf_items.proofs.GroupLaws.{selected_items}
-use Rattle.gitconf_joining.specs.Loading.{IsLoading}
+use Rattle.gitconf_views.specs.Loading.{IsLoading}
 use Rattle.gitconf_state.specs.Made.{IsMade}
 use Rattle.gitconf_store.proofs.Texts.Parsed.{read_made, selected_clean, selected_document, selected_sound, whole_clean, whole_exact, whole_inserted}
 use Rattle.gitconf_store.proofs.store.Store.from_events.Goals as goal

@@ -1,7 +1,7 @@
 use Rattle.std.proofs.Common.{◌∙◌}
 use Rattle.gitconf_text.specs.LineEnds.{bytes_of_line_end}
 use Rattle.gitconf_store.proofs.Files.AppendedFiles.{included_at}
-use Rattle.gitconf_entries.proofs.Outcomes.{on_ok}
+use Rattle.gitconf_body.proofs.Outcomes.{on_ok}
 use Rattle.gitconf_store.proofs.store.Store.include.Goals as goal
 
 pub returns-clause-ok : goal.returns-clause-ok

@@ -4,10 +4,10 @@ use Rattle.std.specs.Option.{option_copied}
 use Rattle.std.specs.Prelude.{None}
 use Rattle.gitconf_state.specs.Lookup.{is_named, listing}
 use Rattle.gitconf_state.specs.State.{SectionState, State}
-use Rattle.gitconf_finding.specs.SomeSections.{AreSome}
+use Rattle.gitconf_lookups.specs.SomeSections.{AreSome}
 use Rattle.gitconf_views.specs.Store.{section_state}
 use Rattle.gitconf_views.specs.Views.{shown}
-use Rattle.gitconf_finding.specs.Walks.{named_left, passing}
+use Rattle.gitconf_lookups.specs.Walks.{named_left, passing}
 use Rattle.gitconf_store.proofs.Places.Targets.{target_missing, target_named, target_placed}
 use Rattle.gitconf_store.proofs.store.Store.last_target.Goals as goal
 

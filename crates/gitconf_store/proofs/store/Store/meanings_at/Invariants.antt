@@ -1,5 +1,5 @@
 use Rattle.std.proofs.Common.{◌≡◌, map, take}
-use Rattle.gitconf_finding.specs.Lookups.{texts_of}
+use Rattle.gitconf_lookups.specs.Lookups.{texts_of}
 use Rattle.gitconf_store.specs.Several.{meaning_of_place}
 use Rattle.gitconf_store.proofs.store.Store.meanings_at.Given as goal
 

@@ -1,6 +1,6 @@
 use Rattle.std.proofs.Common.{◌∙◌, length, refl, subst, sym}
 use Rattle.gitconf_items.specs.ItemsFit.{AreItemsWithin}
-use Rattle.gitconf_joining.specs.Loading.{IsLoading}
+use Rattle.gitconf_views.specs.Loading.{IsLoading}
 use Rattle.gitconf_store.proofs.Texts.Parsed.{read_state}
 use Rattle.gitconf_store.proofs.store.Store.of_text.Goals as goal
 

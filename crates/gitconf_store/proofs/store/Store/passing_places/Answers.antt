@@ -7,8 +7,8 @@ use Rattle.gitconf_state.specs.State.{SectionState, State}
 use Rattle.gitconf_store.specs.Renamings.{marked_places, AreMarks}
 use Rattle.gitconf_store.proofs.Places.Named.{named_so}
 use Rattle.gitconf_store.proofs.Headers.Renaming.{marks_shown, target_so, tests_shown}
-use Rattle.gitconf_finding.proofs.SectionsKept.{any_kept}
-use Rattle.gitconf_entries.proofs.Outcomes.{if_ok, on_err}
+use Rattle.gitconf_lookups.proofs.SectionsKept.{any_kept}
+use Rattle.gitconf_body.proofs.Outcomes.{if_ok, on_err}
 use Rattle.gitconf_store.proofs.store.Store.passing_places.Goals as goal
 
 pub returns-clause-some : goal.returns-clause-some

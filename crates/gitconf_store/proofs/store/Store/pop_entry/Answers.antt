@@ -9,10 +9,10 @@ use Rattle.gitconf_state.specs.Edits.{items_of_numbered, Entry, Pop}
 use Rattle.gitconf_state.specs.State.{is_item}
 use Rattle.gitconf_state.proofs.Edits.EditorItems.{popped_all}
 use Rattle.gitconf_state.proofs.Edits.Keep.{apply_items}
-use Rattle.gitconf_lines.specs.Places.{IsLastAt}
-use Rattle.gitconf_lines.specs.Spacings.{is_stored_entry}
+use Rattle.gitconf_body.specs.Places.{IsLastAt}
+use Rattle.gitconf_body.specs.Spacings.{is_stored_entry}
 use Rattle.gitconf_body.proofs.Taken.{popped_none, popped_entry_none, some_popped}
-use Rattle.gitconf_lines.proofs.Buffers.{same_extended}
+use Rattle.gitconf_body.proofs.Buffers.{same_extended}
 use Rattle.gitconf_sections.specs.Section.{Section, with_items, viewed}
 use Rattle.gitconf_views.specs.Store.{state_of, StoreFits}
 use Rattle.gitconf_store.proofs.Edits.Editing.{missing_stays, missing_told, numbered_items_at, numbered_kept, numbered_told, numbered_view, entry_inside}

@@ -8,9 +8,9 @@ use Rattle.gitconf_sections.specs.Section.{made}
 use Rattle.gitconf_views.specs.Alone.{whole}
 use Rattle.gitconf_views.specs.Store.{state_of, StoreFits}
 use Rattle.gitconf_store.proofs.Files.Appending.{items_up, nothing_moved, ok_or_err, pushed_fits, pushed_state, shown_there, two_ok, within_there}
-use Rattle.gitconf_joining.proofs.Loading.{sections_fit_more}
+use Rattle.gitconf_views.proofs.Loading.{sections_fit_more}
 use Rattle.gitconf_store.proofs.Headers.Making.{longer_fits, same_fits}
-use Rattle.gitconf_entries.proofs.Outcomes.{if_err_at_all}
+use Rattle.gitconf_body.proofs.Outcomes.{if_err_at_all}
 use Rattle.gitconf_store.proofs.Edits.Setting.{sections_fit_in}
 use Rattle.gitconf_store.proofs.store.Store.push_section.Goals as goal
 

@@ -7,16 +7,16 @@ use Rattle.gitconf_items.specs.ShownEvents.{IsExtended}
 use Rattle.std.specs.Prelude.{OnErr, OnOk}
 use Rattle.gitconf_state.specs.Edit.{with_used}
 use Rattle.gitconf_store.specs.Appends.{IsLineAt}
-use Rattle.gitconf_joining.specs.Joining.{AreSame}
-use Rattle.gitconf_lines.proofs.Buffers.{same_extended}
+use Rattle.gitconf_views.specs.Joining.{AreSame}
+use Rattle.gitconf_body.proofs.Buffers.{same_extended}
 use Rattle.gitconf_items.specs.Moves.{AreItemsMoved}
 use Rattle.gitconf_text.specs.LineEnds.{bytes_of_line_end}
 use Rattle.gitconf_store.specs.Appends.{bytes_at, line_at, put_at}
-use Rattle.gitconf_joining.specs.Moves.{AreSectionsMoved}
+use Rattle.gitconf_views.specs.Moves.{AreSectionsMoved}
 use Rattle.gitconf_store.proofs.Files.AppendedFiles.{by_result, moved_count, movable, neither, not_refused, put_fits, put_state, same_fits as unchanged_fits, same_state}
 use Rattle.gitconf_store.proofs.Files.Appending.{items_up, two_ok}
 use Rattle.gitconf_store.proofs.Headers.Making.{same_fits}
-use Rattle.gitconf_entries.proofs.Outcomes.{if_err_at_all}
+use Rattle.gitconf_body.proofs.Outcomes.{if_err_at_all}
 use Rattle.gitconf_store.proofs.store.Store.put_at.Goals as goal
 
 pub invariant_of-self : goal.invariant_of-self

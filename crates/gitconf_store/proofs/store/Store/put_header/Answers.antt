@@ -8,7 +8,7 @@ use Rattle.gitconf_views.specs.Store.{state_of, StoreFits}
 use Rattle.gitconf_store.specs.Renamings.{with_renamed}
 use Rattle.gitconf_store.proofs.Headers.Making.{longer_fits, same_fits}
 use Rattle.gitconf_store.proofs.Headers.Renaming.{IsHeaded, both_at, named_length, places_there, renamed_fits, renamed_state}
-use Rattle.gitconf_entries.proofs.Outcomes.{if_err_at_all}
+use Rattle.gitconf_body.proofs.Outcomes.{if_err_at_all}
 use Rattle.gitconf_store.proofs.store.Store.put_header.Goals as goal
 
 pub invariant_of-self : goal.invariant_of-self

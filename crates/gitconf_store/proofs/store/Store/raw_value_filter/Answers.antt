@@ -1,10 +1,10 @@
 use Rattle.std.proofs.Common.{true, subst, sym}
 use Rattle.bstr.specs.Owned.{bstring_bytes}
-use Rattle.gitconf_finding.specs.Lookups.{miss_at, value_at}
-use Rattle.gitconf_base.specs.Key.{key_of}
+use Rattle.gitconf_lookups.specs.Lookups.{miss_at, value_at}
+use Rattle.gitconf_sources.specs.Key.{key_of}
 use Rattle.gitconf_state.specs.Edits.{with_sections}
-use Rattle.gitconf_finding.specs.Misses.{IsExisting}
-use Rattle.gitconf_finding.proofs.Answering.{existing_told}
+use Rattle.gitconf_lookups.specs.Misses.{IsExisting}
+use Rattle.gitconf_lookups.proofs.Answering.{existing_told}
 use Rattle.gitconf_store.proofs.store.Store.raw_value_filter.Goals as goal
 
 pub returns : goal.returns

@@ -1,11 +1,11 @@
 use Rattle.std.proofs.Common.{true, subst, sym}
 use Rattle.std.specs.Option.{option_map}
-use Rattle.gitconf_finding.specs.Lookups.{miss_at, shown_with, value_in}
-use Rattle.gitconf_base.specs.Key.{key_of}
+use Rattle.gitconf_lookups.specs.Lookups.{miss_at, shown_with, value_in}
+use Rattle.gitconf_sources.specs.Key.{key_of}
 use Rattle.gitconf_state.specs.Edits.{with_sections}
-use Rattle.gitconf_finding.specs.Finding.{place_of}
-use Rattle.gitconf_finding.specs.Misses.{IsExisting}
-use Rattle.gitconf_finding.proofs.Answering.{existing_told, text_with_section_told}
+use Rattle.gitconf_lookups.specs.Finding.{place_of}
+use Rattle.gitconf_lookups.specs.Misses.{IsExisting}
+use Rattle.gitconf_lookups.proofs.Answering.{existing_told, text_with_section_told}
 use Rattle.gitconf_store.proofs.store.Store.raw_value_with_section_filter.Goals as goal
 
 pub returns : goal.returns

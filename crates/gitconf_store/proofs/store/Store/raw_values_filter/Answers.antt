@@ -1,9 +1,9 @@
 use Rattle.std.proofs.Common.{true, subst, sym}
-use Rattle.gitconf_finding.specs.Lookups.{miss_at, texts_of, if_any, values_at}
-use Rattle.gitconf_base.specs.Key.{key_of}
+use Rattle.gitconf_lookups.specs.Lookups.{miss_at, texts_of, if_any, values_at}
+use Rattle.gitconf_sources.specs.Key.{key_of}
 use Rattle.gitconf_state.specs.Edits.{with_sections}
-use Rattle.gitconf_finding.specs.Misses.{IsExisting}
-use Rattle.gitconf_finding.proofs.Answering.{existing_told}
+use Rattle.gitconf_lookups.specs.Misses.{IsExisting}
+use Rattle.gitconf_lookups.proofs.Answering.{existing_told}
 use Rattle.gitconf_store.proofs.store.Store.raw_values_filter.Goals as goal
 
 pub returns : goal.returns

@@ -1,10 +1,10 @@
 use Rattle.std.proofs.Common.{true, subst, sym}
 use Rattle.std.specs.Prelude.{map}
-use Rattle.gitconf_finding.specs.Lookups.{miss_at, shown_with, if_any, values_in}
-use Rattle.gitconf_base.specs.Key.{key_of}
+use Rattle.gitconf_lookups.specs.Lookups.{miss_at, shown_with, if_any, values_in}
+use Rattle.gitconf_sources.specs.Key.{key_of}
 use Rattle.gitconf_state.specs.Edits.{with_sections}
-use Rattle.gitconf_finding.specs.Misses.{IsExisting}
-use Rattle.gitconf_finding.proofs.Answering.{existing_told, texts_with_sections_told}
+use Rattle.gitconf_lookups.specs.Misses.{IsExisting}
+use Rattle.gitconf_lookups.proofs.Answering.{existing_told, texts_with_sections_told}
 use Rattle.gitconf_store.proofs.store.Store.raw_values_with_sections_filter.Goals as goal
 
 pub returns : goal.returns

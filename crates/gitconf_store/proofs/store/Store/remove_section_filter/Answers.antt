@@ -4,11 +4,11 @@ use Rattle.std.specs.Option.{option_copied}
 use Rattle.gitconf_text.specs.declared.memory.NoMemory.{NoMemory}
 use Rattle.gitconf_state.specs.Edits.{without_numbered}
 use Rattle.gitconf_store.specs.Removals.{IsTakenOut, without_section}
-use Rattle.gitconf_finding.specs.SomeSections.{AreSome}
+use Rattle.gitconf_lookups.specs.SomeSections.{AreSome}
 use Rattle.gitconf_views.specs.Views.{shown}
-use Rattle.gitconf_finding.specs.Walks.{passing}
+use Rattle.gitconf_lookups.specs.Walks.{passing}
 use Rattle.gitconf_store.proofs.Places.Numbering.{named_out, taken_none, taken_refused, taken_some}
-use Rattle.gitconf_finding.proofs.SomeSections.{with_some_named}
+use Rattle.gitconf_lookups.proofs.SomeSections.{with_some_named}
 use Rattle.gitconf_store.proofs.store.Store.remove_section_filter.Goals as goal
 
 pub returns-in_ok-section-in-Some-clause-ok : goal.returns-in_ok-section-in-Some-clause-ok

@@ -1,6 +1,6 @@
 use Rattle.std.proofs.Common.{rules, ◌≡◌, ◌∷◌, length, map, inl, ap}
 use Rattle.gitconf_store.proofs.Edits.Several.{begun, ended, one_more, puts_all, puts_refused, refused}
-use Rattle.gitconf_finding.proofs.ValuePlaces.{none_long}
+use Rattle.gitconf_lookups.proofs.ValuePlaces.{none_long}
 use Rattle.gitconf_store.proofs.store.Store.rewrite_all_entries_at.Goals as goal
 
 pub loop-place-init : goal.loop-place-init

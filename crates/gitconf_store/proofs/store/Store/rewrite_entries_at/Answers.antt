@@ -1,7 +1,7 @@
 use Rattle.std.proofs.Common.{rules, ◌≡◌, ◌<◌, ◌≤◌, [], ◌∷◌, get_or, length, map, inl, inr, ap, arith}
 use Rattle.std.proofs.lemmas.List.{drop_all, drop_more}
 use Rattle.gitconf_store.proofs.Edits.Several.{begun, ended, one_more, puts_all, puts_refused, refused}
-use Rattle.gitconf_finding.proofs.ValuePlaces.{none_long}
+use Rattle.gitconf_lookups.proofs.ValuePlaces.{none_long}
 use Rattle.gitconf_store.proofs.store.Store.rewrite_entries_at.Goals as goal
 
 pub loop-value-init : goal.loop-value-init

@@ -6,7 +6,7 @@ use Rattle.gitconf_state.specs.Editors.{written_at}
 use Rattle.gitconf_state.specs.Edit.{with_used}
 use Rattle.gitconf_state.specs.Edits.{change_items}
 use Rattle.gitconf_body.specs.ValuesAt.{instead_of}
-use Rattle.gitconf_finding.specs.ValuePlaces.{editor_of_numbered}
+use Rattle.gitconf_lookups.specs.ValuePlaces.{editor_of_numbered}
 use Rattle.gitconf_store.proofs.Edits.ItemsEdits.{rewritten_is}
 use Rattle.gitconf_store.proofs.store.Store.rewrite_entry_at.Goals as goal
 

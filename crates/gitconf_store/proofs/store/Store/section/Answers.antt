@@ -1,12 +1,12 @@
 use Rattle.std.proofs.Common.{true, List, None, refl, ap, sym, ◌∙◌}
 use Rattle.std.specs.List.{last_or}
 use Rattle.std.specs.Option.{option_copied}
-use Rattle.gitconf_base.specs.Metadata.{Meta}
+use Rattle.gitconf_sources.specs.Metadata.{Meta}
 use Rattle.gitconf_state.specs.Lookup as state
 use Rattle.gitconf_state.specs.State.{SectionState}
 use Rattle.gitconf_views.specs.Views.{shown}
-use Rattle.gitconf_finding.specs.Walks.{named_left, passing}
-use Rattle.gitconf_finding.proofs.SectionsKept.{any_listed, any_of_none, last_kept}
+use Rattle.gitconf_lookups.specs.Walks.{named_left, passing}
+use Rattle.gitconf_lookups.proofs.SectionsKept.{any_listed, any_of_none, last_kept}
 use Rattle.gitconf_store.proofs.store.Store.section.Goals as goal
 
 pub unreachable-requires : goal.unreachable-requires

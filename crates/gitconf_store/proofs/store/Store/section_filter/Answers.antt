@@ -2,15 +2,15 @@ use Rattle.std.proofs.Common.{rules, ◌≡◌, ◌∙◌, ℕ, Bool, true, List
 use Rattle.std.specs.Prelude.{IfErr, IsErr}
 use Rattle.std.specs.List.{last_or}
 use Rattle.std.specs.Option.{option_copied, option_map}
-use Rattle.gitconf_base.specs.Metadata.{Meta}
+use Rattle.gitconf_sources.specs.Metadata.{Meta}
 use Rattle.gitconf_state.specs.State.{State, with_sections}
 use Rattle.gitconf_views.specs.declared.section.SectionRef.{SectionRef}
-use Rattle.gitconf_finding.specs.declared.existing.Error.{Error}
-use Rattle.gitconf_finding.specs.Picks.{IsMissing, IsPassingSection}
-use Rattle.gitconf_finding.specs.SomeSections.{AreSome}
+use Rattle.gitconf_lookups.specs.declared.existing.Error.{Error}
+use Rattle.gitconf_lookups.specs.Picks.{IsMissing, IsPassingSection}
+use Rattle.gitconf_lookups.specs.SomeSections.{AreSome}
 use Rattle.gitconf_views.specs.Views.{shown}
-use Rattle.gitconf_finding.specs.Walks.{passing}
-use Rattle.gitconf_finding.proofs.SomeSections.{none_of, with_some_named}
+use Rattle.gitconf_lookups.specs.Walks.{passing}
+use Rattle.gitconf_lookups.proofs.SomeSections.{none_of, with_some_named}
 use Rattle.gitconf_store.proofs.store.Store.section_filter.Goals as goal
 
 -- what is missing is told with any filter

@@ -4,7 +4,7 @@ use Rattle.gitconf_sections.specs.Walks.{with_name_left}
 use Rattle.gitconf_text.specs.Sections.{has_name}
 use Rattle.gitconf_state.specs.Lookup as state
 use Rattle.gitconf_state.specs.State.{SectionState}
-use Rattle.gitconf_finding.proofs.SectionsKept.{any_kept, found_kept, name_so, none_kept, some_kept}
+use Rattle.gitconf_lookups.proofs.SectionsKept.{any_kept, found_kept, name_so, none_kept, some_kept}
 use Rattle.gitconf_views.proofs.Viewing.{lent_kept}
 use Rattle.gitconf_store.proofs.store.Store.sections_by_name.Goals as goal
 

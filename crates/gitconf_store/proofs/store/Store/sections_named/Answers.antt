@@ -4,7 +4,7 @@ use Rattle.gitconf_text.specs.Sections.{is_named}
 use Rattle.gitconf_state.specs.Lookup as state
 use Rattle.gitconf_state.specs.State.{SectionState}
 use Rattle.gitconf_store.proofs.Places.Named.{named_so}
-use Rattle.gitconf_finding.proofs.SectionsKept.{found_kept}
+use Rattle.gitconf_lookups.proofs.SectionsKept.{found_kept}
 use Rattle.gitconf_views.proofs.Viewing.{lent_kept}
 use Rattle.gitconf_store.proofs.store.Store.sections_named.Goals as goal
 

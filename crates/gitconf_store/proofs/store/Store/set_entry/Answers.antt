@@ -1,4 +1,4 @@
-use Rattle.gitconf_lines.specs.Blanks.{given_editor}
+use Rattle.gitconf_body.specs.Blanks.{given_editor}
 use Rattle.gitconf_state.proofs.Edits.EditorItems.{value_set_is}
 use Rattle.gitconf_store.proofs.store.Store.set_entry.Goals as goal
 

@@ -1,6 +1,6 @@
 use Rattle.std.proofs.Common.{rules, true, map}
 use Rattle.std.proofs.lemmas.Fn.{always_returns_same}
-use Rattle.gitconf_base.specs.Key.{key_of}
+use Rattle.gitconf_sources.specs.Key.{key_of}
 use Rattle.gitconf_store.specs.Several.{AreRewritten}
 use Rattle.gitconf_store.proofs.Edits.Several.{set_err, set_ok, unset}
 use Rattle.gitconf_store.proofs.store.Store.set_existing_raw_multi_value.Goals as goal

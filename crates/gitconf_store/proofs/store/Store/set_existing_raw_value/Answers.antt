@@ -4,7 +4,7 @@ use Rattle.gitconf_state.specs.Edit.{with_used}
 use Rattle.gitconf_state.specs.Edits.{apply}
 use Rattle.gitconf_store.specs.Edits.{UsedGrows}
 use Rattle.gitconf_store.specs.Existing.{rewriting, rewriting_bytes}
-use Rattle.gitconf_base.specs.Key.{key_of}
+use Rattle.gitconf_sources.specs.Key.{key_of}
 use Rattle.gitconf_store.proofs.Edits.Existing.{look_up_refused, puts_there, rewritten_err, rewritten_ok}
 use Rattle.gitconf_store.proofs.store.Store.set_existing_raw_value.Goals as goal
 

@@ -14,7 +14,7 @@ use Rattle.gitconf_state.specs.LineEnds.{file_line_end}
 use Rattle.gitconf_text.specs.LineEnds.{bytes_of_line_end}
 use Rattle.gitconf_sections.specs.Section.{Section, made}
 use Rattle.gitconf_views.specs.Store.{state_of, StoreFits}
-use Rattle.gitconf_entries.proofs.Outcomes.{if_err_at_all}
+use Rattle.gitconf_body.proofs.Outcomes.{if_err_at_all}
 use Rattle.gitconf_store.proofs.Headers.Making.{IsMadeWith, longer_fits, made_section, made_state, made_fits, same_fits}
 use Rattle.gitconf_store.proofs.store.Store.set_in_new.Goals as goal
 

@@ -2,7 +2,7 @@ use Rattle.std.proofs.Common.{rules, ◌≡◌, true, false, None, Some, Err, Ok
 use Rattle.std.specs.List.{list_any}
 use Rattle.std.specs.Option.{option_copied}
 use Rattle.gitconf_text.specs.Names.{is_value_name}
-use Rattle.gitconf_lines.specs.Places.{IsLastAt}
+use Rattle.gitconf_body.specs.Places.{IsLastAt}
 use Rattle.gitconf_state.specs.Edit.{is_target}
 use Rattle.gitconf_store.specs.Edits.{IsSet}
 use Rattle.gitconf_store.specs.SetErrors.{of_header, of_span}

@@ -1,9 +1,9 @@
 use Rattle.std.proofs.Common.{true}
 use Rattle.std.specs.Option.{option_map}
 use Rattle.gitconf_state.specs.Edits.{with_sections}
-use Rattle.gitconf_finding.specs.Finding.{place_of}
-use Rattle.gitconf_base.specs.Key.{key_of}
-use Rattle.gitconf_finding.proofs.Answering.{reported_text}
+use Rattle.gitconf_lookups.specs.Finding.{place_of}
+use Rattle.gitconf_sources.specs.Key.{key_of}
+use Rattle.gitconf_lookups.proofs.Answering.{reported_text}
 use Rattle.gitconf_store.proofs.store.Store.string_filter.Goals as goal
 
 pub returns : goal.returns

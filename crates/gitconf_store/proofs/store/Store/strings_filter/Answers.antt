@@ -1,7 +1,7 @@
 use Rattle.std.proofs.Common.{true}
 use Rattle.gitconf_state.specs.Edits.{with_sections}
-use Rattle.gitconf_base.specs.Key.{key_of}
-use Rattle.gitconf_finding.proofs.Answering.{texts_told}
+use Rattle.gitconf_sources.specs.Key.{key_of}
+use Rattle.gitconf_lookups.proofs.Answering.{texts_told}
 use Rattle.gitconf_store.proofs.store.Store.strings_filter.Goals as goal
 
 pub returns : goal.returns

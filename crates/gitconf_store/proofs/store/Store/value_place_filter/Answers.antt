@@ -3,14 +3,14 @@ use Rattle.std.specs.Option.{option_copied}
 use Rattle.std.specs.Prelude.{IfErr}
 use Rattle.gitconf_text.specs.Names.{is_value_name}
 use Rattle.gitconf_state.specs.Edits.{with_sections}
-use Rattle.gitconf_finding.specs.declared.existing.Error.TheVariants.{KeyMissing}
-use Rattle.gitconf_base.specs.Key.{key_of}
-use Rattle.gitconf_finding.specs.Picks.{IsMissing}
-use Rattle.gitconf_finding.specs.SomeSections.{AreSome}
-use Rattle.gitconf_finding.specs.ValuePlaces.{IsPlace, last_value_place, value_place}
-use Rattle.gitconf_finding.specs.Walks.{named_left}
-use Rattle.gitconf_finding.proofs.SomeSections.{none_of, with_some_named}
-use Rattle.gitconf_finding.proofs.ValuePlaces.{absent_placed, invalid_placed, place_stands, refused_anyway, refused_placed}
+use Rattle.gitconf_lookups.specs.declared.existing.Error.TheVariants.{KeyMissing}
+use Rattle.gitconf_sources.specs.Key.{key_of}
+use Rattle.gitconf_lookups.specs.Picks.{IsMissing}
+use Rattle.gitconf_lookups.specs.SomeSections.{AreSome}
+use Rattle.gitconf_lookups.specs.ValuePlaces.{IsPlace, last_value_place, value_place}
+use Rattle.gitconf_lookups.specs.Walks.{named_left}
+use Rattle.gitconf_lookups.proofs.SomeSections.{none_of, with_some_named}
+use Rattle.gitconf_lookups.proofs.ValuePlaces.{absent_placed, invalid_placed, place_stands, refused_anyway, refused_placed}
 use Rattle.gitconf_store.proofs.store.Store.value_place_filter.Goals as goal
 
 pub returns-in_err-check_named-clause-filtered : goal.returns-in_err-check_named-clause-filtered

@@ -3,14 +3,14 @@ use Rattle.std.specs.Option.{option_copied}
 use Rattle.std.specs.Prelude.{◌≢◌, IfErr}
 use Rattle.gitconf_text.specs.Names.{is_value_name}
 use Rattle.gitconf_state.specs.Edits.{with_sections}
-use Rattle.gitconf_finding.specs.declared.existing.Error.TheVariants.{Memory}
-use Rattle.gitconf_base.specs.Key.{key_of}
-use Rattle.gitconf_finding.specs.Picks.{IsMissing}
-use Rattle.gitconf_finding.specs.SomeSections.{AreSome}
-use Rattle.gitconf_finding.specs.ValuePlaces.{AreInOrder, all_value_places, key_places}
-use Rattle.gitconf_finding.specs.Walks.{named_left}
-use Rattle.gitconf_finding.proofs.SomeSections.{none_of, with_some_named}
-use Rattle.gitconf_finding.proofs.ValuePlaces.{absent_refused, all_places_stand, invalid_refused, missing_anyway, missing_places, none_long, wanting_places}
+use Rattle.gitconf_lookups.specs.declared.existing.Error.TheVariants.{Memory}
+use Rattle.gitconf_sources.specs.Key.{key_of}
+use Rattle.gitconf_lookups.specs.Picks.{IsMissing}
+use Rattle.gitconf_lookups.specs.SomeSections.{AreSome}
+use Rattle.gitconf_lookups.specs.ValuePlaces.{AreInOrder, all_value_places, key_places}
+use Rattle.gitconf_lookups.specs.Walks.{named_left}
+use Rattle.gitconf_lookups.proofs.SomeSections.{none_of, with_some_named}
+use Rattle.gitconf_lookups.proofs.ValuePlaces.{absent_refused, all_places_stand, invalid_refused, missing_anyway, missing_places, none_long, wanting_places}
 use Rattle.gitconf_store.proofs.store.Store.value_places_filter.Goals as goal
 
 pub returns-in_err-check_named-clause-filtered : goal.returns-in_err-check_named-clause-filtered

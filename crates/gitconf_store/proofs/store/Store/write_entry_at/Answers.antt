@@ -1,5 +1,5 @@
 use Rattle.gitconf_body.specs.ValuesAt.{instead_of}
-use Rattle.gitconf_lines.specs.Blanks.{given_editor}
+use Rattle.gitconf_body.specs.Blanks.{given_editor}
 use Rattle.gitconf_state.proofs.Edits.EditorItems.{written_at_is}
 use Rattle.gitconf_store.proofs.store.Store.write_entry_at.Goals as goal
 

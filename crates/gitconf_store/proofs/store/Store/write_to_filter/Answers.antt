@@ -6,12 +6,12 @@ use Rattle.gitconf_state.specs.Writing.{Closed}
 use Rattle.gitconf_state.proofs.Printing.ReadsBack.{kept_reads_back}
 use Rattle.gitconf_items.specs.Items.{items_of}
 use Rattle.gitconf_text.specs.LineEnds.{bytes_of_line_end}
-use Rattle.gitconf_write.specs.Texts.{items_text}
-use Rattle.gitconf_write.proofs.Left.{left_behind, left_fault, left_last}
+use Rattle.gitconf_print.specs.Texts.{items_text}
+use Rattle.gitconf_print.proofs.Left.{left_behind, left_fault, left_last}
 use Rattle.gitconf_views.specs.Texts.{line_end_unless, sections_text}
 use Rattle.gitconf_views.specs.Views.{sections_left}
 use Rattle.gitconf_views.proofs.Texts.{front_written, behind_same, behind_text, front_fault, front_left}
-use Rattle.gitconf_finding.proofs.SomeTexts.{ended_so, some_behind_fault, some_front_fault, some_sections}
+use Rattle.gitconf_lookups.proofs.SomeTexts.{ended_so, some_behind_fault, some_front_fault, some_sections}
 use Rattle.gitconf_store.proofs.store.Store.write_to_filter.Goals as goal
 
 pub returns-in_err-write_front-clause-exact : goal.returns-in_err-write_front-clause-exact

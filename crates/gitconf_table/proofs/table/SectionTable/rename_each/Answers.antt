@@ -1,6 +1,6 @@
 use Rattle.std.proofs.Common.{ap, ◌∙◌}
 use Rattle.std.specs.Option.{option_copied}
-use Rattle.gitconf_index.specs.Words.{set_each}
+use Rattle.gitconf_table.specs.Words.{set_each}
 use Rattle.gitconf_table.specs.Renames.{named_each}
 use Rattle.gitconf_table.specs.Word.{full_state, word_of}
 use Rattle.gitconf_table.specs.Rows.{entries_of}

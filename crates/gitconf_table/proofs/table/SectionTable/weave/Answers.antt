@@ -4,7 +4,7 @@ use Rattle.gitconf_table.specs.Rows.{entries_of, entry_of_row}
 use Rattle.gitconf_table.specs.Tables.{word_of_name}
 use Rattle.gitconf_table.proofs.RowLemmas.{rows_apart, rows_placed, rows_within}
 use Rattle.gitconf_table.proofs.SectionLemmas.{tables}
-use Rattle.gitconf_index.proofs.Woven.{all_woven}
+use Rattle.gitconf_table.proofs.Woven.{all_woven}
 use Rattle.gitconf_table.proofs.WovenTables.{rows_numbered, rows_woven, table_woven}
 use Rattle.gitconf_table.proofs.table.SectionTable.weave.Goals as goal
 

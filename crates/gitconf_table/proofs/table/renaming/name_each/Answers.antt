@@ -1,6 +1,6 @@
 use Rattle.std.proofs.Common.{rules, ◌≡◌, ◌∷◌, length, ◌∙◌}
 use Rattle.std.proofs.lemmas.List.{length-set}
-use Rattle.gitconf_index.proofs.SetWords.{first_within}
+use Rattle.gitconf_table.proofs.SetWords.{first_within}
 use Rattle.gitconf_table.proofs.RenamingLemmas.{row_step}
 use Rattle.gitconf_table.proofs.table.renaming.name_each.Goals as goal
 

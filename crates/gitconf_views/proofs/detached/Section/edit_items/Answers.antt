@@ -1,6 +1,6 @@
 use Rattle.std.proofs.Common.{rules, Ok, refl, subst, length}
 use Rattle.gitconf_items.specs.Items.{items_of}
-use Rattle.gitconf_entries.proofs.Outcomes.{either_way, on_ok}
+use Rattle.gitconf_body.proofs.Outcomes.{either_way, on_ok}
 use Rattle.gitconf_views.specs.declared.section.Section.{Section}
 use Rattle.gitconf_views.proofs.AloneEdits.{HasOwn, edited_alone, stands_still}
 use Rattle.gitconf_views.proofs.detached.Section.edit_items.Goals as goal

@@ -1,5 +1,5 @@
 use Rattle.std.specs.Option.{option_copied}
-use Rattle.gitconf_lines.specs.Blanks.{given_editor}
+use Rattle.gitconf_body.specs.Blanks.{given_editor}
 use Rattle.gitconf_state.proofs.Edits.EditorItems.{pushed_is}
 use Rattle.gitconf_views.proofs.detached.Section.push_entry.Goals as goal
 

@@ -1,4 +1,4 @@
-use Rattle.gitconf_lines.specs.Blanks.{given_editor}
+use Rattle.gitconf_body.specs.Blanks.{given_editor}
 use Rattle.gitconf_state.proofs.Edits.EditorItems.{line_end_pushed_is}
 use Rattle.gitconf_views.proofs.detached.Section.push_newline.Goals as goal
 

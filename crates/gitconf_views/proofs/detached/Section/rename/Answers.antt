@@ -6,8 +6,8 @@ use Rattle.gitconf_state.specs.Edit.{made_header}
 use Rattle.gitconf_state.specs.Edits.{renamed, Detached}
 use Rattle.gitconf_views.specs.Alone.{detached_of}
 use Rattle.gitconf_views.proofs.AloneEdits.{HasOwn, kept_alone, longer_stands, renamed_alone, renamed_stands}
-use Rattle.gitconf_entries.proofs.Outcomes.{if_err_at_all}
-use Rattle.gitconf_lines.proofs.Buffers.{extended_fit}
+use Rattle.gitconf_body.proofs.Outcomes.{if_err_at_all}
+use Rattle.gitconf_body.proofs.Buffers.{extended_fit}
 use Rattle.gitconf_views.proofs.detached.Section.rename.Goals as goal
 
 pub invariant_of-self : goal.invariant_of-self

@@ -1,10 +1,10 @@
 use Rattle.std.proofs.Common.{rules, ◌≡◌, true, Ok, Err, sym, subst}
 use Rattle.gitconf_text.specs.Names.{is_value_name}
 use Rattle.gitconf_state.specs.Editors.{value_set}
-use Rattle.gitconf_lines.specs.Blanks.{given_editor}
-use Rattle.gitconf_lines.specs.Puts.{value_set_bytes}
+use Rattle.gitconf_body.specs.Blanks.{given_editor}
+use Rattle.gitconf_body.specs.Puts.{value_set_bytes}
 use Rattle.gitconf_views.specs.Alone.{IsEditedAlone}
-use Rattle.gitconf_lines.specs.ValueErrors.{of_span, value_number}
+use Rattle.gitconf_body.specs.ValueErrors.{of_span, value_number}
 use Rattle.gitconf_views.proofs.AloneEdits.{done_with, refused_with, set_done, span_number}
 use Rattle.gitconf_views.proofs.detached.Section.set_line.Goals as goal
 

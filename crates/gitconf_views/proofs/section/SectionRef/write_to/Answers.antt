@@ -1,6 +1,6 @@
 use Rattle.std.proofs.Common.{sym, subst}
 use Rattle.gitconf_items.specs.Sink.{Writes}
-use Rattle.gitconf_write.proofs.Printed.{printed_section-is}
+use Rattle.gitconf_print.proofs.Printed.{printed_section-is}
 use Rattle.gitconf_views.specs.Views.{shown}
 use Rattle.gitconf_views.proofs.section.SectionRef.write_to.Goals as goal
 

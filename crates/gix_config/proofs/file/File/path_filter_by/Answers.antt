@@ -1,7 +1,7 @@
 use Rattle.std.proofs.Common.{true, subst}
 use Rattle.std.specs.Option.{option_copied}
-use Rattle.gitconf_finding.specs.Lookups.{key_at}
-use Rattle.gitconf_finding.specs.SomeSections.{WithSome}
+use Rattle.gitconf_lookups.specs.Lookups.{key_at}
+use Rattle.gitconf_lookups.specs.SomeSections.{WithSome}
 use Rattle.gix_config.specs.Typed.{IsPath}
 use Rattle.gix_config.proofs.file.File.path_filter_by.Goals as goal
 

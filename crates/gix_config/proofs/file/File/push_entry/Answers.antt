@@ -2,10 +2,10 @@ use Rattle.std.proofs.Common.{ap, ◌∙◌}
 use Rattle.std.specs.Option.{option_copied}
 use Rattle.gitconf_state.specs.Edits.{Push}
 use Rattle.gitconf_state.specs.Editors.{pushed}
-use Rattle.gitconf_lines.specs.Editors.{line_put}
+use Rattle.gitconf_body.specs.Editors.{line_put}
 use Rattle.gitconf_store.specs.Editors.{given_editor}
 use Rattle.gix_config.specs.Edited.{has_number}
-use Rattle.gitconf_lines.proofs.Puts.{line_is}
+use Rattle.gitconf_body.proofs.Puts.{line_is}
 use Rattle.gix_config.proofs.Numbers.{edited_in, edited_stands, items_keep_numbers}
 use Rattle.gix_config.proofs.file.File.push_entry.Goals as goal
 

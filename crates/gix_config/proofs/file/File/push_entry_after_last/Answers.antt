@@ -2,10 +2,10 @@ use Rattle.std.proofs.Common.{ap, ◌∙◌}
 use Rattle.std.specs.Option.{option_copied}
 use Rattle.gitconf_state.specs.Edits.{PushAfterLast, items_of_numbered}
 use Rattle.gitconf_state.specs.Editors.{pushed_after_last}
-use Rattle.gitconf_lines.specs.Below.{below_put}
+use Rattle.gitconf_body.specs.Below.{below_put}
 use Rattle.gitconf_store.specs.Editors.{given_editor}
 use Rattle.gix_config.specs.Edited.{has_number}
-use Rattle.gitconf_lines.proofs.Puts.{below_is}
+use Rattle.gitconf_body.proofs.Puts.{below_is}
 use Rattle.gix_config.proofs.Numbers.{edited_in, edited_stands, items_keep_numbers}
 use Rattle.gix_config.proofs.file.File.push_entry_after_last.Goals as goal
 

@@ -1,9 +1,9 @@
 use Rattle.bstr.specs.Owned.{bstring_bytes}
 use Rattle.std.proofs.Common.{true, subst}
 use Rattle.std.specs.Option.{option_copied}
-use Rattle.gitconf_finding.specs.Lookups.{IsRawValue, key_at, value_at, miss_at}
-use Rattle.gitconf_finding.specs.Misses.{IsExisting}
-use Rattle.gitconf_finding.specs.SomeSections.{WithSome}
+use Rattle.gitconf_lookups.specs.Lookups.{IsRawValue, key_at, value_at, miss_at}
+use Rattle.gitconf_lookups.specs.Misses.{IsExisting}
+use Rattle.gitconf_lookups.specs.SomeSections.{WithSome}
 use Rattle.gix_config.proofs.file.File.raw_value_filter_by.Goals as goal
 
 pub returns : goal.returns

@@ -1,8 +1,8 @@
 use Rattle.std.proofs.Common.{true, subst}
 use Rattle.std.specs.Option.{option_copied}
-use Rattle.gitconf_finding.specs.Lookups.{IsRawValueWithSection, key_at, value_in, miss_at, shown_with}
-use Rattle.gitconf_finding.specs.Misses.{IsExisting}
-use Rattle.gitconf_finding.specs.SomeSections.{WithSome}
+use Rattle.gitconf_lookups.specs.Lookups.{IsRawValueWithSection, key_at, value_in, miss_at, shown_with}
+use Rattle.gitconf_lookups.specs.Misses.{IsExisting}
+use Rattle.gitconf_lookups.specs.SomeSections.{WithSome}
 use Rattle.gix_config.proofs.file.File.raw_value_with_section_filter_by.Goals as goal
 
 pub returns : goal.returns

@@ -3,9 +3,9 @@ use Rattle.std.specs.declared.vec.Vec.{Vec}
 use Rattle.gitconf_views.specs.declared.section.SectionRef.{SectionRef}
 use Rattle.bstr.specs.declared.bstring.BString.{BString}
 use Rattle.std.specs.Option.{option_copied}
-use Rattle.gitconf_finding.specs.Lookups.{AreRawValuesWithSections, key_at, values_in, miss_at, shown_with, if_any}
-use Rattle.gitconf_finding.specs.Misses.{IsExisting}
-use Rattle.gitconf_finding.specs.SomeSections.{WithSome}
+use Rattle.gitconf_lookups.specs.Lookups.{AreRawValuesWithSections, key_at, values_in, miss_at, shown_with, if_any}
+use Rattle.gitconf_lookups.specs.Misses.{IsExisting}
+use Rattle.gitconf_lookups.specs.SomeSections.{WithSome}
 use Rattle.gix_config.proofs.file.File.raw_values_with_sections_filter_by.Goals as goal
 
 pub returns : goal.returns

@@ -2,8 +2,8 @@ use Rattle.std.proofs.Common.{◌≡◌, true, subst}
 use Rattle.std.specs.Option.{option_copied}
 use Rattle.std.specs.Prelude.{OnOk}
 use Rattle.gitconf_state.specs.Edits.{RemoveSection, apply}
-use Rattle.gitconf_finding.specs.Picks.{picked}
-use Rattle.gitconf_finding.specs.SomeSections.{WithSome}
+use Rattle.gitconf_lookups.specs.Picks.{picked}
+use Rattle.gitconf_lookups.specs.SomeSections.{WithSome}
 use Rattle.gitconf_store.specs.Removals.{IsTakenOut}
 use Rattle.gix_config.proofs.file.File.remove_section_filter.Goals as goal
 

@@ -1,7 +1,7 @@
 use Rattle.std.proofs.Common.{true, subst}
 use Rattle.std.specs.Option.{option_copied}
-use Rattle.gitconf_finding.specs.Picks.{IsPassingSection}
-use Rattle.gitconf_finding.specs.SomeSections.{WithSome}
+use Rattle.gitconf_lookups.specs.Picks.{IsPassingSection}
+use Rattle.gitconf_lookups.specs.SomeSections.{WithSome}
 use Rattle.gix_config.proofs.file.File.section_filter.Goals as goal
 
 pub returns-clause-filtered : goal.returns-clause-filtered

@@ -1,5 +1,5 @@
 use Rattle.std.proofs.Common.{rules, []}
-use Rattle.gitconf_finding.proofs.SomeSections.{none_of}
+use Rattle.gitconf_lookups.proofs.SomeSections.{none_of}
 use Rattle.gix_config.proofs.file.File.section_filter_by_key.Goals as goal
 
 pub returns-in-None : goal.returns-in-None

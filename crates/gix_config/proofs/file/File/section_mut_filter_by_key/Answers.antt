@@ -1,5 +1,5 @@
 use Rattle.std.proofs.Common.{rules, []}
-use Rattle.gitconf_finding.proofs.SomeSections.{none_of}
+use Rattle.gitconf_lookups.proofs.SomeSections.{none_of}
 use Rattle.gix_config.proofs.file.File.section_mut_filter_by_key.Goals as goal
 
 pub returns-in_default : goal.returns-in_default

@@ -1,10 +1,10 @@
 use Rattle.std.proofs.Common.{ap, ◌∙◌}
 use Rattle.gitconf_state.specs.Edits.{SetValue, items_of_numbered}
 use Rattle.gitconf_state.specs.Editors.{value_set}
-use Rattle.gitconf_lines.specs.Editors.{set_put}
+use Rattle.gitconf_body.specs.Editors.{set_put}
 use Rattle.gitconf_store.specs.Editors.{given_editor}
 use Rattle.gix_config.specs.Edited.{has_number}
-use Rattle.gitconf_lines.proofs.Puts.{set_is}
+use Rattle.gitconf_body.proofs.Puts.{set_is}
 use Rattle.gix_config.proofs.Numbers.{edited_in, edited_stands, items_keep_numbers}
 use Rattle.gix_config.proofs.file.File.set_entry.Goals as goal
 

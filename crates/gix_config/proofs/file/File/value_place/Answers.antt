@@ -1,7 +1,7 @@
 use Rattle.std.proofs.Common.{true, subst}
-use Rattle.gitconf_base.specs.Key.{key_of}
-use Rattle.gitconf_finding.specs.SomeSections.{WithSome}
-use Rattle.gitconf_finding.specs.ValuePlaces.{IsPlace, value_place}
+use Rattle.gitconf_sources.specs.Key.{key_of}
+use Rattle.gitconf_lookups.specs.SomeSections.{WithSome}
+use Rattle.gitconf_lookups.specs.ValuePlaces.{IsPlace, value_place}
 use Rattle.gix_config.proofs.file.File.value_place.Goals as goal
 
 pub returns-clause-filtered : goal.returns-clause-filtered

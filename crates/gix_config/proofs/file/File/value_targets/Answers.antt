@@ -1,8 +1,8 @@
 use Rattle.std.proofs.Common.{rules, true, Ok, subst}
-use Rattle.gitconf_base.specs.Key.{key_of}
+use Rattle.gitconf_sources.specs.Key.{key_of}
 use Rattle.gitconf_state.specs.Edits.{with_sections}
-use Rattle.gitconf_finding.specs.SomeSections.{WithSome}
-use Rattle.gitconf_finding.specs.ValuePlaces.{key_places}
+use Rattle.gitconf_lookups.specs.SomeSections.{WithSome}
+use Rattle.gitconf_lookups.specs.ValuePlaces.{key_places}
 use Rattle.gix_config.specs.MultiValueEditors.{AreFoundTargets, AreTargets}
 use Rattle.gix_config.proofs.MultiValueEditors.{found_targets, missed_targets, unspelled_targets}
 use Rattle.gix_config.proofs.file.File.value_targets.Goals as goal

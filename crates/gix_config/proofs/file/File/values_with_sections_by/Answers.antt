@@ -1,6 +1,6 @@
 use Rattle.std.proofs.Common.{true}
 use Rattle.std.specs.Option.{option_copied}
-use Rattle.gitconf_finding.specs.Lookups.{key_at, miss_at, values_in}
+use Rattle.gitconf_lookups.specs.Lookups.{key_at, miss_at, values_in}
 use Rattle.gix_config.proofs.file.File.values_with_sections_by.Goals as goal
 
 pub returns : goal.returns

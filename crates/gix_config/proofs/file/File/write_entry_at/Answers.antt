@@ -4,7 +4,7 @@ use Rattle.gitconf_state.specs.Editors.{written_at}
 use Rattle.gitconf_body.specs.ValuesAt.{instead_of, written_put}
 use Rattle.gitconf_store.specs.Editors.{given_editor}
 use Rattle.gix_config.specs.Edited.{has_number}
-use Rattle.gitconf_lines.proofs.Puts.{written_is}
+use Rattle.gitconf_body.proofs.Puts.{written_is}
 use Rattle.gix_config.proofs.Numbers.{edited_in, edited_stands, items_keep_numbers}
 use Rattle.gix_config.proofs.file.File.write_entry_at.Goals as goal
 

@@ -1,7 +1,7 @@
 use Rattle.std.proofs.Common.{rules, ◌≡◌, [], ◌∷◌, ◌++◌, map, refl, ap}
 use Rattle.std.specs.Vec.Iter.{into_iter_items, into_iter_len}
 use Rattle.bstr.specs.Owned.{bstring_bytes}
-use Rattle.gitconf_finding.specs.Lookups.{texts_of}
+use Rattle.gitconf_lookups.specs.Lookups.{texts_of}
 use Rattle.gix_config.proofs.Conversions.{all_done, no_items, one_done, one_refused}
 use Rattle.gix_config.proofs.file.all_values.values_of.Goals as goal
 

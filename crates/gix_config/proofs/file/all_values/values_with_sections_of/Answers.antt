@@ -2,7 +2,7 @@ use Rattle.std.proofs.Common.{rules, ◌≡◌, ◌∙◌, [], ◌∷◌, ◌++�
 use Rattle.std.proofs.lemmas.List.{map-append}
 use Rattle.std.specs.Vec.Iter.{into_iter_items, into_iter_len}
 use Rattle.bstr.specs.Owned.{bstring_bytes}
-use Rattle.gitconf_finding.specs.Lookups.{shown_with}
+use Rattle.gitconf_lookups.specs.Lookups.{shown_with}
 use Rattle.gitconf_views.specs.Views.{shown}
 use Rattle.gix_config.proofs.Conversions.{all_done, no_items, one_done, one_refused, told_beside}
 use Rattle.gix_config.proofs.file.all_values.values_with_sections_of.Goals as goal

@@ -1,6 +1,6 @@
 use Rattle.std.proofs.Common.{◌≡◌, ◌++◌, map}
 use Rattle.std.specs.Vec.Iter.{into_iter_items}
-use Rattle.gitconf_finding.specs.Lookups.{shown_with}
+use Rattle.gitconf_lookups.specs.Lookups.{shown_with}
 use Rattle.gitconf_views.specs.Views.{shown}
 use Rattle.gix_config.proofs.Conversions.{IsConverting}
 use Rattle.gix_config.proofs.file.all_values.values_with_sections_of.Given as goal

@@ -2,7 +2,7 @@ use Rattle.std.proofs.Common.{rules, ◌≡◌, [], ◌∷◌, ◌++◌, map, Ok
 use Rattle.std.specs.Vec.Iter.{into_iter_items}
 use Rattle.bstr.specs.Owned.{bstring_bytes}
 use Rattle.gitconf_values.specs.Integers.{integer_or_refusal}
-use Rattle.gitconf_finding.specs.Lookups.{texts_of}
+use Rattle.gitconf_lookups.specs.Lookups.{texts_of}
 use Rattle.gix_config.specs.Typed.{integers_or_refusal}
 use Rattle.gix_config.proofs.Integers.{one_before}
 use Rattle.gix_config.proofs.file.typed.integers_of.Goals as goal

@@ -1,7 +1,7 @@
 use Rattle.std.proofs.Common.{◌≡◌, map}
 use Rattle.std.specs.Vec.Iter.{into_iter_items}
 use Rattle.bstr.specs.Owned.{bstring_bytes}
-use Rattle.gitconf_finding.specs.Lookups.{texts_of}
+use Rattle.gitconf_lookups.specs.Lookups.{texts_of}
 use Rattle.gix_config.specs.Typed.{integers_or_refusal}
 use Rattle.gix_config.proofs.Integers.{behind}
 use Rattle.gix_config.proofs.file.typed.integers_of.Given as goal

@@ -1,6 +1,6 @@
 use Rattle.std.proofs.Common.{subst}
 use Rattle.bstr.specs.Owned.{bstring_bytes}
-use Rattle.gitconf_finding.specs.Misses.{IsExisting}
+use Rattle.gitconf_lookups.specs.Misses.{IsExisting}
 use Rattle.gix_config.proofs.file.values.converted.Goals as goal
 
 pub returns-in-Ok-try_from : goal.returns-in-Ok-try_from

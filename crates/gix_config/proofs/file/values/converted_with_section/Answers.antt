@@ -1,7 +1,7 @@
 use Rattle.std.proofs.Common.{ap, subst}
 use Rattle.std.specs.Option.{option_map}
-use Rattle.gitconf_finding.specs.Lookups.{shown_with}
-use Rattle.gitconf_finding.specs.Misses.{IsExisting}
+use Rattle.gitconf_lookups.specs.Lookups.{shown_with}
+use Rattle.gitconf_lookups.specs.Misses.{IsExisting}
 use Rattle.gix_config.proofs.file.values.converted_with_section.Goals as goal
 
 pub returns-in-Ok-try_from : goal.returns-in-Ok-try_from

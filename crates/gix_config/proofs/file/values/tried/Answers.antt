@@ -1,7 +1,7 @@
 use Rattle.std.proofs.Common.{ap, subst, sym, ◌∙◌}
 use Rattle.std.specs.Option.{option_map}
 use Rattle.bstr.specs.Owned.{bstring_bytes}
-use Rattle.gitconf_finding.specs.Lookups.{IsFound}
+use Rattle.gitconf_lookups.specs.Lookups.{IsFound}
 use Rattle.gix_config.proofs.file.values.tried.Goals as goal
 
 pub returns-in-Ok : goal.returns-in-Ok

@@ -1,6 +1,6 @@
 use Rattle.std.proofs.Common.{rules, ◌≡◌, Ok, Err, refl, subst}
-use Rattle.gitconf_expansion.specs.Outcomes.{asks_of}
-use Rattle.gitconf_refusals.specs.Errors.{env_number}
+use Rattle.gitconf_includes.specs.Outcomes.{asks_of}
+use Rattle.gitconf_loaders.specs.Errors.{env_number}
 use Rattle.gitconf_loaders.specs.Globals.{empty_file}
 use Rattle.gix_config.specs.Environment.{ArePut, env_meta}
 use Rattle.gix_config.proofs.Entries.{count_cause, entries_count, entries_made, entries_refused, entry_cause, includes_count, includes_refused}

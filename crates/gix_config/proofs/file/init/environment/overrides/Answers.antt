@@ -1,6 +1,6 @@
 use Rattle.std.proofs.Common.{Ok, Err, subst}
 use Rattle.gitconf_includes.specs.Rules.{Rules}
-use Rattle.gitconf_refusals.specs.Errors.{env_number}
+use Rattle.gitconf_loaders.specs.Errors.{env_number}
 use Rattle.gix_config.specs.Environment.{IsFromEnv}
 use Rattle.gix_config.proofs.Entries.{not_overridden, overridden}
 use Rattle.gix_config.proofs.file.init.environment.overrides.Goals as goal

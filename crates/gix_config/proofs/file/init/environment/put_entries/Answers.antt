@@ -1,5 +1,5 @@
 use Rattle.std.proofs.Common.{Ok, Err, refl, ◌∙◌, subst}
-use Rattle.gitconf_refusals.specs.Errors.{env_number}
+use Rattle.gitconf_loaders.specs.Errors.{env_number}
 use Rattle.gix_config.specs.Environment.{IsEntryPut}
 use Rattle.gix_config.proofs.Entries.{all_put, entry_refused, from_first, one_put}
 use Rattle.gix_config.proofs.file.init.environment.put_entries.Goals as goal

@@ -1,8 +1,8 @@
 use Rattle.std.proofs.Common.{Ok, Err, subst, string_bytes}
 use Rattle.std.specs.Option.{option_map}
-use Rattle.gitconf_refusals.specs.Errors.{env_number}
+use Rattle.gitconf_loaders.specs.Errors.{env_number}
 use Rattle.gitconf_loaders.specs.Paths.{left_by}
-use Rattle.gitconf_refusals.specs.Variables.{IsValueAt}
+use Rattle.gitconf_loaders.specs.Variables.{IsValueAt}
 use Rattle.gix_config.proofs.Entries.{entry_put, key_refused, value_refused}
 use Rattle.gix_config.proofs.file.init.environment.put_entry.Goals as goal
 

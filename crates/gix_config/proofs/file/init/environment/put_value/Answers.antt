@@ -1,7 +1,7 @@
 use Rattle.std.proofs.Common.{rules, Ok, Err, ap, ◌∙◌, subst, true, string_bytes}
 use Rattle.std.specs.Option.{option_map}
-use Rattle.gitconf_base.specs.Key.{key_of}
-use Rattle.gitconf_refusals.specs.Errors.{env_number}
+use Rattle.gitconf_sources.specs.Key.{key_of}
+use Rattle.gitconf_loaders.specs.Errors.{env_number}
 use Rattle.gitconf_loaders.specs.Paths.{left_by}
 use Rattle.gix_config.specs.Environment.{IsPut}
 use Rattle.gix_config.specs.SectionEditors.{edited, editor_at, told}

@@ -1,9 +1,9 @@
 use Rattle.std.proofs.Common.{Ok, Err, refl, subst}
 use Rattle.gitconf_state.specs.State.{State}
-use Rattle.gitconf_expansion.specs.Outcomes.{asks_of}
+use Rattle.gitconf_includes.specs.Outcomes.{asks_of}
 use Rattle.gitconf_includes.specs.Errors.{includes_number}
 use Rattle.gitconf_loaders.proofs.Counts.{fault_load, same}
-use Rattle.gitconf_refusals.specs.Errors.{git_number, git_of_includes}
+use Rattle.gitconf_loaders.specs.Errors.{git_number, git_of_includes}
 use Rattle.gix_config.specs.Repository.{IsGitCause, AreOwnAndOverridesBehind, parts_of}
 use Rattle.gix_config.proofs.Repositories.{all_joined, expansion_cause, first_not_expanded, git_count, handed_cause, of_includes, own_not_put}
 use Rattle.gix_config.proofs.file.init.repository.joined.Goals as goal

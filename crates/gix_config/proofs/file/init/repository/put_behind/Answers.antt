@@ -1,7 +1,7 @@
 use Rattle.std.proofs.Common.{Ok, Err, ap}
 use Rattle.gitconf_includes.specs.Errors.{includes_number}
-use Rattle.gitconf_expansion.specs.Outcomes.{asks_of}
-use Rattle.gitconf_refusals.specs.Errors.{git_of_includes}
+use Rattle.gitconf_includes.specs.Outcomes.{asks_of}
+use Rattle.gitconf_loaders.specs.Errors.{git_of_includes}
 use Rattle.gix_config.specs.Repository.{IsExpanded}
 use Rattle.gix_config.proofs.Entries.{expanded_number}
 use Rattle.gix_config.proofs.Repositories.{first_refused, of_includes, then_put, then_refused}

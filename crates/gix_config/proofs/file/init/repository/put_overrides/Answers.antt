@@ -1,6 +1,6 @@
 use Rattle.std.proofs.Common.{Err, ap}
 use Rattle.gitconf_state.specs.State.{State}
-use Rattle.gitconf_refusals.specs.Errors.{env_number, git_of_env}
+use Rattle.gitconf_loaders.specs.Errors.{env_number, git_of_env}
 use Rattle.gitconf_loaders.proofs.Counts.{no_less}
 use Rattle.gix_config.specs.Environment.{IsOverrides}
 use Rattle.gix_config.proofs.Repositories.{first_refused, git_count, of_env, overriding_cause, then_put, then_refused}

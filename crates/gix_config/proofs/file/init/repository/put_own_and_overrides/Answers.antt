@@ -1,9 +1,9 @@
 use Rattle.std.proofs.Common.{Ok, subst}
 use Rattle.std.specs.Prelude.{IfErr}
-use Rattle.gitconf_expansion.specs.Outcomes.{asks_of}
+use Rattle.gitconf_includes.specs.Outcomes.{asks_of}
 use Rattle.gitconf_loaders.proofs.Counts.{later}
 use Rattle.gitconf_loaders.specs.Paths.{left_by, numbered}
-use Rattle.gitconf_refusals.specs.Errors.{git_number}
+use Rattle.gitconf_loaders.specs.Errors.{git_number}
 use Rattle.gix_config.specs.Repository.{AreOverridesBehind, IsOverridingCause, IsOwnBehind}
 use Rattle.gix_config.proofs.Repositories.{include_cause, last_cause, then_stopped}
 use Rattle.gix_config.proofs.file.init.repository.put_own_and_overrides.Goals as goal

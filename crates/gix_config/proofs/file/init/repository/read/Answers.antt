@@ -1,6 +1,6 @@
 use Rattle.std.proofs.Common.{◌≡◌, ◌⊎◌, ℕ, Ok, Err, Option, Result, ◌∙◌, subst, string_bytes}
 use Rattle.gitconf_state.specs.State.{State}
-use Rattle.gitconf_refusals.specs.Errors.{paths_number}
+use Rattle.gitconf_loaders.specs.Errors.{paths_number}
 use Rattle.gitconf_loaders.specs.Globals.{IsGlobal, IsGlobalCause}
 use Rattle.gitconf_loaders.proofs.Counts.{none_less}
 use Rattle.gix_config.specs.Repository.{IsWorktree}

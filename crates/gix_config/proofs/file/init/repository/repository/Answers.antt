@@ -1,10 +1,10 @@
 use Rattle.std.proofs.Common.{rules, ◌≡◌, ap, ◌∙◌, subst, string_bytes}
 use Rattle.std.specs.Prelude.{IfErr}
 use Rattle.gitconf_state.specs.State.{State}
-use Rattle.gitconf_expansion.specs.Outcomes.{asks_of}
+use Rattle.gitconf_includes.specs.Outcomes.{asks_of}
 use Rattle.gitconf_includes.specs.Rules.{resolved}
 use Rattle.gitconf_loaders.proofs.Counts.{later}
-use Rattle.gitconf_refusals.specs.Errors.{git_number}
+use Rattle.gitconf_loaders.specs.Errors.{git_number}
 use Rattle.gitconf_loaders.specs.Paths.{numbered}
 use Rattle.gix_config.specs.Repository.{folder_of, IsGitCause, IsJoined, local_path, parts_of}
 use Rattle.gix_config.proofs.Repositories.{joined_cause, not_read, read_and_joined, read_cause}

@@ -1,6 +1,6 @@
 use Rattle.std.proofs.Common.{rules, ◌≡◌, Ok, Err, inr, subst, true}
-use Rattle.gitconf_base.specs.declared.source.Source.TheVariants.{Worktree}
-use Rattle.gitconf_refusals.specs.Errors.{paths_number}
+use Rattle.gitconf_sources.specs.declared.source.Source.TheVariants.{Worktree}
+use Rattle.gitconf_loaders.specs.Errors.{paths_number}
 use Rattle.gitconf_loaders.specs.Paths.{IsLoadedFrom}
 use Rattle.gix_config.specs.Repository.{has_worktree}
 use Rattle.gix_config.proofs.Repositories.{a_worktree, worktree_refused}

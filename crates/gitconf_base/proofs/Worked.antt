@@ -1,2 +1,0 @@
--- Worked rows: what definitions say of single cases, by computation.
-pub mod Keys

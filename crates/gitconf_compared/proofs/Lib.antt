@@ -1,4 +1,0 @@
-pub mod Orders
-pub mod Groups
-pub mod Kept
-pub mod Walked

@@ -1,4 +1,0 @@
-//! Items and headers copied to another buffer.
-#![tactic(auto)]
-
-pub mod copying;

@@ -1,0 +1,3 @@
+pub mod PlainSettings
+pub mod Settings
+pub mod Differences

@@ -1,5 +1,0 @@
-use Rattle.gitconf_expansion.proofs.States.{items_stay}
-use Rattle.gitconf_expansion.proofs.laws.expansions_keep_items.Goals as goal
-
-pub returns : goal.returns
-returns c = items_stay

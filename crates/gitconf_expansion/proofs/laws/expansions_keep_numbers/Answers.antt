@@ -1,5 +1,0 @@
-use Rattle.gitconf_expansion.proofs.Numbers.{numbers_stay}
-use Rattle.gitconf_expansion.proofs.laws.expansions_keep_numbers.Goals as goal
-
-pub returns : goal.returns
-returns c = numbers_stay

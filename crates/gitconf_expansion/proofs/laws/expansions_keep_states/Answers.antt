@@ -1,5 +1,0 @@
-use Rattle.gitconf_expansion.proofs.Numbers.{states_stay}
-use Rattle.gitconf_expansion.proofs.laws.expansions_keep_states.Goals as goal
-
-pub returns : goal.returns
-returns c = states_stay

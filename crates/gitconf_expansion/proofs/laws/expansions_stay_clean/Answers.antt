@@ -1,5 +1,0 @@
-use Rattle.gitconf_expansion.proofs.States.{clean_stays}
-use Rattle.gitconf_expansion.proofs.laws.expansions_stay_clean.Goals as goal
-
-pub returns : goal.returns
-returns c = clean_stays

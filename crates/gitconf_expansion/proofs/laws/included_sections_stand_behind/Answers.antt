@@ -1,5 +1,0 @@
-use Rattle.gitconf_expansion.proofs.Behind.{stand_behind}
-use Rattle.gitconf_expansion.proofs.laws.included_sections_stand_behind.Goals as goal
-
-pub returns : goal.returns
-returns c = stand_behind

@@ -1,5 +1,0 @@
-use Rattle.gitconf_finding.proofs.Asking.{ComputesKey-call}
-use Rattle.gitconf_finding.proofs.filters.passes.Goals as goal
-
-pub returns-clause-exact : goal.returns-clause-exact
-returns-clause-exact g c = λ keeps h. ComputesKey-call keeps h c.filter.ensures

@@ -1,6 +1,0 @@
-use Rattle.gitconf_views.specs.Views.{shown}
-use Rattle.gitconf_finding.proofs.Asking.{ComputesKey-call}
-use Rattle.gitconf_finding.proofs.print.is_kept.Goals as goal
-
-pub returns-clause-exact : goal.returns-clause-exact
-returns-clause-exact g c = λ keeps h. ComputesKey-call (λ r. keeps (shown r)) h c.filter.ensures

@@ -1,2 +1,0 @@
-pub mod GatheredLists
-pub mod Gathered

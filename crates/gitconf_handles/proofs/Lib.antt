@@ -1,4 +1,0 @@
-pub mod Steps
-pub mod Words
-pub mod Owners
-pub mod LineStart

@@ -1,0 +1,98 @@
+-- What an expansion keeps of a file, and when two outcomes are alike.
+use Rattle.std.specs.Prelude.{◌≡◌, ◌≢◌, ◌<◌, ℕ, ltb, Bool, true, false, List, [], ◌∷◌, Option, Some, None, map, filter, Ok, Err, Result}
+use Rattle.std.specs.List.{AllByRecursion}
+use Rattle.gitconf_text.specs.Document.{IsText, gathered}
+use Rattle.gitconf_text.specs.Part.{Part}
+use Rattle.gitconf_sources.specs.Metadata.{Meta}
+use Rattle.gitconf_sources.specs.Reports.{FileReport, read_of}
+use Rattle.gitconf_sources.specs.declared.fault.FileFault.{FileFault}
+use Rattle.gitconf_includes.specs.declared.includes.Error.{Error}
+use Rattle.gitconf_includes.specs.Errors.{includes_number}
+use Rattle.gitconf_includes.specs.Rules.{Rules}
+use Rattle.gitconf_state.specs.Lookup.{listed}
+use Rattle.gitconf_state.specs.State.{entries_of, SectionState, State}
+use Rattle.gitconf_includes.specs.Expansion.{Asks, Reached, On, Ended}
+use Rattle.gitconf_includes.specs.Inclusion.{inclusion, NoInclude}
+
+-- the file that an outcome leaves
+abbrev pub file_of : Reached → State
+file_of (On done) = done
+file_of (Ended number file) = file
+
+-- a section without what is held after it
+abbrev pub unheld : SectionState → SectionState
+unheld s = record s { held = [] }
+
+-- the sections with numbers below `below`, in order, without what is held after them
+abbrev pub own_sections : (below : ℕ) → List SectionState → List SectionState
+own_sections below sections = map unheld (filter (λ s. ltb s.number below) sections)
+
+-- a file's own sections stay, in order, except for what is held after them; and so do its front and where it comes from
+pub record IsKept (old new : State) : Type 0 where
+  pub front : new.front ≡ old.front
+  pub meta : new.meta ≡ old.meta
+  pub sections : own_sections old.next new.sections ≡ map unheld old.sections
+
+-- Where the sections come from that an include of a section from `from` put in, directly or further down: the same source and trust, and a
+-- greater level.
+pub record IsIncludedBy (from meta : Meta) : Type 0 where
+  pub source : meta.source ≡ from.source
+  pub trust : meta.trust ≡ from.trust
+  pub level : from.level < meta.level
+
+-- a section that was put in follows an own section, whose include put it in
+abbrev pub IsBehind : (own : Option Meta) → (meta : Meta) → Type 0
+IsBehind None meta = ⊥
+IsBehind (Some from) meta = IsIncludedBy from meta
+
+-- Sections with numbers below `below` are a file's own. Each other one was put in: it follows an own one, and an include of the nearest own
+-- one before it put it in. `own` is where the last own section before all these comes from, if there is one.
+abbrev pub StandBehind : (below : ℕ) → (own : Option Meta) → List SectionState → Type 0
+StandBehind below own [] = Unit {0}
+StandBehind below own (s ∷ sections) = elim (ltb s.number below) [
+  | true ↦ StandBehind below (Some s.meta) sections
+  | false ↦ IsBehind own s.meta × StandBehind below own sections
+]
+
+-- none of the sections includes anything
+abbrev pub IncludesNothing : State → Type 0
+IncludesNothing state = AllByRecursion (λ s. inclusion s ≡ NoInclude) state.sections
+
+-- a file is as it was, also where memory ran out
+abbrev pub IsAsItWas : Result Unit Error → (old new : State) → Type 0
+IsAsItWas (Ok done) old new = new ≡ old
+IsAsItWas (Err e) old new = (includes_number e ≡ 27) × (new ≡ old)
+
+-- none of the texts at the paths has an entry before its first section
+abbrev pub AreHeaded : (files : List ℕ → FileReport) → Type 0
+AreHeaded files = (path text : List ℕ) (parts : List Part) → ◌≡◌ {A = Result (List ℕ) FileFault} (read_of (files path)) (Ok text) → IsText text parts → (gathered parts).front ≡ []
+
+-- Files say the same: their fronts have the same entries, and their sections the same numbers, the same documents, and come from the same
+-- places; and the next section gets the same number.
+pub record SayTheSame (one other : State) : Type 0 where
+  pub front : entries_of one.front ≡ entries_of other.front
+  pub sections : listed one ≡ listed other
+  pub next : one.next ≡ other.next
+
+-- the same of the files that include others, or there are none
+abbrev pub ParentsSayTheSame : (one other : Option State) → Type 0
+ParentsSayTheSame None None = Unit {0}
+ParentsSayTheSame None (Some other) = ⊥
+ParentsSayTheSame (Some one) None = ⊥
+ParentsSayTheSame (Some one) (Some other) = SayTheSame one other
+
+-- an expansion by these rules and files, which keeps everything of each included file, or only what has a meaning
+abbrev pub asks_with : (lossy : Bool) → Rules → (files : List ℕ → FileReport) → Asks
+asks_with lossy rules files = record { rules = record rules { lossy = lossy }; table = Some files }
+
+-- an outcome other than running out of memory
+abbrev pub IsAnswered : Reached → Type 0
+IsAnswered (On done) = Unit {0}
+IsAnswered (Ended number file) = number ≢ 27
+
+-- Calls on one file end alike: both leave the same file, and both are done, or refused with one number.
+abbrev pub EndAlike : (one other : Result Unit Error) → (new left : State) → Type 0
+EndAlike (Ok done) (Ok made) new left = new ≡ left
+EndAlike (Ok done) (Err f) new left = ⊥
+EndAlike (Err e) (Ok made) new left = ⊥
+EndAlike (Err e) (Err f) new left = (includes_number e ≡ includes_number f) × (new ≡ left)

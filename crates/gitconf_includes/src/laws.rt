@@ -1,0 +1,86 @@
+//! What holds of expansions, for all files and sources of files: each law is a function that does nothing.
+ghost use Rattle.std.specs.Prelude.{◌≡◌, ◌≢◌, ◌⊎◌, ℕ, suc, true, false, Bool, IfErr, List, None, Option, Result, Some};
+ghost use Rattle.gitconf_sources.specs.Metadata.{Meta};
+ghost use Rattle.gitconf_sources.specs.Reports.{FileReport};
+ghost use Rattle.gitconf_includes.specs.declared.includes.Error.{Error};
+ghost use Rattle.gitconf_includes.specs.Errors.{includes_number};
+ghost use Rattle.gitconf_includes.specs.Rules.{Rules};
+ghost use Rattle.gitconf_state.specs.Clean.{IsClean};
+ghost use Rattle.gitconf_state.specs.State.{document_of, AreNumbered, HasItems, IsState, State};
+ghost use Rattle.gitconf_includes.specs.Expansion.{Asks, Ended, Expands, IsLoadOf, On, Reached, Resolves};
+ghost use Rattle.gitconf_includes.specs.Laws.{file_of, AreHeaded, EndAlike, IncludesNothing, asks_with, IsAnswered, IsAsItWas, IsKept, ParentsSayTheSame, SayTheSame, StandBehind};
+
+/// Whatever the outcome, a file's own sections stay in their order, with their numbers and with where they come from, and so do its front and
+/// where it comes from itself; only the items held after sections may be more.
+pub fn own_sections_stay()
+    ensures { (left : ℕ) (asks : Asks) (parent : Option State) (old : State) (r : Reached) → AreNumbered old.next old.sections
+        → Expands left asks parent old r → IsKept old (file_of r) }
+{}
+
+/// Each section that was put in follows one of the file's own, whose source and trust it has, with a greater level.
+pub fn included_sections_stand_behind()
+    ensures { (left : ℕ) (asks : Asks) (parent : Option State) (old : State) (r : Reached) → AreNumbered old.next old.sections
+        → Expands left asks parent old r → StandBehind old.next None (file_of r).sections }
+{}
+
+/// The expansion of a file whose items are those that a text may have has such items too, whatever the outcome.
+pub fn expansions_keep_items()
+    ensures { (left : ℕ) (asks : Asks) (parent : Option State) (old : State) (r : Reached) → HasItems old → Expands left asks parent old r
+        → HasItems (file_of r) }
+{}
+
+/// An expansion gives no number twice, and none that a section had before.
+pub fn expansions_keep_numbers()
+    ensures { (left : ℕ) (asks : Asks) (parent : Option State) (old : State) (r : Reached) → AreNumbered old.next old.sections
+        → Expands left asks parent old r → AreNumbered (file_of r).next (file_of r).sections }
+{}
+
+/// What holds of every file that was loaded or edited also holds of it after an expansion, whatever the outcome: its items are those that a
+/// text may have, no number was given twice, and the greatest was not given.
+pub fn expansions_keep_states()
+    ensures { (left : ℕ) (asks : Asks) (parent : Option State) (old : State) (r : Reached) → IsState old → Expands left asks parent old r
+        → IsState (file_of r) }
+{}
+
+/// A clean file stays clean, whatever the outcome, if no text that may be included has an entry before its first section: so what is
+/// written of it reads back.
+pub fn expansions_stay_clean()
+    ensures { (files : List ℕ → FileReport) (left : ℕ) (asks : Asks) (parent : Option State) (old : State) (r : Reached) → asks.table ≡ Some files
+        → AreHeaded files → IsClean old
+        → Expands left asks parent old r → IsClean (file_of r) }
+{}
+
+/// A file whose sections include nothing is left as it is, or memory ran out. An expansion with no level left is not
+/// meant: it may be refused.
+pub fn nothing_is_included()
+    ensures expanded { (left : ℕ) (asks : Asks) (parent : Option State) (old : State) (r : Reached) → IncludesNothing old
+        → Expands (suc left) asks parent old r → (r ≡ On old) ⊎ (r ≡ Ended 27 old) }
+    ensures resolved { (asks : Asks) (old new : State) (result : Result Unit Error) → IncludesNothing old
+        → Resolves includes_number asks old result new → IsAsItWas result old new }
+{}
+
+/// A lossy expansion gives what one gives that keeps everything, if neither is refused: for files that say the same, and so for one file.
+/// If one is refused nothing is said, since what is left out takes no room.
+pub fn lossy_expansions_say_the_same()
+    ensures same { (rules : Rules) (files : List ℕ → FileReport) (left : ℕ) (parent other_parent : Option State) (old other full lossy : State)
+        → ParentsSayTheSame parent other_parent → SayTheSame old other
+        → Expands left (asks_with false rules files) parent old (On full) → Expands left (asks_with true rules files) other_parent other (On lossy)
+        → SayTheSame full lossy }
+    ensures document { (rules : Rules) (files : List ℕ → FileReport) (left : ℕ) (parent : Option State) (old full lossy : State)
+        → Expands left (asks_with false rules files) parent old (On full) → Expands left (asks_with true rules files) parent old (On lossy)
+        → document_of full ≡ document_of lossy }
+{}
+
+/// If the host says what is at each path, an expansion has one outcome, apart from running out of memory, and so has a call: two that are
+/// made on one file leave the same file, or are refused with one number and leave files that differ only in their buffers. A text has one
+/// load.
+pub fn expansions_have_one_outcome()
+    ensures expanded { (asks : Asks) (files : List ℕ → FileReport) (left : ℕ) (parent : Option State) (old : State) (r s : Reached)
+        → asks.table ≡ Some files → IsAnswered r → IsAnswered s
+        → Expands left asks parent old r → Expands left asks parent old s → r ≡ s }
+    ensures resolved { (asks : Asks) (files : List ℕ → FileReport) (old new left : State) (one other : Result Unit Error) → asks.table ≡ Some files
+        → IfErr one (λ e. includes_number e ≢ 27) → IfErr other (λ e. includes_number e ≢ 27)
+        → Resolves includes_number asks old one new → Resolves includes_number asks old other left → EndAlike one other new left }
+    ensures loaded { (lossy : Bool) (text : List ℕ) (place : Meta) (one other : Result State ℕ) → IfErr one (λ n. n ≢ 27) → IfErr other (λ n. n ≢ 27)
+        → IsLoadOf lossy text place one → IsLoadOf lossy text place other → one ≡ other }
+{}

@@ -1,5 +1,0 @@
-use Rattle.gitconf_entries.proofs.Outcomes.{on_ok}
-use Rattle.gitconf_joining.proofs.fronts.put_behind.Goals as goal
-
-pub returns-then-is_empty-clause-ok : goal.returns-then-is_empty-clause-ok
-returns-then-is_empty-clause-ok c = on_ok c.put_behind_front.result (λ put. put c.args.at) c.put_behind_front.ensures.ok

@@ -1,5 +1,0 @@
-use Rattle.gitconf_state.proofs.Printing.ReadsBack.{sections_read_back}
-use Rattle.gitconf_laws.proofs.laws.printed_section_reads_back.Goals as goal
-
-pub returns : goal.returns
-returns c = sections_read_back

@@ -1,6 +1,0 @@
-use Rattle.std.proofs.Common.{◌≡◌, drop}
-use Rattle.gitconf_lines.specs.Spacings.{separator_spans}
-use Rattle.gitconf_lines.proofs.spacing.separator_blanks.Given as goal
-
-abbrev pub invariant-loop-item : goal.invariant-loop-item
-invariant-loop-item l = separator_spans (drop l.item-index l.items) ≡ separator_spans l.items

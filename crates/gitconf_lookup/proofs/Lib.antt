@@ -1,9 +1,0 @@
-pub mod Decisions
-pub mod Raws
-pub mod Entries
-pub mod Walks
-pub mod Sought
-pub mod Fours
-pub mod Gaps
-pub mod OneDocument
-pub mod Endings

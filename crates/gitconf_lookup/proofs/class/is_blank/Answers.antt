@@ -1,9 +1,0 @@
-use Rattle.std.proofs.Common.{refl, arith}
-use Rattle.gitconf_text.specs.Bytes.{is_blank}
-use Rattle.gitconf_read.proofs.Classes.{agree_below, from_table}
-use Rattle.gitconf_lookup.specs.declared.class.TheConstants.{CLASS}
-use Rattle.gitconf_lookup.proofs.class.is_blank.Goals as goal
-
-pub returns : goal.returns
-unfolding agree_below
-returns c = from_table CLASS 4 is_blank c.args.byte (omega arith) refl

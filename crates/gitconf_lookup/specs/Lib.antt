@@ -1,4 +1,0 @@
-pub mod Lookup
-pub mod Met
-pub mod Places
-pub mod Walk

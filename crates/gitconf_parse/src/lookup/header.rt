@@ -1,0 +1,136 @@
+//! Headers in their three forms.
+ghost use Rattle.std.specs.Prelude.{◌≡◌, ◌≤◌, ◌<◌, ◌^◌, ◌∷◌, [], length, drop, get_or, IfSome, IfOk, IfErr};
+ghost use Rattle.gitconf_text.specs.Token.{HeaderToken};
+ghost use Rattle.gitconf_items.specs.Events.{header_of, HeaderFits};
+ghost use Rattle.gitconf_read.specs.declared.reading.Expected.TheVariants.{Name};
+ghost use Rattle.gitconf_read.specs.Reading.{unquoted_header, quoted_header, header_at, spelling_from};
+ghost use Rattle.gitconf_read.specs.Stretches.{IsBreak, IsStretch};
+
+use crate::lookup::class::is_spelled;
+use crate::lookup::run::{Run, long_run_end, run_end};
+use gitconf_items::event::{Header, Span};
+use gitconf_read::reading::{Expected, Fault, ReadError};
+
+/// The header without quotes whose name, from `from` on, ends with the bracket at `end`.
+fn unquoted(input: &[u8], from: usize, end: usize) -> Option<(Header, usize)>
+    requires ordered { from ≤ end }
+    requires within { end < length input.now }
+    requires fits { length input.now < 2 ^ 32 }
+    ensures found { result ≡ unquoted_header input.now from end }
+    ensures behind { IfSome result (λ found. from < found.1) }
+    ensures inside { IfSome result (λ found. found.1 ≤ length input.now) }
+{
+    let dot = long_run_end(input, from, Run::NameBytes);
+    if dot < end {
+        let header = Header {
+            name: Span::between(from, dot),
+            separator: Some(Span::between(dot, dot + 1)),
+            subsection: Some(Span::between(dot + 1, end)),
+            decoded: None,
+        };
+        Some((header, end + 1))
+    } else if from < end {
+        let header = Header {
+            name: Span::between(from, end),
+            separator: None,
+            subsection: None,
+            decoded: None,
+        };
+        Some((header, end + 1))
+    } else {
+        None
+    }
+}
+
+/// The offset of the quote that ends the subsection whose spelling begins at an offset.
+#[tactic(auto, unfolding(gitconf_read::specs::Reading::spelling_from))]
+fn spelling_end(input: &[u8], from: usize) -> Option<usize>
+    requires within { from ≤ length input.now }
+    requires fits { length input.now < 2 ^ 32 }
+    ensures found { result ≡ spelling_from from 0 (drop from input.now) }
+    ensures behind { IfSome result (λ end. from ≤ end) }
+    ensures inside { IfSome result (λ end. end < length input.now) }
+{
+    let mut i = from;
+    while i < input.len() {
+        let byte = input[i];
+        if is_spelled(byte) {
+            i += 1;
+            continue;
+        }
+        match byte {
+            b'"' => return Some(i),
+            b'\n' => return None,
+            b'\\' => match input.get(i + 1).copied() {
+                None | Some(b'\n') => return None,
+                Some(_) => i += 2,
+            },
+            _ => i += 1,
+        }
+    }
+    None
+}
+
+/// The header with quotes whose name, from `from` on, ends at `end`, where blanks may be.
+#[tactic(auto, unfolding(gitconf_read::specs::Reading::quoted_header))]
+fn quoted(input: &[u8], from: usize, end: usize) -> Option<(Header, usize)>
+    requires ordered { from ≤ end }
+    requires within { end ≤ length input.now }
+    requires fits { length input.now < 2 ^ 32 }
+    ensures found { result ≡ quoted_header input.now from end }
+    ensures behind { IfSome result (λ found. from < found.1) }
+    ensures inside { IfSome result (λ found. found.1 ≤ length input.now) }
+{
+    let blanks_end = run_end(input, end, Run::Blanks);
+    if end == blanks_end || input.get(blanks_end).copied() != Some(b'"') {
+        return None;
+    }
+    let quote = spelling_end(input, blanks_end + 1)?;
+    if input.get(quote + 1).copied() != Some(b']') {
+        return None;
+    }
+    let header = Header {
+        name: Span::between(from, end),
+        separator: Some(Span::between(end, blanks_end)),
+        subsection: Some(Span::between(blanks_end + 1, quote)),
+        decoded: None,
+    };
+    Some((header, quote + 2))
+}
+
+/// The header whose bracket is at an offset, and the offset after it.
+#[tactic(auto, unfolding(gitconf_read::specs::Reading::header_at))]
+fn header(input: &[u8], at: usize) -> Option<(Header, usize)>
+    requires within { at < length input.now }
+    requires fits { length input.now < 2 ^ 32 }
+    ensures found { result ≡ header_at input.now at }
+    ensures behind { IfSome result (λ found. at < found.1) }
+    ensures inside { IfSome result (λ found. found.1 ≤ length input.now) }
+{
+    let name_end = long_run_end(input, at + 1, Run::HeaderBytes);
+    if input.get(name_end).copied() == Some(b']') {
+        unquoted(input, at + 1, name_end)
+    } else {
+        quoted(input, at + 1, name_end)
+    }
+}
+
+/// The header whose bracket is at an offset, and the offset after it; `wanted` is reported as looked for if no header is there.
+pub fn header_first(input: &[u8], at: usize, wanted: Expected) -> Result<(Header, usize), ReadError>
+    requires within { at < length input.now }
+    requires headed { get_or input.now at 0 ≡ 91 }
+    requires fits { length input.now < 2 ^ 32 }
+    ensures read { IfOk result (λ r. IsStretch input.now at wanted r.1 Name (HeaderToken (header_of input.now r.0) ∷ [])) }
+    ensures spans { IfOk result (λ r. HeaderFits (length input.now) r.0) }
+    ensures ahead { IfOk result (λ r. at < r.1) }
+    ensures inside { IfOk result (λ r. r.1 ≤ length input.now) }
+    ensures broken { IfErr result (IsBreak input.now at wanted) }
+{
+    match header(input, at) {
+        Some(found) => Ok(found),
+        None => Err(ReadError::Fault(Fault {
+            at,
+            expected: wanted,
+        })),
+    }
+}

@@ -1,0 +1,96 @@
+//! Runs: blanks, line endings, and the bytes of comments, names and values.
+ghost use Rattle.std.specs.Prelude.{◌≡◌, ◌≤◌, ◌<◌, length, drop};
+ghost use Rattle.gitconf_text.specs.Text.{begins_line_end};
+ghost use Rattle.gitconf_read.specs.Reading.{run_test, run_end_at};
+ghost use Rattle.gitconf_parse.specs.Places.{reader_run};
+
+use crate::lookup::class::{is_blank, is_header_byte, is_name_byte, is_plain};
+
+/// What a run consists of.
+#[derive(Clone, Copy)]
+pub enum Run {
+    /// Spaces and tabs.
+    Blanks,
+    /// LF, and CR before LF.
+    LineEnds,
+    /// All bytes before a line ending.
+    CommentText,
+    /// Letters, digits and dashes.
+    NameBytes,
+    /// The same, and dots.
+    HeaderBytes,
+    /// Bytes that stand for themselves in a value, quotes or not.
+    PlainBytes,
+}
+
+/// Whether a line ending (LF, or CR and LF) is at an offset.
+#[inline(always)]
+pub fn is_line_end(input: &[u8], at: usize) -> bool
+    requires { at < length input.now }
+    ensures { result ≡ begins_line_end (drop at input.now) }
+{
+    let byte = input[at];
+    byte == b'\n' || byte == b'\r' && input.get(at + 1).copied() == Some(b'\n')
+}
+
+impl Run {
+    /// Whether the byte at an offset belongs to the run.
+    #[inline(always)]
+    fn goes_on(self, input: &[u8], at: usize) -> bool
+        requires { at < length input.now }
+        ensures { result ≡ run_test (reader_run self) (drop at input.now) }
+    {
+        let byte = input[at];
+        match self {
+            Run::Blanks => is_blank(byte),
+            Run::LineEnds => is_line_end(input, at),
+            Run::CommentText => !is_line_end(input, at),
+            Run::NameBytes => is_name_byte(byte),
+            Run::HeaderBytes => is_header_byte(byte),
+            Run::PlainBytes => is_plain(byte),
+        }
+    }
+}
+
+/// The offset after the run that begins at an offset.
+#[inline(always)]
+#[tactic(auto, unfolding(gitconf_read::specs::Reading::end_of_run))]
+pub fn run_end(input: &[u8], from: usize, run: Run) -> usize
+    requires { from ≤ length input.now }
+    ensures end { result ≡ run_end_at input.now (reader_run run) from }
+    ensures behind { from ≤ result }
+    ensures inside { result ≤ length input.now }
+{
+    let mut i = from;
+    while i < input.len() && run.goes_on(input, i) {
+        i += 1;
+    }
+    i
+}
+
+/// The offset after the run that begins at an offset, faster for a run that is mostly long.
+#[inline(always)]
+pub fn long_run_end(input: &[u8], from: usize, run: Run) -> usize
+    requires { from ≤ length input.now }
+    ensures end { result ≡ run_end_at input.now (reader_run run) from }
+    ensures behind { from ≤ result }
+    ensures inside { result ≤ length input.now }
+{
+    let mut i = from;
+    while i + 3 < input.len() {
+        if !run.goes_on(input, i) {
+            return i;
+        }
+        if !run.goes_on(input, i + 1) {
+            return i + 1;
+        }
+        if !run.goes_on(input, i + 2) {
+            return i + 2;
+        }
+        if !run.goes_on(input, i + 3) {
+            return i + 3;
+        }
+        i += 4;
+    }
+    run_end(input, i, run)
+}

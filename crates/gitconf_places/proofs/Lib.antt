@@ -1,3 +1,0 @@
-pub mod PlaceLemmas
-pub mod Worked
-pub mod Everywhere

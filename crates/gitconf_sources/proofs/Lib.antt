@@ -1,0 +1,6 @@
+pub mod KeyLemmas
+pub mod Worked
+pub mod InMemoryLemmas
+pub mod TakenBytes
+pub mod PlaceLemmas
+pub mod Everywhere

@@ -1,0 +1,10 @@
+pub mod Source
+pub mod Metadata
+pub mod MetadataLaws
+pub mod Key
+pub mod Found
+pub mod Reports
+pub mod InMemory
+pub mod Faults
+pub mod Places
+pub mod FoundFiles

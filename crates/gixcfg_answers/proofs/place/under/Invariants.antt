@@ -1,7 +1,0 @@
-use Rattle.std.proofs.Common.{◌≡◌, string_bytes}
-use Rattle.std.specs.List.{flat_map}
-use Rattle.gixcfg_answers.specs.Line.{under_char}
-use Rattle.gixcfg_answers.proofs.place.under.Given as goal
-
-abbrev pub invariant-loop-c : goal.invariant-loop-c
-invariant-loop-c l = string_bytes l.all ≡ flat_map under_char l.yielded

@@ -1,0 +1,220 @@
+//! Calls, by their words.
+ghost use Rattle.std.specs.Prelude.{◌≤◌, IfOk};
+
+use crate::checks::check;
+use crate::differing::diff;
+use crate::edits::{Edit, carry_out};
+use crate::layouts::fmt;
+use crate::program::{run, usage};
+use gitconf_sources::Process;
+use gitconf_text::NoMemory;
+use gixcfg_core::origins::Located;
+use gixcfg_core::outside::{Inputs, Outside};
+use gixcfg_core::places::home_of;
+use gixcfg_core::streams::put;
+use gixcfg_core::trouble::{Trouble, report};
+use crate::{Asked, Loads, answer, located, located_target};
+use gixcfg_words::command::{Command, Target};
+use gixcfg_words::fault::{self, Fault};
+use gixcfg_words::help::help_on;
+use gixcfg_words::{VERSION, has_options, read};
+use std::alloc::{AllocGlobal, Global};
+use std::io::{Read, Write};
+use std::rt::{Env, Files};
+
+/// Standard input, standard output and standard error.
+#[derive(Drop)]
+pub struct Streams<I: Read + Drop, W: Write + Drop, E: Write + Drop> {
+    pub input: I,
+    pub out: W,
+    pub err: E,
+}
+
+/// What of the streams is a terminal.
+#[derive(Clone, Copy)]
+pub struct Terminal {
+    /// Whether standard error shows colors.
+    pub is_colored: bool,
+    /// Whether standard input is typed by somebody who sees standard error.
+    pub is_typed: bool,
+}
+
+impl Terminal {
+    /// None is one.
+    pub fn none() -> Terminal {
+        Terminal {
+            is_colored: false,
+            is_typed: false,
+        }
+    }
+}
+
+/// Runs the program with the words after its name, and returns its exit status: 0 done, 1 missing, 2 usage, 3 refused, 4 input, output or a
+/// file, 5 several entries or none, or out of memory.
+///
+/// # Errors
+///
+/// Out of memory before the call is begun, of which nothing is told.
+pub fn run_words<
+    R: Files + Env + Loads + AllocGlobal + Copy,
+    I: Read + Drop,
+    W: Write + Drop,
+    E: Write + Drop,
+>(rt: &R, words: &[&str], terminal: Terminal, streams: Streams<I, W, E>) -> Result<u8, NoMemory>
+    ensures { IfOk result (λ status. status ≤ 5) }
+{
+    let Streams {
+        input,
+        mut out,
+        mut err,
+    } = streams;
+    let command = match read(rt.alloc(), words) {
+        Ok(command) => command,
+        Err(fault) => return Ok(tell_fault(rt.alloc(), words, fault, terminal, &mut err)),
+    };
+    if terminal.is_typed && command.reads_input() {
+        tell_input(&mut err);
+    }
+    let home = home_of(&mut Process::new(*rt))?;
+    let outside = Outside {
+        is_colored: terminal.is_colored,
+        home: home.as_deref(),
+    };
+    Ok(do_call(rt, outside, input, command, &mut out, &mut err))
+}
+
+/// Does a command with what lies around it, and returns the status.
+fn do_call<'a, R: Files + Env + Loads + AllocGlobal + Copy, I: Read + Drop, W: Write, E: Write>(
+    rt: &'a R,
+    outside: Outside<'a>,
+    input: I,
+    command: Command<'_>,
+    out: &mut W,
+    err: &mut E,
+) -> u8
+    ensures { result ≤ 5 }
+{
+    let mut inputs = Inputs { rt, input, outside };
+    do_command(&mut inputs, command, out, err)
+}
+
+/// Tells somebody who types that standard input is read. A failed write isn't reported.
+fn tell_input<E: Write>(err: &mut E) {
+    let _ = err.write_all(
+        b"gixcfg: standard input is read; see --effective for what git reads, and -f FILE\n",
+    );
+}
+
+/// Tells what is wrong with the words, and returns the status. Of words without options a program that reads standard error is told but how
+/// calls are written.
+fn tell_fault<E: Write>(
+    alloc: Global,
+    words: &[&str],
+    fault: Fault<'_>,
+    terminal: Terminal,
+    err: &mut E,
+) -> u8
+    ensures { result ≤ 5 }
+{
+    if let Fault::Memory = fault {
+        return report(&Trouble::Memory, "", err);
+    }
+    if !has_options(words) && !terminal.is_typed {
+        return usage(err);
+    }
+    match fault::tell(alloc, fault, err) {
+        Ok(()) => 2,
+        Err(_) => report(&Trouble::Memory, "", err),
+    }
+}
+
+/// Does a command, and returns the status.
+fn do_command<R: Files + Env + Loads + AllocGlobal + Copy, I: Read + Drop, W: Write, E: Write>(
+    inputs: &mut Inputs<'_, R, I>,
+    command: Command<'_>,
+    out: &mut W,
+    err: &mut E,
+) -> u8
+    ensures { result ≤ 5 }
+{
+    match command {
+        Command::Plain(task) => run(inputs.rt, task, &mut inputs.input, out, err),
+        Command::Help(verb) => print(help_on(verb), out, err),
+        Command::Version => print(VERSION, out, err),
+        Command::Check(call) => check(inputs, &call, err),
+        Command::Diff(call) => diff(inputs, &call, out, err),
+        Command::Fmt(call) => fmt(inputs, &call, out, err),
+        Command::Get(call) => do_reading(inputs, Asked::Get(&call), out, err),
+        Command::List(call) => do_reading(inputs, Asked::List(&call), out, err),
+        Command::Set(call) => do_edit(inputs, call.target, Edit::Set(&call), out, err),
+        Command::Unset(call) => do_edit(inputs, call.target, Edit::Unset(&call), out, err),
+        Command::RenameSection(call) => {
+            do_edit(inputs, call.target, Edit::RenameSection(&call), out, err)
+        }
+        Command::RemoveSection(call) => {
+            do_edit(inputs, call.target, Edit::RemoveSection(&call), out, err)
+        }
+    }
+}
+
+/// Prints a text that ends with a line feed or not.
+fn print<W: Write, E: Write>(text: &str, out: &mut W, err: &mut E) -> u8
+    ensures { result ≤ 5 }
+{
+    match put(text.as_bytes(), out) {
+        Ok(()) => 0,
+        Err(fault) => report(&Trouble::from(fault), "", err),
+    }
+}
+
+/// Prints what is asked of what is read.
+fn do_reading<R: Files + Env + Loads + AllocGlobal, I: Read + Drop, W: Write, E: Write>(
+    inputs: &mut Inputs<'_, R, I>,
+    asked: Asked<'_>,
+    out: &mut W,
+    err: &mut E,
+) -> u8
+    ensures { result ≤ 5 }
+{
+    match located(inputs.rt, asked.source()) {
+        Ok(read) => print_answer(answer(inputs, asked, &read), &read, out, err),
+        Err(trouble) => report(&trouble, asked.source().word(), err),
+    }
+}
+
+/// Prints an answer, or tells why there is none.
+fn print_answer<W: Write, E: Write>(
+    answer: Result<Vec<u8>, Trouble>,
+    read: &Located,
+    out: &mut W,
+    err: &mut E,
+) -> u8
+    ensures { result ≤ 5 }
+{
+    match answer {
+        Ok(lines) => match put(&lines, out) {
+            Ok(()) => 0,
+            Err(fault) => report(&Trouble::from(fault), "", err),
+        },
+        Err(trouble) => report(&trouble, read.name(), err),
+    }
+}
+
+/// Does an edit.
+fn do_edit<R: Files + Env + AllocGlobal, I: Read + Drop, W: Write, E: Write>(
+    inputs: &mut Inputs<'_, R, I>,
+    target: Target<'_>,
+    call: Edit<'_>,
+    out: &mut W,
+    err: &mut E,
+) -> u8
+    ensures { result ≤ 5 }
+{
+    match located_target(inputs.rt, target) {
+        Ok(place) => match carry_out(inputs, &place, call, out, err) {
+            Ok(()) => 0,
+            Err(trouble) => report(&trouble, place.name(), err),
+        },
+        Err(trouble) => report(&trouble, target.word(), err),
+    }
+}

@@ -1,0 +1,144 @@
+//! `diff`: what two files mean differently.
+ghost use Rattle.std.specs.Prelude.{◌≤◌, IfErr};
+
+use crate::named::file_at;
+use bstr::BString;
+use gix_config::diff::{Difference, Side, differences};
+use gitconf_items::event_ref::EventRef;
+use gix_config::{File, NoMemory};
+use gixcfg_core::lines::{Line, add_entry};
+use gixcfg_core::names::add_names;
+use gixcfg_core::outside::Inputs;
+use gixcfg_core::trouble::{Trouble, report};
+use gixcfg_words::command::Diff;
+use gixcfg_words::shown::Shown;
+use std::alloc::{AllocGlobal, Global};
+use std::io::{Read, Write};
+use std::rt::Files;
+
+/// Prints what two files mean differently, and returns the exit status: 0 if they mean the same, 1 if not; 3 if the text of one is
+/// refused, 4 if one can't be read or standard output failed, 5 if out of memory. What failed is reported.
+pub fn diff<R: Files + AllocGlobal, I: Read + Drop, W: Write, E: Write>(
+    inputs: &mut Inputs<'_, R, I>,
+    call: &Diff<'_>,
+    out: &mut W,
+    err: &mut E,
+) -> u8
+    ensures { result ≤ 5 }
+{
+    match lines_of(inputs, call, err) {
+        Ok(lines) => put_lines(&lines, call.is_quiet, out, err),
+        Err(status) => status,
+    }
+}
+
+/// What two files mean differently, a line for each entry; or the exit status, when it was reported why there is none.
+fn lines_of<R: Files + AllocGlobal, I: Read + Drop, E: Write>(
+    inputs: &mut Inputs<'_, R, I>,
+    call: &Diff<'_>,
+    err: &mut E,
+) -> Result<Vec<u8>, u8>
+    ensures { IfErr result (λ status. status ≤ 5) }
+{
+    let one = file_or_status(inputs, call.one, err)?;
+    let other = file_or_status(inputs, call.other, err)?;
+    match lines_between(inputs.rt.alloc(), &one, &other, call.is_null) {
+        Ok(lines) => Ok(lines),
+        Err(_) => Err(report(&Trouble::Memory, "", err)),
+    }
+}
+
+/// The file that a word names, or the exit status, when it was reported why there is none.
+fn file_or_status<R: Files + AllocGlobal, I: Read + Drop, E: Write>(
+    inputs: &mut Inputs<'_, R, I>,
+    word: &str,
+    err: &mut E,
+) -> Result<File, u8>
+    ensures { IfErr result (λ status. status ≤ 5) }
+{
+    match file_at(inputs, word) {
+        Ok(file) => {
+            tell_front(&file, word, err);
+            Ok(file)
+        }
+        Err(trouble) => Err(report(&trouble, word, err)),
+    }
+}
+
+/// Tells that a file has entries before its first section, which no section has and so aren't compared. A failed write changes no status.
+fn tell_front<E: Write>(file: &File, name: &str, err: &mut E) {
+    let Some(events) = file.frontmatter() else {
+        return;
+    };
+    for event in events {
+        if let EventRef::SectionValueName(_) = event {
+            let name = Shown(name);
+            let _ = writeln!(
+                err,
+                "gixcfg: {name}: entries before the first section aren't compared"
+            );
+            return;
+        }
+    }
+}
+
+/// Prints lines, unless nothing is to be printed, and returns 0 if there are none, else 1.
+fn put_lines<W: Write, E: Write>(lines: &[u8], is_quiet: bool, out: &mut W, err: &mut E) -> u8
+    ensures { result ≤ 5 }
+{
+    if lines.is_empty() {
+        return 0;
+    }
+    if is_quiet {
+        return 1;
+    }
+    match out.write_all(lines) {
+        Ok(()) => 1,
+        Err(_) => report(&Trouble::Output, "", err),
+    }
+}
+
+/// The same of files that are read.
+fn lines_between(
+    alloc: Global,
+    one: &File,
+    other: &File,
+    is_null: bool,
+) -> Result<Vec<u8>, NoMemory> {
+    let found = differences(alloc, one, other)?;
+    let line = Line::of_differences(is_null);
+    let mut lines = Vec::new(alloc);
+    for difference in &found {
+        add_difference(alloc, &mut lines, &line, difference)?;
+    }
+    Ok(lines)
+}
+
+/// Adds the line of an entry.
+fn add_difference(
+    alloc: Global,
+    lines: &mut Vec<u8>,
+    line: &Line,
+    difference: &Difference,
+) -> Result<(), NoMemory> {
+    let mut names = Vec::new(alloc);
+    add_names(
+        &mut names,
+        difference.section_name.as_bytes(),
+        bytes_of(&difference.subsection_name),
+        difference.value_name.as_bytes(),
+    )?;
+    let sign: &[u8] = match difference.side {
+        Side::One => b"-",
+        Side::Other => b"+",
+    };
+    Ok(add_entry(lines, line, sign, &names, bytes_of(&difference.value))?)
+}
+
+/// The bytes of a text, if there is one.
+fn bytes_of(text: &Option<BString>) -> Option<&[u8]> {
+    match text {
+        Some(text) => Some(text.as_bytes()),
+        None => None,
+    }
+}

@@ -1,0 +1,393 @@
+//! Edits with options: `set`, `unset`, `rename-section`, `remove-section` and `fmt`.
+
+use crate::layouts::laid_out;
+use crate::meant::{Meant, entries_meant, remove_meant};
+use bstr::BString;
+use gix_config::file::rename_section;
+use gix_config::lookup::existing;
+use gix_config::refusals::Refusal;
+use gix_config::{File, KeyRef};
+use gixcfg_core::comments;
+use gixcfg_core::entries::has_names;
+use gixcfg_core::origins::Located;
+use gixcfg_core::outside::{Inputs, Outside, accepted};
+use gixcfg_core::streams::put;
+use gixcfg_core::trouble::{Trouble, of_number};
+use gixcfg_core::typed::stored;
+use gixcfg_files::{Fault, Place, Replaced, Replacement};
+use gixcfg_words::command::{Fmt, Placing, Removal, Renaming, Set, Unset};
+use gixcfg_words::keys::Names;
+use std::alloc::{AllocGlobal, Global};
+use std::io::{Read, Write};
+use std::rt::Files;
+
+/// An edit of a text.
+#[derive(Clone, Copy)]
+pub enum Edit<'a> {
+    Set(&'a Set<'a>),
+    Unset(&'a Unset<'a>),
+    RenameSection(&'a Renaming<'a>),
+    RemoveSection(&'a Removal<'a>),
+    Fmt(&'a Fmt<'a>),
+}
+
+impl Edit<'_> {
+    /// Whether the new text of a file is written down to the disk.
+    fn is_synced(self) -> bool {
+        match self {
+            Edit::Set(set) => set.is_synced,
+            Edit::Unset(unset) => unset.is_synced,
+            Edit::RenameSection(renaming) => renaming.is_synced,
+            Edit::RemoveSection(removal) => removal.is_synced,
+            Edit::Fmt(fmt) => fmt.is_synced,
+        }
+    }
+}
+
+/// How often an edit is begun at most of a file that others change meanwhile.
+const TRIES: usize = 16;
+
+/// Carries an edit out: of a file in place, of standard input to standard output. What the user has to know of is told, a line each.
+pub fn carry_out<R: Files + AllocGlobal, I: Read + Drop, W: Write, E: Write>(
+    inputs: &mut Inputs<'_, R, I>,
+    place: &Located,
+    edit: Edit<'_>,
+    out: &mut W,
+    err: &mut E,
+) -> Result<(), Trouble> {
+    match place.path() {
+        Some(path) => edit_in_place(inputs.rt, path, edit, inputs.outside, err),
+        None => {
+            let Some(text) = inputs.text_of(None)? else {
+                return Err(Trouble::NoFile);
+            };
+            let alloc = inputs.rt.alloc();
+            let edited = edited(alloc, edit, place.name(), &text, inputs.outside)?;
+            Ok(put(&edited, out)?)
+        }
+    }
+}
+
+/// Does an edit of the file at a path. A text that it doesn't change isn't written. Of a file that another process changes meanwhile the
+/// edit is begun again.
+fn edit_in_place<R: Files + AllocGlobal, E: Write>(
+    rt: &R,
+    path: &str,
+    edit: Edit<'_>,
+    outside: Outside<'_>,
+    err: &mut E,
+) -> Result<(), Trouble> {
+    for _ in 0..TRIES {
+        if let Replaced::Done = edit_once(rt, path, edit, outside, err)? {
+            return Ok(());
+        }
+    }
+    Err(Trouble::File(Fault::Changing))
+}
+
+/// Does an edit of the file at a path, if no other process changes it meanwhile.
+fn edit_once<R: Files + AllocGlobal, E: Write>(
+    rt: &R,
+    path: &str,
+    edit: Edit<'_>,
+    outside: Outside<'_>,
+    err: &mut E,
+) -> Result<Replaced, Trouble> {
+    let place = Place::find(rt, path)?;
+    let before = place.read()?;
+    match new_text(rt.alloc(), before.as_deref(), edit, path, outside)? {
+        Some(text) => {
+            let new = Replacement {
+                before: before.as_deref(),
+                text: &text,
+                is_synced: edit.is_synced(),
+            };
+            Ok(place.replace(&new, err)?)
+        }
+        None => Ok(Replaced::Done),
+    }
+}
+
+/// What an edit makes of the text of a file of this name, or of a file that isn't there; none if that is what it has.
+fn new_text(
+    alloc: Global,
+    before: Option<&[u8]>,
+    edit: Edit<'_>,
+    name: &str,
+    outside: Outside<'_>,
+) -> Result<Option<BString>, Trouble> {
+    let text = match (before, edit) {
+        (Some(text), _) => text,
+        (None, Edit::Set(_)) => b"",
+        (None, Edit::Unset(_)) => return Err(Trouble::NoEntry),
+        (None, _) => return Err(Trouble::NoFile),
+    };
+    let edited = edited(alloc, edit, name, text, outside)?;
+    if edited.as_bytes() == text {
+        Ok(None)
+    } else {
+        Ok(Some(edited))
+    }
+}
+
+/// What an edit makes of a text of this name.
+fn edited(
+    alloc: Global,
+    edit: Edit<'_>,
+    name: &str,
+    text: &[u8],
+    outside: Outside<'_>,
+) -> Result<BString, Trouble> {
+    match edit {
+        Edit::Set(set) => with_value(alloc, text, parsed(alloc, name, text, outside)?, set),
+        Edit::Unset(unset) => {
+            without_entries(alloc, text, parsed(alloc, name, text, outside)?, unset)
+        }
+        Edit::RenameSection(renaming) => {
+            renamed(alloc, text, parsed(alloc, name, text, outside)?, renaming)
+        }
+        Edit::RemoveSection(removal) => {
+            let file = parsed(alloc, name, text, outside)?;
+            marked(alloc, text, text_without(alloc, &file, &removal.names)?)
+        }
+        Edit::Fmt(fmt) => laid_out(alloc, name, text, fmt, outside),
+    }
+}
+
+/// A text of this name as a file. It is copied, since the message of a refusal shows a line of it, and the edited text is compared with it.
+fn parsed(alloc: Global, name: &str, text: &[u8], outside: Outside<'_>) -> Result<File, Trouble> {
+    accepted(
+        alloc,
+        name,
+        text,
+        File::try_from_bytes(alloc, text),
+        outside,
+    )
+}
+
+/// The text of a file, in which a key has got a value, with a comment after it if one is asked for.
+fn with_value(alloc: Global, text: &[u8], file: File, set: &Set<'_>) -> Result<BString, Trouble> {
+    let mut file = file;
+    let value = value_of(alloc, set)?;
+    let entry = Entry {
+        key: set.key,
+        value: &value,
+    };
+    match (put_value(alloc, &mut file, &entry, set)?, set.comment) {
+        (Change::None, _) => Ok(BString::new(text.to_vec(alloc)?)),
+        (Change::Done, None) => written(alloc, text, &file),
+        (Change::Done, Some(comment)) => {
+            marked(alloc, text, commented(alloc, &file, set.key, comment)?)
+        }
+    }
+}
+
+/// The text of a file, from which entries of a key are removed.
+fn without_entries(
+    alloc: Global,
+    text: &[u8],
+    file: File,
+    unset: &Unset<'_>,
+) -> Result<BString, Trouble> {
+    let mut file = file;
+    remove(alloc, &mut file, unset)?;
+    written(alloc, text, &file)
+}
+
+/// The text of a file, in which the sections of a name have got another one.
+fn renamed(
+    alloc: Global,
+    text: &[u8],
+    file: File,
+    renaming: &Renaming<'_>,
+) -> Result<BString, Trouble> {
+    let mut file = file;
+    rename(alloc, &mut file, renaming)?;
+    written(alloc, text, &file)
+}
+
+/// The text of a file that was read from another one.
+fn written(alloc: Global, before: &[u8], file: &File) -> Result<BString, Trouble> {
+    marked(alloc, before, file.to_bstring()?)
+}
+
+/// The mark that a text in UTF-8 may begin with.
+static MARK: [u8; 3] = *b"\xef\xbb\xbf";
+
+/// An edited text behind the mark that the text before began with, which the library drops and git keeps.
+fn marked(alloc: Global, before: &[u8], edited: BString) -> Result<BString, Trouble> {
+    if !before.starts_with(&MARK) {
+        return Ok(edited);
+    }
+    let mut text = Vec::from_slice(alloc, &MARK)?;
+    text.extend_from_slice(edited.as_bytes())?;
+    Ok(BString::new(text))
+}
+
+/// The text of a file with a comment after the value of a key's last entry. The new text is read again, and has to mean what the file means.
+fn commented(
+    alloc: Global,
+    file: &File,
+    key: KeyRef<'_>,
+    comment: &str,
+) -> Result<BString, Trouble> {
+    let text = comments::with_comment(alloc, &file.to_bstring()?, key, comment)?;
+    match File::try_from_bytes(alloc, &text) {
+        Ok(read) if read == *file => Ok(text),
+        Ok(_) => Err(Trouble::Uncommented),
+        Err(refusal) => Err(comments::trouble_of(&refusal)),
+    }
+}
+
+/// Whether an edit changes anything.
+#[derive(Clone, Copy)]
+enum Change {
+    /// The file has it already.
+    None,
+    /// The file is changed.
+    Done,
+}
+
+/// A value as it is stored.
+fn value_of(alloc: Global, set: &Set<'_>) -> Result<BString, Trouble> {
+    let value = set.value.as_bytes();
+    match set.kind {
+        None => Ok(BString::new(value.to_vec(alloc)?)),
+        Some(kind) => Ok(stored(alloc, value, kind)?),
+    }
+}
+
+/// What is set.
+#[derive(Clone, Copy)]
+struct Entry<'a> {
+    key: KeyRef<'a>,
+    value: &'a [u8],
+}
+
+/// Gives a key a value: the only one, one in place of others, or one more.
+fn put_value(
+    alloc: Global,
+    file: &mut File,
+    entry: &Entry<'_>,
+    set: &Set<'_>,
+) -> Result<Change, Trouble> {
+    let is_commented = set.comment.is_some();
+    match set.placing {
+        Placing::New => {
+            add(file, entry)?;
+            Ok(Change::Done)
+        }
+        Placing::Only(values) => {
+            let meant = entries_meant(alloc, file, entry.key, values)?;
+            put_in_place(file, entry, meant, is_commented, false)
+        }
+        Placing::All(values) => {
+            let meant = entries_meant(alloc, file, entry.key, values)?;
+            put_in_place(file, entry, meant, is_commented, true)
+        }
+    }
+}
+
+/// Gives a key a value in place of the only one that is meant, or of all that are.
+fn put_in_place(
+    file: &mut File,
+    entry: &Entry<'_>,
+    mut meant: Meant,
+    is_commented: bool,
+    is_all: bool,
+) -> Result<Change, Trouble> {
+    let Some(first) = meant.first() else {
+        add(file, entry)?;
+        return Ok(Change::Done);
+    };
+    match meant.count() {
+        1 if !is_commented && meant.is_at(first, entry.value) => return Ok(Change::None),
+        1 => {}
+        _ if is_all => {
+            meant.spare(first);
+            remove_meant(file, entry.key.value_name, &meant)?;
+        }
+        _ => return Err(Trouble::Several),
+    }
+    // (all entries before it are there still)
+    rewrite(file, entry, first)?;
+    Ok(Change::Done)
+}
+
+/// Adds an entry after the last one of the last section of its name, as git does it.
+fn add(file: &mut File, entry: &Entry<'_>) -> Result<(), Trouble> {
+    let key = entry.key;
+    match file.section_mut_or_create_new(key.section_name, key.subsection_name) {
+        Ok(mut section) => match section.push_after_last(key.value_name, Some(entry.value)) {
+            Ok(()) => Ok(()),
+            Err(refusal) => Err(of_number(refusal.number())),
+        },
+        Err(refusal) => Err(of_number(refusal.number())),
+    }
+}
+
+/// Gives the entry of a key at a place among its entries another value.
+fn rewrite(file: &mut File, entry: &Entry<'_>, at: usize) -> Result<(), Trouble> {
+    match file.raw_values_mut(entry.key) {
+        Ok(mut editor) => {
+            if at >= editor.len() {
+                return Err(Trouble::Missing);
+            }
+            match editor.set_at(at, entry.value) {
+                Ok(()) => Ok(()),
+                Err(refusal) => Err(of_number(refusal.number())),
+            }
+        }
+        Err(existing::Error::Memory) => Err(Trouble::Memory),
+        Err(_) => Err(Trouble::Missing),
+    }
+}
+
+/// Removes the only entry of a key, or all of them, as far as their values are meant.
+fn remove(alloc: Global, file: &mut File, unset: &Unset<'_>) -> Result<(), Trouble> {
+    let meant = entries_meant(alloc, file, unset.key, unset.values)?;
+    check_count(meant.count(), unset.is_all)?;
+    remove_meant(file, unset.key.value_name, &meant)
+}
+
+/// Tests that there is an entry, and only one if there may not be several.
+fn check_count(count: usize, is_all: bool) -> Result<(), Trouble> {
+    match count {
+        0 => Err(Trouble::NoEntry),
+        count if count > 1 && !is_all => Err(Trouble::Several),
+        _ => Ok(()),
+    }
+}
+
+/// The text of a file without the sections of these names. One walk over the file, however many they are.
+///
+/// # Errors
+///
+/// There is no such section; out of memory.
+fn text_without(alloc: Global, file: &File, names: &Names<'_>) -> Result<BString, Trouble> {
+    if file.section(names.name, names.subsection_name).is_err() {
+        return Err(Trouble::NoSection);
+    }
+    let mut text = Vec::new(alloc);
+    match file.write_to_filter(
+        &mut text,
+        |section| !has_names(section, names.name, names.subsection_name),
+    ) {
+        Ok(()) => Ok(BString::new(text)),
+        Err(_) => Err(Trouble::Memory),
+    }
+}
+
+/// Gives the sections of a name another one.
+fn rename(alloc: Global, file: &mut File, renaming: &Renaming<'_>) -> Result<(), Trouble> {
+    let (old, new) = (&renaming.old, &renaming.new);
+    let new_subsection_name = match new.subsection_name {
+        Some(bytes) => Some(BString::new(bytes.to_vec(alloc)?)),
+        None => None,
+    };
+    match file.rename_section(old.name, old.subsection_name, new.name, new_subsection_name) {
+        Ok(()) => Ok(()),
+        Err(rename_section::Error::Lookup(_)) => Err(Trouble::NoSection),
+        Err(refusal) => Err(of_number(refusal.number())),
+    }
+}

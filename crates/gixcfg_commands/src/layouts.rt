@@ -1,0 +1,122 @@
+//! `fmt` with options.
+ghost use Rattle.std.specs.Prelude.{◌≤◌};
+
+use crate::edits::{Edit, carry_out};
+use bstr::BString;
+use gix_config::format::{self, normalize};
+use gixcfg_core::origins::Located;
+use gixcfg_core::outside::{Inputs, Outside, accepted};
+use gixcfg_core::trouble::{MEMORY, Trouble, report};
+use crate::located_target;
+use gixcfg_words::command::{Files, Fmt, Indent, Newline, Target};
+use std::alloc::{AllocGlobal, Global};
+use std::io::{Read, Write};
+use std::rt::{Env, Files as HasFiles};
+
+/// Lays files out, or tells which aren't, and returns the exit status: the gravest that one of them has.
+pub fn fmt<R: HasFiles + Env + AllocGlobal, I: Read + Drop, W: Write, E: Write>(
+    inputs: &mut Inputs<'_, R, I>,
+    fmt: &Fmt<'_>,
+    out: &mut W,
+    err: &mut E,
+) -> u8
+    ensures { result ≤ 5 }
+{
+    match &fmt.files {
+        Files::One(target) => fmt_target(inputs, *target, fmt, out, err),
+        Files::Paths(paths) => {
+            let mut status = 0;
+            for path in paths {
+                status = status.max(fmt_target(inputs, target_of(path), fmt, out, err));
+                if status >= MEMORY {
+                    return MEMORY;
+                }
+            }
+            status.min(MEMORY)
+        }
+    }
+}
+
+/// The file that a word names.
+fn target_of(word: &str) -> Target<'_> {
+    match word {
+        "-" => Target::Input,
+        path => Target::File(path),
+    }
+}
+
+/// Lays a file out, reports why not, and returns the status.
+fn fmt_target<R: HasFiles + Env + AllocGlobal, I: Read + Drop, W: Write, E: Write>(
+    inputs: &mut Inputs<'_, R, I>,
+    target: Target<'_>,
+    fmt: &Fmt<'_>,
+    out: &mut W,
+    err: &mut E,
+) -> u8
+    ensures { result ≤ 5 }
+{
+    match located_target(inputs.rt, target) {
+        Ok(place) => match lay_out(inputs, &place, fmt, out, err) {
+            Ok(()) => 0,
+            Err(trouble) => report(&trouble, place.name(), err),
+        },
+        Err(trouble) => report(&trouble, target.word(), err),
+    }
+}
+
+/// Lays a file out in place, standard input to standard output; or finds whether it is laid out.
+fn lay_out<R: HasFiles + AllocGlobal, I: Read + Drop, W: Write, E: Write>(
+    inputs: &mut Inputs<'_, R, I>,
+    place: &Located,
+    fmt: &Fmt<'_>,
+    out: &mut W,
+    err: &mut E,
+) -> Result<(), Trouble> {
+    if !fmt.is_check {
+        return carry_out(inputs, place, Edit::Fmt(fmt), out, err);
+    }
+    let Some(text) = inputs.text_of(place.path())? else {
+        return Err(Trouble::NoFile);
+    };
+    let laid_out = laid_out(inputs.rt.alloc(), place.name(), &text, fmt, inputs.outside)?;
+    if laid_out.as_bytes() == text.as_slice() {
+        Ok(())
+    } else {
+        Err(Trouble::Different)
+    }
+}
+
+/// A text of this name, laid out.
+pub fn laid_out(
+    alloc: Global,
+    name: &str,
+    text: &[u8],
+    fmt: &Fmt<'_>,
+    outside: Outside<'_>,
+) -> Result<BString, Trouble> {
+    accepted(
+        alloc,
+        name,
+        text,
+        normalize(alloc, text, layout_of(fmt)),
+        outside,
+    )
+}
+
+/// The layout that is asked for.
+fn layout_of(fmt: &Fmt<'_>) -> format::Options {
+    let mut layout = format::Options::default();
+    match fmt.indent {
+        Some(Indent::Tabs(count)) => layout.key_value_indent = format::Indent::Tabs(count as usize),
+        Some(Indent::Spaces(count)) => {
+            layout.key_value_indent = format::Indent::Spaces(count as usize)
+        }
+        None => {}
+    }
+    match fmt.newline {
+        Some(Newline::Lf) => layout.newline = format::Newline::Lf,
+        Some(Newline::CrLf) => layout.newline = format::Newline::CrLf,
+        Some(Newline::Detect) | None => {}
+    }
+    layout
+}

@@ -1,0 +1,11 @@
+use Rattle.std.proofs.Common.{◌∙◌}
+use Rattle.gixcfg_core.proofs.LineLemmas.{first_at, first_none}
+use Rattle.gixcfg_core.proofs.reason.first_line.Goals as goal
+
+pub returns-in-Some : goal.returns-in-Some
+returns-in-Some c =
+    c.split_at.ensures.front
+    ∙ first_at c.args.text.now c.in-Some.end c.in-Some.ensures.0.high c.in-Some.ensures.0.before c.in-Some.ensures.1
+
+pub returns-in-None : goal.returns-in-None
+returns-in-None c = first_none c.args.text.now c.in-None.ensures

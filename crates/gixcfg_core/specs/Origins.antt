@@ -1,0 +1,81 @@
+-- What is printed before an entry: its scope and where it comes from.
+-- Source: the manual page of `git-config`, `--show-scope` and `--show-origin`.
+use Rattle.std.specs.Prelude.{ℕ, Bool, true, List, [], ◌∷◌, ◌++◌, Option, Some, None, codes, if◌then◌else◌, string_bytes}
+use Rattle.gitconf_sources.specs.Metadata.{Meta}
+use Rattle.gitconf_sources.specs.declared.source.Source.{Source}
+use Rattle.gitconf_sources.specs.declared.source.Source.TheVariants as sources
+use Rattle.gixcfg_words.specs.declared.command.Form.{Form}
+use Rattle.gixcfg_words.specs.declared.command.Place.{Place}
+use Rattle.gixcfg_words.specs.declared.command.Place.TheVariants as places
+use Rattle.gixcfg_core.specs.declared.lines.Line.{Line}
+use Rattle.gixcfg_core.specs.declared.origins.Located.{Located}
+use Rattle.gixcfg_core.specs.declared.origins.Located.TheVariants.{Input, File, Effective}
+
+-- the scope of a source, by git's word for it
+abbrev pub scope_of_source : Source → List ℕ
+scope_of_source sources.GitInstallation = codes "system"
+scope_of_source sources.System = codes "system"
+scope_of_source sources.Git = codes "global"
+scope_of_source sources.User = codes "global"
+scope_of_source sources.Local = codes "local"
+scope_of_source sources.Worktree = codes "worktree"
+scope_of_source sources.Env = codes "command"
+scope_of_source sources.Cli = codes "command"
+scope_of_source sources.Api = codes "command"
+scope_of_source sources.EnvOverride = codes "command"
+
+-- the scope of one of git's files; a working tree's file that is named has that of the repository's, as in git
+abbrev pub scope_of_place : Option Place → List ℕ
+scope_of_place None = codes "command"
+scope_of_place (Some places.System) = codes "system"
+scope_of_place (Some places.Global) = codes "global"
+scope_of_place (Some places.Local) = codes "local"
+scope_of_place (Some places.Worktree) = codes "local"
+
+-- the scope of what was read
+abbrev pub scope_of : Meta → Located → List ℕ
+scope_of meta Effective = scope_of_source meta.source
+scope_of meta (File path place) = scope_of_place place
+scope_of meta Input = codes "command"
+
+-- what an entry without a file of its own comes from
+abbrev pub origin_read : Located → List ℕ
+origin_read Input = codes "standard input:"
+origin_read (File path place) = codes "file:" ++ string_bytes path
+origin_read Effective = codes "command line:"
+
+-- what the file is called from which something was read
+abbrev pub origin_of : Meta → Located → List ℕ
+origin_of meta read = elim meta.path [ Some path ↦ codes "file:" ++ path | None ↦ origin_read read ]
+
+-- what ends that
+abbrev pub end_of : Form → ℕ
+end_of form = if form.is_null then 0 else 9
+
+-- what is printed before an entry: its scope and where it comes from, as far as that is asked for
+abbrev pub before_of : Form → Meta → Located → List ℕ
+before_of form meta read =
+    (if form.has_scope then scope_of meta read ++ end_of form ∷ [] else [])
+    ++ (if form.has_origin then origin_of meta read ++ end_of form ∷ [] else [])
+
+-- how `diff` prints entries: all of them
+abbrev pub differences_line : (is_null : Bool) → Line
+differences_line is_null = record {
+  has_names = true;
+  has_value = true;
+  between = if is_null then 10 else 61;
+  end = if is_null then 0 else 10;
+}
+
+-- how `list` prints entries: `=` between the names and the value
+abbrev pub entries_line : Form → Line
+entries_line form = record {
+  has_names = form.has_names;
+  has_value = form.has_value;
+  between = if form.is_null then 10 else 61;
+  end = if form.is_null then 0 else 10;
+}
+
+-- how `get` prints them: a blank between the names and the value
+abbrev pub values_line : Form → Line
+values_line form = record (entries_line form) { between = if form.is_null then 10 else 32 }

@@ -1,0 +1,295 @@
+//! The entries of a section, with those that have no value.
+ghost use Rattle.std.specs.Prelude.{◌≡◌, ◌++◌, ◌∷◌, [], map, true, None, option_map, IfOk, Some, if◌then◌else◌};
+ghost use Rattle.std.specs.Option.{option_copied};
+ghost use Rattle.bstr.specs.Owned.{bstring_bytes};
+ghost use Rattle.gitconf_text.specs.Bytes.{fold};
+ghost use Rattle.gitconf_text.specs.Document.{document_entry};
+ghost use Rattle.gitconf_text.specs.Header.{name_of, subsection_of};
+ghost use Rattle.gitconf_text.specs.Value.{plain};
+ghost use Rattle.gitconf_items.specs.Items.{entry_of};
+ghost use Rattle.gitconf_views.specs.Views.{shown};
+ghost use Rattle.gixcfg_core.specs.Entries.{found_in, found_of, is_sought, names_part, plain_found, section_lines, section_names, value_part, values_of_name};
+
+use crate::lines::{Line, add_value};
+use crate::names::{add_in_lower_case, add_names, add_section_names};
+use bstr::{BString, ByteSlice};
+use gitconf_sources::key::KeyRef;
+use gitconf_body::entries::next_entry;
+use gitconf_body::meanings::entry_value;
+use gitconf_items::entry::{AssignedRef, Entry};
+use gitconf_text::NoMemory;
+use gitconf_text::value::normalize;
+use gitconf_views::section::SectionRef;
+use std::alloc::Global;
+use std::borrow::CowSlice;
+
+/// An entry: its names with dots between them, and its value. An entry without `=` has none.
+#[derive(Drop)]
+pub struct Found {
+    /// What is printed before it.
+    pub before: Vec<u8>,
+    /// Its names.
+    pub names: Vec<u8>,
+    /// Its value.
+    pub value: Option<BString>,
+}
+
+impl Found {
+    /// The bytes of its value.
+    pub fn value(&self) -> Option<&[u8]> {
+        match &self.value {
+            Some(value) => Some(value.as_bytes()),
+            None => None,
+        }
+    }
+}
+
+/// Which entries of a section are found, and how they are told.
+#[derive(Clone, Copy)]
+pub struct Sought<'a> {
+    /// What is printed before each.
+    pub before: &'a [u8],
+    /// The name that they have; any if there is none.
+    pub value_name: Option<&'a str>,
+    /// Whether the subsection is among their names.
+    pub has_subsection: bool,
+}
+
+impl<'a> Sought<'a> {
+    /// All, each with this before it.
+    pub fn all(before: &'a [u8]) -> Sought<'a> {
+        Sought {
+            before,
+            value_name: None,
+            has_subsection: true,
+        }
+    }
+}
+
+/// Whether an entry is sought, by its name.
+fn is_sought(section: &SectionRef<'_>, entry: &Entry, wanted: Option<&str>) -> bool
+    ensures { result ≡ is_sought (option_copied wanted.entry) (document_entry (entry_of section.now.buffer.now entry.now)) }
+{
+    match wanted {
+        Some(name) => name
+            .as_bytes()
+            .eq_ignore_ascii_case(entry.name().bytes_in(section.buffer)),
+        None => true,
+    }
+}
+
+/// What is found of an entry of a section.
+fn found_entry(
+    section: &SectionRef<'_>,
+    entry: &Entry,
+    before: &[u8],
+    subsection_name: Option<&[u8]>,
+) -> Result<Found, NoMemory>
+    ensures { let e = document_entry (entry_of section.now.buffer.now entry.now) in
+        IfOk result (λ f. plain_found f ≡ found_of before.now (option_copied subsection_name.entry) (shown section.now) e) }
+{
+    let mut names = Vec::new(section.alloc);
+    let value_name = entry.name().bytes_in(section.buffer);
+    add_names(
+        &mut names,
+        section.header().name(),
+        subsection_name,
+        value_name,
+    )?;
+    Ok(Found {
+        before: before.to_vec(section.alloc)?,
+        names,
+        value: entry_value(section.alloc, section.buffer, entry)?,
+    })
+}
+
+/// The subsection that is among the names of what is found, if one is.
+fn subsection_told<'a>(section: &SectionRef<'a>, sought: &Sought<'_>) -> Option<&'a [u8]>
+    ensures { option_copied result ≡ (if sought.now.has_subsection then subsection_of (shown section.now).header else None) }
+{
+    if sought.has_subsection {
+        section.header().subsection_name()
+    } else {
+        None
+    }
+}
+
+/// Adds the entries of a section that are sought. One walk over its items; what isn't sought isn't decoded.
+///
+/// # Errors
+///
+/// Out of memory.
+pub fn add_found(
+    found: &mut Vec<Found>,
+    section: &SectionRef<'_>,
+    sought: &Sought<'_>,
+) -> Result<(), NoMemory>
+    ensures { IfOk result (λ _. map plain_found found.new.items ≡ map plain_found found.old.items
+        ++ found_in sought.now.before.now (if sought.now.has_subsection then subsection_of (shown section.now).header else None)
+        (option_copied sought.now.value_name) (shown section.now)) }
+{
+    let subsection_name = subsection_told(section, sought);
+    let mut rest = section.items;
+    while let Some((entry, behind)) = next_entry(rest) {
+        if is_sought(section, entry, sought.value_name) {
+            found.push(found_entry(section, entry, sought.before, subsection_name)?)?;
+        }
+        rest = behind;
+    }
+    Ok(())
+}
+
+/// Adds the entries of a section, a line each, all with the same before their names. One walk over its items; a value takes memory of
+/// its own only if it has a quote or a backslash, or goes on over lines.
+///
+/// # Errors
+///
+/// Out of memory.
+pub fn add_lines(
+    lines: &mut Vec<u8>,
+    line: &Line,
+    before: &[u8],
+    section: &SectionRef<'_>,
+) -> Result<(), NoMemory>
+    ensures { IfOk result (λ _. lines.new.items ≡ lines.old.items ++ section_lines line.now before.now (shown section.now)) }
+{
+    let head = head_of(line, before, section)?;
+    let mut rest = section.items;
+    while let Some((entry, behind)) = next_entry(rest) {
+        add_line(lines, line, &head, section, entry)?;
+        rest = behind;
+    }
+    Ok(())
+}
+
+/// What the lines of a section's entries begin with.
+fn head_of(line: &Line, before: &[u8], section: &SectionRef<'_>) -> Result<Vec<u8>, NoMemory>
+    ensures { let header = (shown section.now).header in
+        IfOk result (λ head. head.items ≡ before.now ++ names_part line.now (section_names (name_of header) (subsection_of header))) }
+{
+    let header = section.header();
+    let mut head = before.to_vec(section.alloc)?;
+    if line.has_names {
+        add_section_names(&mut head, header.name(), header.subsection_name())?;
+    }
+    Ok(head)
+}
+
+/// Adds the line of an entry, which begins with this.
+fn add_line(
+    lines: &mut Vec<u8>,
+    line: &Line,
+    head: &[u8],
+    section: &SectionRef<'_>,
+    entry: &Entry,
+) -> Result<(), NoMemory>
+    ensures { let e = document_entry (entry_of section.now.buffer.now entry.now) in
+        IfOk result (λ _. lines.new.items ≡ lines.old.items
+        ++ (head.now ++ (names_part line.now (fold e.name) ++ (value_part line.now (option_map plain e.raw) ++ line.now.end ∷ [])))) }
+{
+    lines.extend_from_slice(head)?;
+    if line.has_names {
+        add_in_lower_case(lines, entry.name().bytes_in(section.buffer))?;
+    }
+    add_meaning(lines, line, section, entry)?;
+    lines.push(line.end)?;
+    Ok(())
+}
+
+/// Adds what an entry's value means, as it is printed.
+fn add_meaning(
+    lines: &mut Vec<u8>,
+    line: &Line,
+    section: &SectionRef<'_>,
+    entry: &Entry,
+) -> Result<(), NoMemory>
+    ensures { let e = document_entry (entry_of section.now.buffer.now entry.now) in
+        IfOk result (λ _. lines.new.items ≡ lines.old.items ++ value_part line.now (option_map plain e.raw)) }
+{
+    match entry.assigned() {
+        AssignedRef::Nothing => Ok(()),
+        AssignedRef::Plain { value, .. } => add_decoded(
+            section.alloc,
+            lines,
+            line,
+            value.bytes_in(section.buffer),
+        ),
+        AssignedRef::Continued(_) => match entry_value(section.alloc, section.buffer, entry)? {
+            Some(value) => Ok(add_value(lines, line, Some(value.as_bytes()))?),
+            None => Ok(()),
+        },
+    }
+}
+
+/// Adds what the text of a value means, as it is printed.
+fn add_decoded(alloc: Global, lines: &mut Vec<u8>, line: &Line, raw: &[u8]) -> Result<(), NoMemory>
+    ensures { IfOk result (λ _. lines.new.items ≡ lines.old.items ++ value_part line.now (Some (plain raw.now))) }
+{
+    match normalize(alloc, raw)? {
+        CowSlice::Borrowed(text) => Ok(add_value(lines, line, Some(text))?),
+        CowSlice::Owned(text) => Ok(add_value(lines, line, Some(&text))?),
+    }
+}
+
+/// Adds the values of a section's entries of a name; none for one without `=`.
+///
+/// # Errors
+///
+/// Out of memory.
+pub fn add_values(
+    values: &mut Vec<Option<BString>>,
+    section: &SectionRef<'_>,
+    value_name: &str,
+) -> Result<(), NoMemory>
+    ensures { IfOk result (λ _. map (option_map bstring_bytes) values.new.items
+        ≡ map (option_map bstring_bytes) values.old.items ++ values_of_name value_name.now (shown section.now)) }
+{
+    let mut rest = section.items;
+    while let Some((entry, behind)) = next_entry(rest) {
+        if is_sought(section, entry, Some(value_name)) {
+            values.push(entry_value(section.alloc, section.buffer, entry)?)?;
+        }
+        rest = behind;
+    }
+    Ok(())
+}
+
+/// Whether a section has the names of a key.
+pub fn is_named(section: &SectionRef<'_>, key: KeyRef<'_>) -> bool {
+    has_names(section, key.section_name, key.subsection_name)
+}
+
+/// Whether `list` prints the entries of a section under the names of a key. That of a section `[a.b "c"]` has the dot of its name before
+/// its subsection, and so is found by a key whose subsection is `b.c`.
+pub fn is_listed_under(section: &SectionRef<'_>, key: KeyRef<'_>) -> bool {
+    let header = section.header();
+    match (
+        header.name().find_byte(b'.'),
+        header.subsection_name(),
+        key.subsection_name,
+    ) {
+        (Some(dot), Some(subsection_name), Some(wanted)) => {
+            let (name, rest) = header.name().split_at(dot);
+            name.eq_ignore_ascii_case(key.section_name.as_bytes())
+                && is_joined(wanted, rest.split_at(1.min(rest.len())).1, subsection_name)
+        }
+        _ => is_named(section, key),
+    }
+}
+
+/// Whether a text is these two with a dot between them, the first in lower case.
+fn is_joined(text: &[u8], first: &[u8], last: &[u8]) -> bool {
+    let (start, rest) = text.split_at(first.len().min(text.len()));
+    let is_lower = !start.iter().any(|byte| byte.is_ascii_uppercase());
+    match rest {
+        [b'.', end @ ..] => is_lower && start.eq_ignore_ascii_case(first) && end == last,
+        _ => false,
+    }
+}
+
+/// Whether a section has this name, without ASCII case, and exactly this subsection.
+pub fn has_names(section: &SectionRef<'_>, name: &str, subsection_name: Option<&[u8]>) -> bool {
+    let header = section.header();
+    header.name().eq_ignore_ascii_case(name.as_bytes())
+        && header.subsection_name() == subsection_name
+}

@@ -1,0 +1,166 @@
+//! The line in which reading stopped, and the mark under it.
+ghost use Rattle.std.specs.Prelude.{◌≡◌, ◌+◌, ◌≤◌, ◌++◌, length, take, map, chars, replicate, IfOk, OnOk, string_bytes};
+ghost use Rattle.std.specs.List.{count_by, flat_map};
+ghost use Rattle.bstr.specs.Utf8.{lossy_chars};
+ghost use Rattle.gixcfg_core.specs.Line.{IsPlaceOf, is_feed, first_line as first_line_lem, last_line as last_line_lem, line_from as line_from_lem, most_shown, shown as shown_lem, shown_char as shown_char_lem, under_char, without_mark as without_mark_lem, without_return as without_return_lem};
+
+use bstr::ByteSlice;
+use std::alloc::{AllocError, Global};
+use unicode_width::UnicodeWidthChar;
+
+/// The mark of UTF-8, which is no part of a text.
+const MARK: &[u8] = b"\xef\xbb\xbf";
+
+/// How many bytes of a line are shown at most from the place on.
+const MOST_SHOWN: usize = 200;
+
+/// The line in which reading stopped, in two parts, and what comes under the first of them.
+#[derive(Drop)]
+pub struct Place {
+    /// The number of the line, counted from 1.
+    pub line: usize,
+    /// How many characters of the line stand before the place, and one more.
+    pub column: usize,
+    /// The line up to the place, as it is shown.
+    pub before: String,
+    /// The line from the place on, as it is shown, and cut if it is long.
+    pub behind: String,
+    /// As wide as the first part.
+    pub under: String,
+}
+
+/// The place in a text after which so many bytes are left.
+///
+/// # Errors
+///
+/// Out of memory.
+pub fn place_of(alloc: Global, text: &[u8], left: usize) -> Result<Place, AllocError>
+    ensures { IfOk result (IsPlaceOf text.now left) }
+{
+    let (read, rest) = text.split_at(text.len().saturating_sub(left));
+    let before = shown(alloc, last_line(without_mark(read)))?;
+    let behind = shown(alloc, start_of(line_from(rest)))?;
+    let under = under(alloc, before.as_str())?;
+    Ok(Place {
+        line: line_of(read),
+        column: column_of(before.as_str()),
+        before,
+        behind,
+        under,
+    })
+}
+
+/// The number of the line that follows a text.
+fn line_of(before: &[u8]) -> usize
+    ensures { result ≡ count_by is_feed before.now + 1 }
+{
+    before.iter().filter(|byte| **byte == b'\n').count() + 1
+}
+
+/// The column of what follows a text in its line.
+fn column_of(before: &str) -> usize
+    ensures { result ≡ length (chars before.now) + 1 }
+{
+    before.chars().count() + 1
+}
+
+/// A text without the mark at its start.
+fn without_mark(text: &[u8]) -> &[u8]
+    ensures { result.now ≡ without_mark_lem text.now }
+{
+    if text.starts_with(MARK) {
+        text.split_at(MARK.len()).1
+    } else {
+        text
+    }
+}
+
+/// A text from its last line feed on.
+fn last_line(text: &[u8]) -> &[u8]
+    ensures { result.now ≡ last_line_lem text.now }
+{
+    match text.rfind_byte(b'\n') {
+        Some(end) => text.split_at(end + 1).1,
+        None => text,
+    }
+}
+
+/// A text up to its first line ending.
+fn line_from(text: &[u8]) -> &[u8]
+    ensures { result.now ≡ line_from_lem text.now }
+{
+    match text.find_byte(b'\n') {
+        Some(end) => without_return(text.split_at(end).0),
+        None => text,
+    }
+}
+
+/// The bytes of a line that are shown.
+fn start_of(line: &[u8]) -> &[u8]
+    ensures { result.now ≡ take most_shown line.now }
+{
+    if line.len() > MOST_SHOWN {
+        line.split_at(MOST_SHOWN).0
+    } else {
+        line
+    }
+}
+
+/// A line without the carriage return at its end, where that isn't all of it.
+fn without_return(line: &[u8]) -> &[u8]
+    ensures { result.now ≡ without_return_lem line.now }
+{
+    match line {
+        [first @ .., b'\r'] if !first.is_empty() => first,
+        _ => line,
+    }
+}
+
+/// A text as it is shown: what isn't UTF-8 and what would steer a terminal as a replacement.
+fn shown(alloc: Global, text: &[u8]) -> Result<String, AllocError>
+    ensures { IfOk result (λ s. string_bytes s ≡ shown_lem (lossy_chars text.now)) }
+{
+    text.chars().map(|c| shown_char(c)).collect(alloc)
+}
+
+/// A character as it is shown.
+fn shown_char(c: char) -> char
+    ensures { result ≡ shown_char_lem c }
+{
+    if c.is_control() && c != '\t' {
+        '\u{fffd}'
+    } else {
+        c
+    }
+}
+
+/// Blanks that are as wide as a text that is shown; its tabs stay.
+fn under(alloc: Global, text: &str) -> Result<String, AllocError>
+    ensures { IfOk result (λ s. string_bytes s ≡ flat_map under_char (chars text.now)) }
+{
+    let mut all = String::new(alloc);
+    for c in text.chars() {
+        add_under(&mut all, c)?;
+    }
+    Ok(all)
+}
+
+/// Adds what is as wide as a character.
+fn add_under(all: &mut String, c: char) -> Result<(), AllocError>
+    ensures { OnOk result (string_bytes all.new ≡ string_bytes all.old ++ under_char c) }
+{
+    if c == '\t' {
+        return all.push('\t');
+    }
+    add_blanks(all, c.width().unwrap_or(0))
+}
+
+/// Adds so many blanks.
+fn add_blanks(all: &mut String, count: usize) -> Result<(), AllocError>
+    ensures { OnOk result (string_bytes all.new ≡ string_bytes all.old ++ replicate count 32) }
+{
+    for _ in 0..count {
+        all.push(' ')?;
+    }
+    Ok(())
+}
