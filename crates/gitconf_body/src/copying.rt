@@ -7,10 +7,10 @@ ghost use Rattle.gitconf_items.specs.ItemsFit.{PieceFits, ValueFits, AssignedFit
 ghost use Rattle.gitconf_body.specs.Buffers.{StandsAt};
 ghost use Rattle.gitconf_body.specs.Copies.{assigned_size, entry_size, header_size, item_size, items_size, piece_size, pieces_size, value_size, IsCopy, IsLonger};
 
+use crate::buffer::append;
 use gitconf_items::entry::{Assigned, AssignedRef, Entry, EntryParts, Piece, Value};
 use gitconf_items::event::{Header, Span};
 use gitconf_items::items::Item;
-use crate::buffer::append;
 use gitconf_text::parse::span;
 use smallvec::SmallVec;
 

@@ -10,10 +10,10 @@ ghost use Rattle.gitconf_state.specs.State.{entries_of, is_item};
 ghost use Rattle.gitconf_body.specs.Bodies.{has_key, values_in, AreFound};
 
 use crate::meanings::entry_meaning;
+use crate::seeking::is_named;
 use bstr::BString;
 use gitconf_items::entry::Entry;
 use gitconf_items::items::Item;
-use crate::seeking::is_named;
 use gitconf_text::NoMemory;
 use std::alloc::Global;
 

@@ -7,9 +7,9 @@ ghost use Rattle.gitconf_state.specs.Edit as state;
 ghost use Rattle.gitconf_text.specs.LineEnds.{bytes_of_line_end};
 ghost use Rattle.gitconf_body.specs.Buffers.{Grows};
 
+use crate::editor::editor_of;
 use crate::set::set;
 use gitconf_items::items::Item;
-use crate::editor::editor_of;
 use gitconf_text::line_end::LineEnd;
 use gitconf_text::parse::span;
 use gitconf_text::value::escaped_len;

@@ -8,9 +8,9 @@ ghost use Rattle.gitconf_items.specs.ShownEvents.{IsExtended, IsShown};
 ghost use Rattle.gitconf_state.specs.Edit.{header_bytes, made_header};
 ghost use Rattle.gitconf_body.specs.Buffers.{Grows};
 
+use crate::buffer::{check_room, take_back};
 use crate::section::{append_header, header_len};
 use gitconf_items::event::Header;
-use crate::buffer::{check_room, take_back};
 use gitconf_text::parse::span;
 
 /// Checks that a buffer has room for the text of a header. Takes no memory.

@@ -4,8 +4,8 @@ ghost use Rattle.gitconf_items.specs.Items.{items_of};
 ghost use Rattle.gitconf_items.specs.ItemsFit.{AreItemsWithin};
 ghost use Rattle.gitconf_items.specs.ShownEvents.{IsExtended};
 
-use gitconf_items::items::Item;
 use crate::buffer::take_back;
+use gitconf_items::items::Item;
 
 /// An edit of a list of items over the buffer that their spans are offsets of.
 pub trait ItemsEdit {

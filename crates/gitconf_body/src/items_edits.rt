@@ -14,12 +14,12 @@ ghost use Rattle.gitconf_body.specs.Growth.{UsedGrows};
 ghost use Rattle.gitconf_body.specs.Blanks.{given_editor, IsGiven};
 ghost use Rattle.gitconf_body.specs.ItemsEdits.{IsEditorOf};
 
+use crate::editor::{Editor, editor_of};
 use crate::items_edit::ItemsEdit;
+use crate::seeking::last_place;
 use crate::value_at::InPlaceOf;
 use crate::{marked, push, push_below, set, take_out, value_at};
 use gitconf_items::items::Item;
-use crate::editor::{Editor, editor_of};
-use crate::seeking::last_place;
 use gitconf_text::NoMemory;
 use gitconf_text::line_end::LineEnd;
 use gitconf_text::parse::span;

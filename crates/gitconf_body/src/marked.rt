@@ -8,8 +8,8 @@ ghost use Rattle.gitconf_state.specs.Editors.{marked_count, removed_marked};
 ghost use Rattle.gitconf_body.specs.Taken as spec;
 ghost use Rattle.gitconf_body.specs.Taken.{StayWithin};
 
-use gitconf_items::items::Item;
 use crate::seeking::is_entry_of;
+use gitconf_items::items::Item;
 use gitconf_text::NoMemory;
 
 /// How many entries of a key there are.

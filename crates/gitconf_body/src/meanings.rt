@@ -10,11 +10,11 @@ ghost use Rattle.gitconf_items.specs.Items.{entry_of, items_of, value_of};
 ghost use Rattle.gitconf_state.specs.Lookup as state;
 ghost use Rattle.gitconf_state.specs.State.{entries_of};
 
+use crate::seeking::last_place;
+use crate::values::raw_text;
 use bstr::BString;
 use gitconf_items::entry::{AssignedRef, Entry, Value};
 use gitconf_items::items::Item;
-use crate::seeking::last_place;
-use crate::values::raw_text;
 use gitconf_text::NoMemory;
 use gitconf_text::value::normalize;
 use std::alloc::Global;

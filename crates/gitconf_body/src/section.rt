@@ -14,11 +14,11 @@ ghost use Rattle.gitconf_text.specs.LineEnds.{bytes_of_line_end};
 ghost use Rattle.gitconf_body.specs.Buffers.{Grows};
 ghost use Rattle.gitconf_body.specs.Lines.{QuotedStands};
 
+use crate::buffer::{append, check_room, take_back};
 use crate::entry::{entry_len, set_value};
 use gitconf_items::event::{Copied, Header, Span};
 use gitconf_items::event_ref::{escaped_subsection_len, write_escaped_subsection};
 use gitconf_items::items::{Item, Section};
-use crate::buffer::{append, check_room, take_back};
 use gitconf_text::NoMemory;
 use gitconf_text::line_end::LineEnd;
 use gitconf_text::parse::span;

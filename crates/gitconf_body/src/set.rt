@@ -13,14 +13,14 @@ ghost use Rattle.gitconf_body.specs.Editors.{around_in, editor_in, AroundFits, E
 ghost use Rattle.gitconf_body.specs.Places.{IsLastAt, IsLastPlace};
 ghost use Rattle.gitconf_body.specs.Standing.{Stand};
 
-use gitconf_items::entry::{AssignedRef, Entry};
-use gitconf_items::event::Span;
-use gitconf_items::items::Item;
 use crate::buffer::check_room;
 use crate::editor::{Around, Editor};
 use crate::push::{around_len, check_push, entry_with, push, put_around, put_value};
 use crate::seeking::last_place;
 use crate::values::item_text;
+use gitconf_items::entry::{AssignedRef, Entry};
+use gitconf_items::event::Span;
+use gitconf_items::items::Item;
 use gitconf_text::parse::span;
 use gitconf_text::value::escaped_len;
 

@@ -10,10 +10,10 @@ ghost use Rattle.gitconf_body.specs.Spacings.{is_stored_entry};
 ghost use Rattle.gitconf_body.specs.Taken as spec;
 ghost use Rattle.gitconf_body.specs.Taken.{StayWithin};
 
-use gitconf_items::entry::Entry;
-use gitconf_items::items::Item;
 use crate::seeking::last_place;
 use crate::values::{entry_text, item_text};
+use gitconf_items::entry::Entry;
+use gitconf_items::items::Item;
 use gitconf_text::NoMemory;
 use gitconf_text::value::normalize;
 use std::alloc::Global;

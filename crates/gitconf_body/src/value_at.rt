@@ -12,12 +12,12 @@ ghost use Rattle.gitconf_body.specs.Taken.{StayWithin};
 ghost use Rattle.gitconf_body.specs.ValuesAt as spec;
 ghost use Rattle.gitconf_body.specs.ValuesAt.{IfReplaces, behind_way, instead_of, written_put};
 
-use gitconf_items::entry::{AssignedRef, Entry, Value};
-use gitconf_items::event::Span;
-use gitconf_items::items::Item;
 use crate::buffer::check_room;
 use crate::editor::Editor;
 use crate::push::{put_entry, value_len};
+use gitconf_items::entry::{AssignedRef, Entry, Value};
+use gitconf_items::event::Span;
+use gitconf_items::items::Item;
 use gitconf_text::NoMemory;
 use gitconf_text::parse::span;
 

@@ -5,10 +5,10 @@ ghost use Rattle.gitconf_state.specs.State.{AreNumbered};
 ghost use Rattle.gitconf_views.specs.Views.{sections_left};
 ghost use Rattle.gitconf_diff.specs.Differences.{different_of, plainly, AreDifferences};
 
-use crate::settings::add_settings;
-use bstr::BString;
 use crate::differing::differing;
 use crate::setting::{Setting, Side};
+use crate::settings::add_settings;
+use bstr::BString;
 use gitconf_text::NoMemory;
 use gitconf_views::section::Sections;
 use std::alloc::Global;

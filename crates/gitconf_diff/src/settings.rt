@@ -9,8 +9,8 @@ ghost use Rattle.gitconf_diff.specs.PlainSettings.{plain_settings, plain_setting
 ghost use Rattle.gitconf_views.specs.Views.{sections_left, shown};
 ghost use Rattle.gitconf_diff.specs.Settings.{section_settings, setting_of, settings_of};
 
-use bstr::BString;
 use crate::setting::{Setting, Side};
+use bstr::BString;
 use gitconf_body::entries::next_entry;
 use gitconf_body::meanings::entry_value;
 use gitconf_items::entry::Entry;

@@ -14,8 +14,8 @@ use crate::includes::conditional::GitDir;
 use crate::includes::{Error, Options};
 use crate::paths::{begins_slash, folder, replaced};
 use bstr::BString;
-use gitconf_sources::meta::Metadata;
 use gitconf_glob::wildmatch;
+use gitconf_sources::meta::Metadata;
 use gitconf_text::NoMemory;
 use std::alloc::Global;
 

@@ -1,8 +1,8 @@
 //! What an expansion needs of a file.
 
 use bstr::BString;
-use gitconf_sources::meta::Metadata;
 use gitconf_read::error as parse;
+use gitconf_sources::meta::Metadata;
 use gitconf_text::NoMemory;
 use gitconf_text::parse::span;
 use std::alloc::Global;

@@ -10,15 +10,15 @@ ghost use Rattle.gitconf_includes.specs.Inclusion.{Includes};
 ghost use Rattle.gitconf_includes.specs.Outcomes.{asks_of, told, CountsFaults, IsCause, LeavesDone};
 ghost use Rattle.gitconf_includes.specs.Visits.{condition_of, paths_of};
 
-use crate::judging::is_followed;
 use crate::config_file::{ConfigFile, Directive, Visited};
 use crate::following::fetch;
-use bstr::BString;
-use gitconf_sources::meta::Metadata;
-use gitconf_sources::Files;
 use crate::includes::Error;
 use crate::init::Options;
+use crate::judging::is_followed;
 use crate::paths::file_named;
+use bstr::BString;
+use gitconf_sources::Files;
+use gitconf_sources::meta::Metadata;
 use std::alloc::Global;
 
 /// A file at the last level: it is refused if the options ask for that.

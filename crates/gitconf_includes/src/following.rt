@@ -6,10 +6,10 @@ ghost use Rattle.gitconf_includes.specs.Expansion.{fault_number, included_meta, 
 ghost use Rattle.gitconf_includes.specs.Outcomes.{asks_of, fault_refusal, told, CountsFaults, IsCause};
 
 use crate::config_file::ConfigFile;
-use gitconf_sources::meta::Metadata;
-use gitconf_sources::{FileFault, Files, Stage};
 use crate::includes::Error;
 use crate::init::Options;
+use gitconf_sources::meta::Metadata;
+use gitconf_sources::{FileFault, Files, Stage};
 use gitconf_text::NoMemory;
 use std::alloc::Global;
 use std::rc::Rc;

@@ -4,8 +4,8 @@ ghost use Rattle.gitconf_includes.specs.Options.{no_conditions, no_follow, follo
 
 pub mod conditional;
 
-use gitconf_sources::FileFault;
 use gitconf_read::error as parse;
+use gitconf_sources::FileFault;
 use gitconf_text::NoMemory;
 use gitconf_text::parse::span;
 use gitconf_values::Homes;

@@ -7,12 +7,12 @@ ghost use Rattle.gitconf_state.specs.Including.{whole};
 ghost use Rattle.gitconf_includes.specs.Inclusion.{has_url, is_followed};
 ghost use Rattle.gitconf_includes.specs.Visits.{condition_of};
 
-use crate::config_file::{ConfigFile, Directive};
-use gitconf_sources::meta::Metadata;
 use crate::conditions::{Judged, judge};
+use crate::config_file::{ConfigFile, Directive};
 use crate::includes;
 use crate::includes::Error;
 use crate::init::Options;
+use gitconf_sources::meta::Metadata;
 use gitconf_text::NoMemory;
 use std::alloc::Global;
 

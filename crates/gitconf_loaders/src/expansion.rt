@@ -8,12 +8,12 @@ ghost use Rattle.gitconf_includes.specs.Inclusion.{paths_of};
 ghost use Rattle.gitconf_includes.specs.Visits.{TellsInclusion};
 ghost use Rattle.gitconf_loaders.specs.Urls.{has_url_in};
 
-use bstr::BString;
-use gitconf_sources::meta::Metadata;
-use gitconf_includes::config_file::{ConfigFile, Directive, Visited};
 use crate::gathering::Gathering;
+use bstr::BString;
 use gitconf_glob::wildmatch;
+use gitconf_includes::config_file::{ConfigFile, Directive, Visited};
 use gitconf_read::error as parse;
+use gitconf_sources::meta::Metadata;
 use gitconf_store::store::Store;
 use gitconf_text::NoMemory;
 use gitconf_text::parse::span;

@@ -1,8 +1,8 @@
 //! Why the entries of variables of the environment are refused.
 ghost use Rattle.std.specs.Prelude.{◌≡◌};
 
-use gitconf_includes::includes;
 use gitconf_body::value;
+use gitconf_includes::includes;
 use gitconf_text::NoMemory;
 use gitconf_text::parse::section::header;
 use gitconf_values::path::interpolate;

@@ -1,9 +1,9 @@
 //! Why files that are loaded by their paths are refused.
 ghost use Rattle.std.specs.Prelude.{◌≡◌};
 
-use gitconf_sources::FileFault;
 use gitconf_includes::init;
 use gitconf_read::error as parse;
+use gitconf_sources::FileFault;
 use gitconf_text::NoMemory;
 use gitconf_text::parse::span;
 use thiserror::Error;

@@ -7,12 +7,12 @@ ghost use Rattle.gitconf_views.specs.Views.{shown};
 ghost use Rattle.gitconf_print.specs.LineEnds.{first_newline, first_newline_of_bodies};
 
 use gitconf_lookups::walks::SectionsByName;
-use gitconf_table::runs::Run;
+use gitconf_print::line_end::first_line_end;
 use gitconf_store::store::Store;
+use gitconf_table::runs::Run;
 use gitconf_text::line_end::LineEnd;
 use gitconf_text::parse::span;
 use gitconf_views::section::SectionRef;
-use gitconf_print::line_end::first_line_end;
 use std::marker::Model;
 
 /// A file whose sections are visited one by one, with other files put in after each. So what is put in goes after everything that is done,

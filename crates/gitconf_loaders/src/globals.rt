@@ -6,12 +6,12 @@ ghost use Rattle.gitconf_loaders.specs.Errors.{paths_number};
 ghost use Rattle.gitconf_loaders.specs.Globals.{empty_file, home_rules, IsGlobal, IsGlobalCause};
 ghost use Rattle.gitconf_loaders.specs.Paths.{CountsLoad, numbered};
 
+use crate::from_paths::Error;
 use crate::paths::{from_paths, shared};
-use gitconf_sources::meta::Metadata;
-use gitconf_sources::{Env, Files, Places, all_found};
 use gitconf_includes::includes;
 use gitconf_includes::init::Options;
-use crate::from_paths::Error;
+use gitconf_sources::meta::Metadata;
+use gitconf_sources::{Env, Files, Places, all_found};
 use gitconf_store::store::Store;
 use gitconf_text::NoMemory;
 use std::alloc::Global;

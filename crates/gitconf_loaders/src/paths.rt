@@ -8,12 +8,12 @@ ghost use Rattle.gitconf_sources.specs.declared.fault.Stage.TheVariants.{Memory}
 ghost use Rattle.gitconf_loaders.specs.declared.from_paths.Error.TheVariants as refusals;
 ghost use Rattle.gitconf_loaders.specs.Paths.{CountsLoad, is_among, IsLoadedFrom, IsLoadOfPaths, IsMetaLoaded, IsTextTaken, Joins, left_by, load_fault, numbered, once, text_taken};
 
+use crate::from_paths::Error;
 use crate::resolving::{load, resolved_text};
+use gitconf_includes::init::Options;
 use gitconf_sources::meta::Metadata;
 use gitconf_sources::source::Source;
 use gitconf_sources::{FileFault, Files, Stage};
-use gitconf_includes::init::Options;
-use crate::from_paths::Error;
 use gitconf_store::store::Store;
 use gitconf_text::NoMemory;
 use std::alloc::Global;

@@ -2,10 +2,10 @@
 ghost use Rattle.std.specs.Prelude.{◌≡◌};
 
 use crate::{from_env, from_git_dir, from_paths, lookup};
-use gitconf_lookups::existing;
+use gitconf_body::value as unwritten;
 use gitconf_includes::{includes, init};
 use gitconf_items::sink::SinkFault;
-use gitconf_body::value as unwritten;
+use gitconf_lookups::existing;
 use gitconf_read::error as parse;
 use gitconf_store::{rename_section, set_raw_value};
 use gitconf_text::parse::section::{NameError, ValueNameError, header};

@@ -7,13 +7,13 @@ ghost use Rattle.gitconf_loaders.specs.Resolving.{IsMadeCause, IsMadeOf, MakesCo
 
 use crate::expansion::Expansion;
 pub use crate::expansion::load;
-use gitconf_sources::meta::Metadata;
-use gitconf_includes::expanding::expand_file;
 use crate::gathering::Gathering;
-use gitconf_sources::Files;
+use gitconf_includes::expanding::expand_file;
 use gitconf_includes::includes::Error;
 use gitconf_includes::init;
 use gitconf_includes::init::Options;
+use gitconf_sources::Files;
+use gitconf_sources::meta::Metadata;
 use gitconf_store::store::Store;
 use std::alloc::Global;
 use std::rc::Rc;

@@ -7,11 +7,11 @@ ghost use Rattle.gitconf_lookups.specs.Finding.{deciding_entry, place_of, places
 ghost use Rattle.gitconf_views.specs.Views.{shown};
 
 use crate::found::{Deciding, Found, copied};
-use gitconf_sources::lists::put;
 use gitconf_body::meanings::last_entry;
+use gitconf_body::seeking::is_named;
 use gitconf_items::entry::{AssignedRef, Entry};
 use gitconf_items::items::Item;
-use gitconf_body::seeking::is_named;
+use gitconf_sources::lists::put;
 use gitconf_text::NoMemory;
 use gitconf_views::section::SectionRef;
 

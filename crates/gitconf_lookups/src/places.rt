@@ -11,10 +11,10 @@ ghost use Rattle.gitconf_lookups.specs.Walks.{named_left};
 
 use crate::filters::passes;
 use crate::walks::SectionsNamed;
+use gitconf_body::seeking::{is_entry_of, last_place};
+use gitconf_items::items::Item;
 use gitconf_sources::lists::put;
 use gitconf_sources::meta::Metadata;
-use gitconf_items::items::Item;
-use gitconf_body::seeking::{is_entry_of, last_place};
 use gitconf_table::table::SectionId;
 use gitconf_text::NoMemory;
 use gitconf_views::section::SectionRef;

@@ -11,10 +11,10 @@ ghost use Rattle.gitconf_views.specs.Views.{shown, sections_left};
 
 use gitconf_items::items::Item;
 use gitconf_items::sink::{Sink, SinkFault};
-use gitconf_text::line_end::LineEnd;
-use gitconf_views::section::{SectionRef, Sections};
 use gitconf_print::line_end::ends_line;
 use gitconf_print::sections::write_line_end_unless;
+use gitconf_text::line_end::LineEnd;
+use gitconf_views::section::{SectionRef, Sections};
 
 /// Whether the filter keeps a section. Only this function calls the filter.
 fn is_kept<F: FnMut(&SectionRef<'_>) -> bool>(filter: &mut F, section: &SectionRef<'_>) -> bool

@@ -9,8 +9,8 @@ ghost use Rattle.gitconf_lookups.specs.Lookups.{IsFound, shown_with, texts_of, i
 
 use crate::found::Found;
 use bstr::BString;
-use gitconf_sources::lists::put;
 use gitconf_body::meanings::entry_meaning;
+use gitconf_sources::lists::put;
 use gitconf_text::NoMemory;
 use gitconf_views::section::SectionRef;
 use std::alloc::Global;

@@ -13,9 +13,9 @@ ghost use Rattle.gitconf_views.specs.Counts.{are_void, section_entries};
 
 use gitconf_body::entries::entry_count;
 use gitconf_items::items::Item;
+use gitconf_print::line_end::first_line_end;
 use gitconf_text::line_end::LineEnd;
 use gitconf_views::section::Sections;
-use gitconf_print::line_end::first_line_end;
 
 /// The line ending of the first newline of the sections' bodies, if there is one.
 pub fn bodies_line_end(sections: Sections<'_>) -> Option<LineEnd>

@@ -15,13 +15,13 @@ ghost use Rattle.gitconf_parse.specs.Lookup.{value_of, values_of, value_of_key, 
 ghost use Rattle.gitconf_parse.specs.Places.{raw_at, ValueInside};
 ghost use Rattle.gitconf_parse.specs.Walk.{IsStart};
 
+use crate::input::{check_len, refusal};
 use crate::lookup::meaning::{entry_meaning, meaning};
 use crate::lookup::walk::{Cursor, next_met};
 use bstr::BString;
-use gitconf_sources::key::{AsKey, KeyRef};
-use crate::input::{check_len, refusal};
 use gitconf_read::error::Error;
 use gitconf_read::reading::{Expected, ReadError, mark_len};
+use gitconf_sources::key::{AsKey, KeyRef};
 use std::alloc::Global;
 
 mod class;

@@ -4,9 +4,9 @@ ghost use Rattle.gitconf_sections.specs.Section.{read, viewed};
 
 use crate::body::{Body, body_items};
 use crate::held::Held;
-use gitconf_sources::meta::Metadata;
 use gitconf_items::event::Header;
 use gitconf_items::items::Item;
+use gitconf_sources::meta::Metadata;
 use std::alloc::Global;
 use std::rc::Rc;
 

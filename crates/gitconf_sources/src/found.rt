@@ -3,9 +3,9 @@ ghost use Rattle.std.specs.Prelude.{◌≡◌, ◌++◌, List, IfOk, OnOk};
 ghost use Rattle.gitconf_sources.specs.Metadata.{Meta};
 ghost use Rattle.gitconf_sources.specs.FoundFiles.{found_list, global_sources, AreFound, IsFound};
 
-use crate::storage::StorageLocation;
 use crate::meta::Metadata;
 use crate::source::{Source, Trust};
+use crate::storage::StorageLocation;
 use crate::{Env, Files, Places};
 use gitconf_text::NoMemory;
 use std::alloc::Global;

@@ -4,9 +4,9 @@ ghost use Rattle.std.specs.Option.{option_map};
 ghost use Rattle.gitconf_sources.specs.Places as spec;
 ghost use Rattle.gitconf_sources.specs.Places.{folder_place, git_place, in_folder, installation_place, IsPlaced, IsText, machine_place, system_place, unless_empty, user_place};
 
-use bstr::BString;
 use crate::source::Source;
 use crate::{Env, EnvVar, Places};
+use bstr::BString;
 use gitconf_text::NoMemory;
 use gitconf_values::Boolean;
 use gitconf_values::path::join;

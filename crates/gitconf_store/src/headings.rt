@@ -7,11 +7,11 @@ ghost use Rattle.gitconf_sources.specs.Metadata.{Meta};
 ghost use Rattle.gitconf_text.specs.Sections.{is_named, place_of, IsNumbered};
 ghost use Rattle.gitconf_store.specs.Renamings.{marked_places, with_headers, AreMarks};
 
+use gitconf_items::event::Header;
+use gitconf_lookups::filters::passes;
+use gitconf_sections::sections::SectionList;
 use gitconf_sources::lists::put;
 use gitconf_sources::meta::Metadata;
-use gitconf_lookups::filters::passes;
-use gitconf_items::event::Header;
-use gitconf_sections::sections::SectionList;
 use gitconf_table::table::SectionId;
 use gitconf_text::NoMemory;
 use std::alloc::Global;

@@ -15,10 +15,10 @@ ghost use Rattle.gitconf_table.specs.Word.{full_word, name_word};
 ghost use Rattle.gitconf_table.specs.Words.{places_of};
 ghost use Rattle.gitconf_table.specs.SectionIters.{ids_left, named_left, sections_left, shown_section, with_name_left};
 
-use crate::letters::{Names, make_room, name_at, put, put_names, subsection_at};
-use crate::word::{SEED, full_state, name_state, word_of};
 use crate::index::{Places, WordIndex};
+use crate::letters::{Names, make_room, name_at, put, put_names, subsection_at};
 use crate::lists::put_at;
+use crate::word::{SEED, full_state, name_state, word_of};
 use gitconf_text::NoMemory;
 use gitconf_text::parse::section::bytes::is_same_name;
 use gitconf_text::parse::span;

@@ -1,9 +1,9 @@
 //! Events that are walked over and copied.
 
+use crate::shim::{begin, was_refused};
 use crate::texts::{TEXT, WRITTEN};
 use gitconf_items::event_ref::EventRef;
 use gitconf_parse::events::{EventIter, Events};
-use crate::shim::{begin, was_refused};
 use std::alloc::Global;
 use std::str;
 use std::test::Fail;

@@ -2,7 +2,9 @@
 
 use crate::shim::{Outcome, begin, each_refused, was_refused};
 use gitconf_sources::source::Trust;
-use gitconf_sources::{Env, EnvVar, FileFault, Files, Host, MemEnv, MemFile, MemFiles, Places, Stage};
+use gitconf_sources::{
+    Env, EnvVar, FileFault, Files, Host, MemEnv, MemFile, MemFiles, Places, Stage,
+};
 use gitconf_text::NoMemory;
 use std::alloc::{AllocError, Global};
 use std::test::Fail;

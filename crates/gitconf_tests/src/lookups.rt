@@ -1,8 +1,8 @@
 //! What is found in texts.
 
 use bstr::BString;
-use gitconf_sources::key::KeyRef;
 use gitconf_parse::lookup::{value_in, values_in};
+use gitconf_sources::key::KeyRef;
 use std::alloc::Global;
 use std::test::Fail;
 

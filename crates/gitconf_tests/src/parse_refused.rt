@@ -1,13 +1,13 @@
 //! Calls on events that no command makes, each with one of its growths refused in turn.
 
 use crate::events::{read, written};
+use crate::shim::{Outcome, begin, each_refused, was_refused};
 use crate::texts::{TEXT, WRITTEN};
 use gitconf_items::event_ref::EventRef;
 use gitconf_items::items::{Keep, Section};
 use gitconf_parse::events::Events;
 use gitconf_parse::laws::kept_entries_make_items;
 use gitconf_parse::loading::read_sections;
-use crate::shim::{Outcome, begin, each_refused, was_refused};
 use gitconf_text::NoMemory;
 use std::alloc::Global;
 use std::str;

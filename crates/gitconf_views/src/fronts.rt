@@ -11,11 +11,11 @@ ghost use Rattle.gitconf_text.specs.Sections.{no_number};
 use gitconf_items::event::Span;
 use gitconf_items::few::FewItems;
 use gitconf_items::items::Item;
+use gitconf_print::line_end::ends_line;
 use gitconf_sections::held::join;
 use gitconf_sections::sections::SectionList;
 use gitconf_text::line_end::LineEnd;
 use gitconf_text::parse::span;
-use gitconf_print::line_end::ends_line;
 
 /// Whether items begin with the line ending, or there are none.
 fn begins_with(buffer: &[u8], items: &[Item], line_end: LineEnd) -> bool

@@ -6,13 +6,13 @@ ghost use Rattle.gitconf_state.specs.Loads.{section_tokens};
 ghost use Rattle.gitconf_views.specs.Loading.{IsLoading};
 ghost use Rattle.gitconf_views.specs.Store.{AllSectionsFit, section_state, loaded_section};
 
-use gitconf_sources::meta::Metadata;
 use gitconf_items::decode::decoded_header;
 use gitconf_items::event::Header;
 use gitconf_items::items::Item;
 use gitconf_items::lend::subsection_name;
 use gitconf_items::section_sink::SectionSink;
 use gitconf_sections::sections::SectionList;
+use gitconf_sources::meta::Metadata;
 use gitconf_text::NoMemory;
 use std::alloc::Global;
 use std::rc::Rc;

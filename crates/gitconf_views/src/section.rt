@@ -6,20 +6,20 @@ ghost use Rattle.gitconf_views.specs.Viewed.{AreViewed, AreViewed-prop, IsViewed
 
 use crate::tables::view_of;
 use bstr::BString;
-use gitconf_sources::meta::Metadata;
-use gitconf_sources::source::Trust;
+use gitconf_body::blanks::Blanks;
 use gitconf_body::meanings::entry_meaning;
 use gitconf_items::event::Header;
 use gitconf_items::events::ItemEvents;
 use gitconf_items::items::Item;
 use gitconf_items::sink::{Sink, SinkFault};
-use gitconf_body::blanks::Blanks;
+use gitconf_print::line_end as items;
+use gitconf_print::sections::{write_held, write_section};
 use gitconf_sections::sections::walks::Iter;
+use gitconf_sources::meta::Metadata;
+use gitconf_sources::source::Trust;
 use gitconf_table::table::SectionId;
 use gitconf_text::NoMemory;
 use gitconf_text::line_end::LineEnd;
-use gitconf_print::line_end as items;
-use gitconf_print::sections::{write_held, write_section};
 use std::alloc::Global;
 use std::rc::Rc;
 

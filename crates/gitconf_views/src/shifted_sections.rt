@@ -10,13 +10,13 @@ ghost use Rattle.gitconf_sections.specs.Section.{made};
 ghost use Rattle.gitconf_views.specs.Moves.{AreMovable, AreSectionsMoved};
 ghost use Rattle.gitconf_views.specs.Store.{AllSectionsFit, section_state, section_under};
 
-use gitconf_sources::meta::Metadata;
 use gitconf_items::event::Header;
 use gitconf_items::few::FewItems;
 use gitconf_items::items::Item;
 use gitconf_items::lend::subsection_name;
 use gitconf_items::moving::move_items;
 use gitconf_sections::sections::SectionList;
+use gitconf_sources::meta::Metadata;
 use gitconf_table::table::SectionId;
 use gitconf_text::NoMemory;
 use gitconf_text::parse::span;

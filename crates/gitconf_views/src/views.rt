@@ -19,8 +19,8 @@ use gitconf_items::entry::Entry;
 use gitconf_items::event::Header;
 use gitconf_items::items::Item;
 use gitconf_items::lend::subsection_name;
-use gitconf_text::NoMemory;
 use gitconf_print::sections::write_header;
+use gitconf_text::NoMemory;
 use std::alloc::Global;
 use std::iter::FusedIterator;
 

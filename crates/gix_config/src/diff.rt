@@ -2,13 +2,13 @@
 ghost use Rattle.std.specs.Prelude.{map, IfOk};
 ghost use Rattle.gitconf_diff.specs.Differences.{different_of, AreDifferences};
 
-pub use gitconf_diff::setting::Side;
 pub use gitconf_diff::differences::Difference;
 use gitconf_diff::differences::differences_of;
+pub use gitconf_diff::setting::Side;
 /// Nothing differs exactly if both files say the same of every key, and then lookups of a key find the same values in both.
+use crate::File;
 pub use gitconf_diff::laws;
 use gitconf_text::NoMemory;
-use crate::File;
 use std::alloc::Global;
 
 /// What two files mean differently, sorted by key: of each key of which they say different things the entries of the first file in file

@@ -23,14 +23,14 @@ mod values;
 mod white_space;
 
 use bstr::BString;
-use gitconf_sources::key::AsKey;
-pub use gitconf_sources::meta::Metadata;
 pub use gitconf_includes::includes;
 pub use gitconf_items::events::ItemEvents;
 use gitconf_items::sink::{Sink, SinkFault};
 use gitconf_parse::events::Events;
 use gitconf_parse::input::check_len;
 use gitconf_read::error::Error;
+use gitconf_sources::key::AsKey;
+pub use gitconf_sources::meta::Metadata;
 use gitconf_store::store::Store;
 pub use gitconf_store::{rename_section, set_raw_value};
 pub use gitconf_table::table::SectionId;

@@ -6,9 +6,9 @@ ghost use Rattle.gix_config_c.specs.Answers.{OfFile};
 ghost use Rattle.gix_config_c.specs.Appended.{IsAppended};
 ghost use Rattle.gix_config_c.specs.Edited.{IsEditedFile};
 
-use crate::{DONE, OUT_OF_MEMORY, WRONG_HANDLE};
 use crate::object::Object;
 use crate::slot::Slot;
+use crate::{DONE, OUT_OF_MEMORY, WRONG_HANDLE};
 use gix_config::File;
 use gix_config::refusals::Refusal as _;
 use std::alloc::Global;

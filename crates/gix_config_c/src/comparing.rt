@@ -4,14 +4,14 @@ ghost use Rattle.gitconf_diff.specs.Differences.{different_of};
 ghost use Rattle.gix_config_c.specs.Answers.{OfFile};
 ghost use Rattle.gix_config_c.specs.Compared.{AreDifferencesFrom, AreDifferencesOf, AreListed, IsDifferenceAt, IsDifferenceIn, IsToldEqual, IsToldEqualFrom, told_difference};
 
-use crate::entries::vector;
-use crate::lists::put_list;
-use crate::{DONE, NOTHING_THERE, OUT_OF_MEMORY, WRONG_HANDLE};
-use gix_config::diff::differences;
 use crate::difference::{Difference, DifferencePlace};
+use crate::entries::vector;
 use crate::entry::Entry;
+use crate::lists::put_list;
 use crate::object::Object;
 use crate::slot::Slot;
+use crate::{DONE, NOTHING_THERE, OUT_OF_MEMORY, WRONG_HANDLE};
+use gix_config::diff::differences;
 use gix_config::{File, NoMemory};
 use std::alloc::Global;
 

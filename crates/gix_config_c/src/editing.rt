@@ -9,11 +9,11 @@ ghost use Rattle.gix_config_c.specs.Answers.{OfFile, OfKey};
 ghost use Rattle.gix_config_c.specs.Edited.{IsEditedFile};
 ghost use Rattle.gix_config_c.specs.Entries.{IsEntryRemoved, IsPushed, IsValueRemoved};
 
-use crate::{DONE, NOT_UTF8, NOTHING_THERE, OUT_OF_MEMORY, WRONG_HANDLE};
 use crate::block::{Block, room};
 use crate::key::{Key, names};
 use crate::object::Object;
 use crate::slot::Slot;
+use crate::{DONE, NOT_UTF8, NOTHING_THERE, OUT_OF_MEMORY, WRONG_HANDLE};
 use gix_config::File;
 use gix_config::file::SectionMut;
 use gix_config::refusals::Refusal as _;

@@ -6,13 +6,13 @@ ghost use Rattle.gitconf_diff.specs.PlainSettings.{plain_setting, plain_settings
 ghost use Rattle.gix_config_c.specs.Answers.{OfFile};
 ghost use Rattle.gix_config_c.specs.Listed.{AreEntries, AreOf, IsEntryAt, IsEntryIn, listed_setting, listed_entry};
 
+use crate::entry::{Entry, EntryPlace};
 use crate::lists::put_list;
+use crate::object::Object;
+use crate::slot::Slot;
 use crate::{DONE, NOTHING_THERE, OUT_OF_MEMORY, WRONG_HANDLE};
 use bstr::BString;
 use gitconf_diff::setting::{Setting, Side};
-use crate::entry::{Entry, EntryPlace};
-use crate::object::Object;
-use crate::slot::Slot;
 use gitconf_diff::settings::add_settings;
 use gix_config::{File, NoMemory};
 use std::alloc::Global;

@@ -5,10 +5,10 @@ ghost use Rattle.gitconf_state.specs.Printing.{printed};
 ghost use Rattle.gix_config_c.specs.Answers.{OfFile};
 ghost use Rattle.gix_config_c.specs.Messages.{message_of};
 
-use crate::{DONE, OUT_OF_MEMORY, WRONG_HANDLE};
 use crate::block::{Block, room};
 use crate::object::Object;
 use crate::slot::Slot;
+use crate::{DONE, OUT_OF_MEMORY, WRONG_HANDLE};
 use gix_config::File;
 use std::alloc::Global;
 

@@ -8,14 +8,14 @@ ghost use Rattle.gitconf_state.specs.Printing.{printed_kept};
 ghost use Rattle.gix_config_c.specs.Answers.{OfFile, OfKey};
 ghost use Rattle.gix_config_c.specs.Found.{AreValues, IsBooleanOf, IsIntegerOf, IsKeptText, IsValue};
 
-use crate::finding::{boolean_where, integer_where};
-use crate::look_ups::{put_value, put_values};
-use crate::{DONE, NOT_UTF8, NOTHING_THERE, OUT_OF_MEMORY, WRONG_HANDLE};
 use crate::block::{Block, room};
+use crate::finding::{boolean_where, integer_where};
 use crate::key::{Key, names};
+use crate::look_ups::{put_value, put_values};
 use crate::object::Object;
 use crate::origin::{Filter, passes};
 use crate::slot::Slot;
+use crate::{DONE, NOT_UTF8, NOTHING_THERE, OUT_OF_MEMORY, WRONG_HANDLE};
 use gitconf_items::sink::SinkFault;
 use gix_config::refusals::Refusal as _;
 use gix_config::{File, NoMemory};

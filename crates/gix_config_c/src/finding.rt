@@ -5,9 +5,9 @@ ghost use Rattle.gitconf_lookups.specs.Lookups.{AreRawValues, IsRawValue};
 ghost use Rattle.gix_config_c.specs.Origins.{keeps, keeps_if};
 ghost use Rattle.gix_config.specs.Typed.{IsBoolean, IsInteger};
 
+use crate::origin::{Filter, passes};
 use bstr::BString;
 use gitconf_sources::key::KeyRef;
-use crate::origin::{Filter, passes};
 use gix_config::lookup::existing;
 use gix_config::{File, value};
 

@@ -8,12 +8,12 @@ ghost use Rattle.gix_config_c.specs.LaidOut.{IsLaidOut};
 ghost use Rattle.gix_config_c.specs.Opened.{IsKeptPlace};
 ghost use Rattle.gix_config_c.specs.Texts.{IsRefusedText};
 
-use crate::opening::refused;
-use crate::{DONE, OUT_OF_MEMORY};
-use gitconf_glob::wildmatch;
 use crate::block::{Block, room};
 use crate::fault::Fault;
 use crate::layout::{Layout, options};
+use crate::opening::refused;
+use crate::{DONE, OUT_OF_MEMORY};
+use gitconf_glob::wildmatch;
 use gitconf_layout::format::normalize;
 use std::alloc::Global;
 

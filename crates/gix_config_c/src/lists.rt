@@ -2,10 +2,10 @@
 ghost use Rattle.std.specs.Prelude.{◌≡◌, ◌⊎◌, None, Some};
 ghost use Rattle.gix_config_c.specs.Lists.{IsAt, IsLength, IsTextAt};
 
-use crate::{DONE, NOTHING_THERE, OUT_OF_MEMORY, WRONG_HANDLE};
 use crate::block::Span;
 use crate::object::Object;
 use crate::slot::Slot;
+use crate::{DONE, NOTHING_THERE, OUT_OF_MEMORY, WRONG_HANDLE};
 use std::alloc::Global;
 
 /// Puts a list into a handle, in the place of what was there, which is closed.

@@ -7,10 +7,10 @@ ghost use Rattle.gitconf_state.specs.State.{State};
 ghost use Rattle.gix_config_c.specs.Answers.{OfFile};
 ghost use Rattle.gix_config_c.specs.Opened.{IsFileOf, IsKeptPlace, IsPlace};
 
-use crate::{DONE, OUT_OF_MEMORY, WRONG_HANDLE};
 use crate::fault::{Fault, column};
 use crate::object::Object;
 use crate::slot::Slot;
+use crate::{DONE, OUT_OF_MEMORY, WRONG_HANDLE};
 use gix_config::refusals::Refusal as _;
 use gix_config::{File, parse};
 use std::alloc::Global;

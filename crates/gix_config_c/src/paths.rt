@@ -6,12 +6,12 @@ ghost use Rattle.gix_config_c.specs.Keys.{names_of};
 ghost use Rattle.gix_config_c.specs.Answers.{OfFile};
 ghost use Rattle.gix_config_c.specs.Paths.{IsPathFor, IsWhole};
 
-use crate::{DONE, NOT_UTF8, NOTHING_THERE, OUT_OF_MEMORY, WRONG_HANDLE};
 use crate::block::{Block, room};
 use crate::folders::{Folders, context};
 use crate::key::{Key, names};
 use crate::object::Object;
 use crate::slot::Slot;
+use crate::{DONE, NOT_UTF8, NOTHING_THERE, OUT_OF_MEMORY, WRONG_HANDLE};
 use gitconf_values::path::interpolate::Context;
 use gix_config::refusals::Refusal as _;
 use gix_config::{File, Path};

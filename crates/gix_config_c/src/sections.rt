@@ -9,11 +9,11 @@ ghost use Rattle.gix_config_c.specs.Answers.{OfFile, OfSection};
 ghost use Rattle.gix_config_c.specs.Edited.{IsEditedFile};
 ghost use Rattle.gix_config_c.specs.Sections.{IsMadeNew, IsNew, IsRemoved, IsRenamedTo};
 
-use crate::{DONE, NOT_UTF8, NOTHING_THERE, OUT_OF_MEMORY, WRONG_HANDLE};
-use bstr::BString;
 use crate::key::{SectionKey, section_names};
 use crate::object::Object;
 use crate::slot::Slot;
+use crate::{DONE, NOT_UTF8, NOTHING_THERE, OUT_OF_MEMORY, WRONG_HANDLE};
+use bstr::BString;
 use gitconf_text::parse::section::header;
 use gix_config::refusals::Refusal as _;
 use gix_config::{File, NoMemory};

@@ -7,11 +7,11 @@ ghost use Rattle.gitconf_state.specs.State.{State};
 ghost use Rattle.gix_config_c.specs.Answers.{OfFile, OfKey};
 ghost use Rattle.gix_config_c.specs.Edited.{IsEditedFile, IsSetTo};
 
-use crate::{DONE, NOT_UTF8, OUT_OF_MEMORY, WRONG_HANDLE};
 use crate::block::{Block, room};
 use crate::key::{Key, names};
 use crate::object::Object;
 use crate::slot::Slot;
+use crate::{DONE, NOT_UTF8, OUT_OF_MEMORY, WRONG_HANDLE};
 use gix_config::File;
 use gix_config::refusals::Refusal as _;
 use std::alloc::Global;

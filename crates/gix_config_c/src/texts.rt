@@ -6,13 +6,13 @@ ghost use Rattle.gix_config_c.specs.Answers.{OfKey};
 ghost use Rattle.gix_config_c.specs.Opened.{IsKeptPlace};
 ghost use Rattle.gix_config_c.specs.Texts.{AreValuesIn, IsRefusedText, IsValueIn};
 
-use crate::look_ups::put_texts;
-use crate::opening::refused;
-use crate::{DONE, NOT_UTF8, NOTHING_THERE, OUT_OF_MEMORY};
 use crate::block::{Block, room};
 use crate::fault::Fault;
 use crate::key::{Key, names};
+use crate::look_ups::put_texts;
+use crate::opening::refused;
 use crate::slot::Slot;
+use crate::{DONE, NOT_UTF8, NOTHING_THERE, OUT_OF_MEMORY};
 use gitconf_parse::lookup::{value_in, values_in};
 use std::alloc::Global;
 

@@ -5,13 +5,6 @@ mod section_lines;
 mod value_lines;
 mod values_lines;
 
-use script_words::arguments::{names, number, section_names};
-use script_words::blocks::play_none;
-use script_words::bracket::Bracket;
-use script_words::editor_arguments::place;
-use script_words::editors::Opening;
-use script_words::play::{Fault, Streams};
-use script_words::words::Word;
 use script_session::answer::{Answer, Outcome};
 use script_session::arguments::id_of;
 use script_session::gix_config::File;
@@ -20,6 +13,13 @@ use script_session::gix_config::file::section_mut::Error;
 use script_session::refusal::Refusal;
 use script_session::rendering::line_of;
 use script_session::session::Session;
+use script_words::arguments::{names, number, section_names};
+use script_words::blocks::play_none;
+use script_words::bracket::Bracket;
+use script_words::editor_arguments::place;
+use script_words::editors::Opening;
+use script_words::play::{Fault, Streams};
+use script_words::words::Word;
 use std::alloc::Global;
 use std::io::{Read, Write};
 

@@ -1,15 +1,15 @@
 //! What the program does with its streams, whatever they are.
 ghost use Rattle.std.specs.Prelude.{◌≡◌, ◌≤◌, false};
 
+use crate::blocks::play_block;
 use crate::commands::outcome_of;
+use script_session::rendering::line_of;
+use script_session::session::Session;
 use script_words::bracket::Bracket;
 use script_words::commands::{Command, StateCommand, command_of};
 use script_words::editors::opening_of;
 use script_words::play::{Fault, NO_MEMORY, Player, Streams, play};
 use script_words::words::{Word, words_of};
-use script_session::rendering::line_of;
-use script_session::session::Session;
-use crate::blocks::play_block;
 use std::alloc::{AllocError, Global};
 use std::io::{Read, Write};
 

@@ -2,8 +2,8 @@
 
 use crate::loads::{loaded, section_at};
 use gitconf_items::sink::SinkFault;
-use gitconf_tests::texts::{PRINTED, TEXT};
 use gitconf_tests::shim::{Outcome, begin, each_refused, was_refused};
+use gitconf_tests::texts::{PRINTED, TEXT};
 use gix_config::File;
 use gix_config::refusals::Refusal as _;
 use std::alloc::Global;

@@ -1,8 +1,8 @@
 //! Calls that take no memory: the shim refuses their first growth, and there is none.
 
 use crate::loads::{loaded, section_count};
-use gitconf_tests::texts::TEXT;
 use gitconf_tests::shim::{begin, was_refused};
+use gitconf_tests::texts::TEXT;
 use gix_config::File;
 use gix_config::file::Metadata;
 use std::alloc::Global;

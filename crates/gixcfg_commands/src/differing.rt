@@ -3,8 +3,8 @@ ghost use Rattle.std.specs.Prelude.{◌≤◌, IfErr};
 
 use crate::named::file_at;
 use bstr::BString;
-use gix_config::diff::{Difference, Side, differences};
 use gitconf_items::event_ref::EventRef;
+use gix_config::diff::{Difference, Side, differences};
 use gix_config::{File, NoMemory};
 use gixcfg_core::lines::{Line, add_entry};
 use gixcfg_core::names::add_names;

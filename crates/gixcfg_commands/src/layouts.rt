@@ -2,12 +2,12 @@
 ghost use Rattle.std.specs.Prelude.{◌≤◌};
 
 use crate::edits::{Edit, carry_out};
+use crate::located_target;
 use bstr::BString;
 use gix_config::format::{self, normalize};
 use gixcfg_core::origins::Located;
 use gixcfg_core::outside::{Inputs, Outside, accepted};
 use gixcfg_core::trouble::{MEMORY, Trouble, report};
-use crate::located_target;
 use gixcfg_words::command::{Files, Fmt, Indent, Newline, Target};
 use std::alloc::{AllocGlobal, Global};
 use std::io::{Read, Write};

@@ -2,10 +2,10 @@
 
 use crate::trouble::Trouble;
 use bstr::BString;
-use gitconf_sources::key::KeyRef;
 use gitconf_items::event_ref::EventRef;
 use gitconf_parse::events::Events;
 use gitconf_read::error::Error;
+use gitconf_sources::key::KeyRef;
 use gitconf_text::NoMemory;
 use std::alloc::Global;
 

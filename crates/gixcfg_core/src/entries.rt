@@ -13,10 +13,10 @@ ghost use Rattle.gixcfg_core.specs.Entries.{found_in, found_of, is_sought, names
 use crate::lines::{Line, add_value};
 use crate::names::{add_in_lower_case, add_names, add_section_names};
 use bstr::{BString, ByteSlice};
-use gitconf_sources::key::KeyRef;
 use gitconf_body::entries::next_entry;
 use gitconf_body::meanings::entry_value;
 use gitconf_items::entry::{AssignedRef, Entry};
+use gitconf_sources::key::KeyRef;
 use gitconf_text::NoMemory;
 use gitconf_text::value::normalize;
 use gitconf_views::section::SectionRef;

@@ -2,8 +2,8 @@
 
 use crate::trouble::Trouble;
 use gitconf_includes::{includes, init};
-use gitconf_read::error::Error;
 use gitconf_loaders::from_paths;
+use gitconf_read::error::Error;
 use std::alloc::Global;
 use std::fmt::Display;
 

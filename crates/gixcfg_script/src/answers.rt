@@ -1,10 +1,10 @@
 //! What a line is answered.
 
 use crate::session::Done;
+use crate::tree::Tree;
+use gix_config::NoMemory;
 use script_words::answers::{put_bytes, put_number};
 use script_words::words::NotUnderstood;
-use gix_config::NoMemory;
-use crate::tree::Tree;
 use std::alloc::{AllocError, AllocFailed, Global};
 
 /// Why a line isn't done.

@@ -1,8 +1,8 @@
 //! Edits of a file that another process changes meanwhile.
 
+use crate::machine::{Change, Machine, State};
 use crate::world::{called, machine};
 use gix_config::NoMemory;
-use crate::machine::{Change, Machine, State};
 use std::alloc::Global;
 use std::test::Fail;
 

@@ -1,12 +1,12 @@
 //! The commands, and what the words after them mean.
 
 use crate::answers::{Refusal, line_of_call};
-use crate::session::Session;
-use script_words::words::{NotUnderstood, Word, named_in};
-use crate::refusal;
 use crate::machine::Machine;
+use crate::refusal;
+use crate::session::Session;
 use crate::streams::Source;
 use crate::tree::Node;
+use script_words::words::{NotUnderstood, Word, named_in};
 use std::alloc::Global;
 use std::mem::replace;
 

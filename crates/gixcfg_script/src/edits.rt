@@ -1,9 +1,9 @@
 //! Calls that edit: what they leave in a file, and that all else is as it was.
 
-use crate::world::{OLD, called, machine};
-use gix_config::NoMemory;
 use crate::machine::{Machine, State};
 use crate::tree::{NEW, Tree};
+use crate::world::{OLD, called, machine};
+use gix_config::NoMemory;
 use std::alloc::Global;
 use std::test::Fail;
 

@@ -1,8 +1,8 @@
 //! An edit of which each file operation fails in turn.
 
+use crate::machine::{Machine, State};
 use crate::world::{Done, called, machine};
 use gix_config::NoMemory;
-use crate::machine::{Machine, State};
 use std::alloc::Global;
 use std::test::Fail;
 

@@ -1,9 +1,9 @@
 //! Drafts beside a file, as edits that were stopped leave them.
 
-use crate::world::{called, machine};
-use gix_config::NoMemory;
 use crate::machine::{Machine, State};
 use crate::tree::Node;
+use crate::world::{called, machine};
+use gix_config::NoMemory;
 use std::alloc::Global;
 use std::test::Fail;
 

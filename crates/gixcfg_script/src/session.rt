@@ -1,10 +1,10 @@
 //! What the lines of a script work on: a machine, and the streams of its next call.
 
-use gix_config::NoMemory;
-use gixcfg_commands::{Streams, Terminal, run_words};
 use crate::machine::{Machine, State};
 use crate::streams::{Source, Target};
 use crate::tree::{Node, Tree};
+use gix_config::NoMemory;
+use gixcfg_commands::{Streams, Terminal, run_words};
 use std::alloc::{AllocError, Global};
 use std::mem::replace;
 

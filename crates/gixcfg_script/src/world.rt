@@ -1,9 +1,9 @@
 //! The machine that calls are run on: a working folder below a repository's, the files of the user and of the system, and one file more.
 
-use gix_config::NoMemory;
-use gixcfg_commands::{Streams, Terminal, run_words};
 use crate::machine::{Machine, State};
 use crate::tree::{Node, Tree};
+use gix_config::NoMemory;
+use gixcfg_commands::{Streams, Terminal, run_words};
 use std::alloc::{AllocError, AllocGlobal, Global};
 
 /// The rights that files have.

@@ -1,10 +1,10 @@
 //! The commands that change a file or make one, by groups.
 
 use crate::{edits, expanding, files, loading, outside};
-use script_words::commands::{EditCommand, LoaderCommand, OutsideCommand, StateCommand};
-use script_words::words::Word;
 use script_session::answer::Outcome;
 use script_session::session::Session;
+use script_words::commands::{EditCommand, LoaderCommand, OutsideCommand, StateCommand};
+use script_words::words::Word;
 use std::alloc::Global;
 
 /// Commands that change a file.

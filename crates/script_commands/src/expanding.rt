@@ -3,8 +3,6 @@
 // A host is made in each call that needs one, and passed to no other function of ours: the check refuses a function that takes one
 // and could put another box into it.
 
-use script_words::arguments::{bytes, no_words};
-use script_words::words::Word;
 use script_session::answer::{Answer, Outcome};
 use script_session::gix_config::File;
 use script_session::gix_config::file::Metadata;
@@ -12,6 +10,8 @@ use script_session::gix_config::host::Host;
 use script_session::outside::{Outside, Parts};
 use script_session::refusal::Refusal;
 use script_session::session::Session;
+use script_words::arguments::{bytes, no_words};
+use script_words::words::Word;
 use std::alloc::Global;
 use std::rc::Rc;
 

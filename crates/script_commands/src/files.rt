@@ -4,14 +4,14 @@
 ghost use Rattle.std.specs.Prelude.{◌≡◌, OnErr};
 ghost use Rattle.script_session.specs.Session.{LoadsFile};
 
-use script_words::arguments::{bytes, no_words, slot, switch};
-use script_words::words::Word;
 use script_session::answer::{Answer, Outcome};
 use script_session::gix_config::File;
 use script_session::gix_config::file::{Metadata, init};
 use script_session::kinds::kept_events;
 use script_session::refusal::Refusal;
 use script_session::session::{Loaded, Session};
+use script_words::arguments::{bytes, no_words, slot, switch};
+use script_words::words::Word;
 use std::alloc::Global;
 use std::mem::replace;
 use std::rc::Rc;

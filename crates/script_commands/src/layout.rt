@@ -1,9 +1,9 @@
 //! The command on the layout of texts, which needs no file.
 
-use script_words::layouts::{self, LineEnd, layout_of};
-use script_words::words::Word;
 use script_session::answer::{Answer, Outcome};
 use script_session::gix_config::format::{Indent, Newline, Options, normalize};
+use script_words::layouts::{self, LineEnd, layout_of};
+use script_words::words::Word;
 use std::alloc::Global;
 
 /// `fmt BYTES OPT BYTES B OPT B OPT OPT`: a text laid out.

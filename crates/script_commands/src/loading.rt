@@ -3,9 +3,6 @@
 //
 // A host is made in each call that needs one, and passed to no other function of ours, as in `expanding`.
 
-use script_words::arguments::{no_words, text};
-use script_words::loading::{name, path_and_name, paths_of};
-use script_words::words::{NotUnderstood, Word, named_in};
 use script_session::answer::{Answer, Outcome};
 use script_session::gix_config::file::{Metadata, init};
 use script_session::gix_config::host::{Host, StorageLocation};
@@ -13,6 +10,9 @@ use script_session::gix_config::{File, Source};
 use script_session::outside::{Outside, Parts, owned_text};
 use script_session::refusal::Refusal;
 use script_session::session::Session;
+use script_words::arguments::{no_words, text};
+use script_words::loading::{name, path_and_name, paths_of};
+use script_words::words::{NotUnderstood, Word, named_in};
 use std::alloc::Global;
 use std::borrow::CowSlice;
 

@@ -1,15 +1,15 @@
 //! The commands that change nothing, by groups.
 
 use crate::{layout, lookups, parsing, paths, printing, sections, typed, values, views};
+use script_session::answer::Outcome;
+use script_session::gix_config::File;
+use script_session::session::Session;
+use script_session::writers::Failure;
 use script_words::commands::{
     LookUpCommand, PartCommand, PrintCommand, SectionCommand, TextCommand, TypedCommand,
     ValueCommand, ViewCommand,
 };
 use script_words::words::Word;
-use script_session::answer::Outcome;
-use script_session::gix_config::File;
-use script_session::session::Session;
-use script_session::writers::Failure;
 use std::alloc::Global;
 
 /// Commands on texts and names, which need no file.

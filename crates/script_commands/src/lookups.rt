@@ -1,10 +1,10 @@
 //! Commands that look up values of a key.
 
 use bstr::BString;
-use script_words::arguments::{bytes, names};
-use script_words::words::Word;
 use script_session::answer::{Answer, Outcome};
 use script_session::gix_config::File;
+use script_words::arguments::{bytes, names};
+use script_words::words::Word;
 
 /// Texts, or nothing.
 fn texts(found: Option<Vec<BString>>) -> Answer<'static> {

@@ -3,10 +3,6 @@
 ghost use Rattle.std.specs.Prelude.{◌≡◌, OnErr};
 
 use crate::files::file_of;
-use script_words::editor_arguments::text_and_bytes;
-use script_words::loading::turn_and_name;
-use script_words::outside::{expansion_of, level, optional_text, path_and_fault, variable};
-use script_words::words::{NotUnderstood, Word, named_in};
 use script_session::answer::{Answer, Outcome};
 use script_session::failing::Failure;
 use script_session::gix_config::file::Metadata;
@@ -14,6 +10,10 @@ use script_session::gix_config::host::Stage;
 use script_session::outside::{Content, Expansion, owned_text};
 use script_session::refusal::Refusal;
 use script_session::session::Session;
+use script_words::editor_arguments::text_and_bytes;
+use script_words::loading::turn_and_name;
+use script_words::outside::{expansion_of, level, optional_text, path_and_fault, variable};
+use script_words::words::{NotUnderstood, Word, named_in};
 use std::alloc::Global;
 use std::rc::Rc;
 

@@ -1,12 +1,12 @@
 //! Commands on texts and names, which need no file.
 
-use script_words::arguments::bytes;
-use script_words::words::Word;
 use script_session::answer::{Answer, Outcome};
 use script_session::gix_config::parse::Events;
 use script_session::gix_config::parse::section::{Name, ValueName};
 use script_session::kinds::kept_events;
 use script_session::refusal::Refusal;
+use script_words::arguments::bytes;
+use script_words::words::Word;
 use std::alloc::Global;
 
 /// `events BYTES`: the events of a text.

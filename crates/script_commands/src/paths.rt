@@ -1,12 +1,12 @@
 //! Commands on path patterns, and on paths.
 
 use bstr::BString;
-use script_words::arguments::{path_with_folders, pattern_match};
-use script_words::words::Word;
 use script_session::answer::{Answer, Outcome};
 use script_session::gix_config::Path;
 use script_session::gix_config::glob::wildmatch;
 use script_session::gix_config::path::interpolate::Context;
+use script_words::arguments::{path_with_folders, pattern_match};
+use script_words::words::Word;
 use std::alloc::Global;
 
 /// `match BYTES BYTES B`: whether a pattern matches a text, without case if the flag says so.

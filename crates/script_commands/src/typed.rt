@@ -1,12 +1,12 @@
 //! Commands that look up values of a key with their sections, or in a type that the caller names: [`Boolean`].
 
 use bstr::BString;
-use script_words::arguments::names;
-use script_words::words::Word;
 use script_session::answer::{Answer, Outcome};
 use script_session::gix_config::file::{SectionId, SectionRef};
 use script_session::gix_config::{Boolean, File};
 use script_session::refusal::Refusal;
+use script_words::arguments::names;
+use script_words::words::Word;
 use std::alloc::Global;
 
 /// `rawwith KEY3`: the meaning of the last value, and its section.

@@ -1,12 +1,12 @@
 //! Commands on values, which need no file.
 
 use bstr::BString;
-use script_words::arguments::bytes;
-use script_words::words::Word;
 use script_session::answer::{Answer, Outcome};
 use script_session::gix_config::value::normalize;
 use script_session::gix_config::{Boolean, File, Integer};
 use script_session::refusal::Refusal;
+use script_words::arguments::bytes;
+use script_words::words::Word;
 use std::alloc::{AllocError, Global};
 use std::borrow::CowSlice;
 

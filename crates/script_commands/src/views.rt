@@ -2,16 +2,16 @@
 
 use crate::sections::section_at;
 use bstr::BString;
-use script_words::arguments::{
-    SectionNames, bytes, no_words, number_and_text, section_names, section_names_and_flag, slot,
-    text, text_and_flag,
-};
-use script_words::words::Word;
 use script_session::answer::{Answer, Outcome};
 use script_session::gix_config::File;
 use script_session::gix_config::file::{SectionId, SectionRef};
 use script_session::refusal::Refusal;
 use script_session::session::Session;
+use script_words::arguments::{
+    SectionNames, bytes, no_words, number_and_text, section_names, section_names_and_flag, slot,
+    text, text_and_flag,
+};
+use script_words::words::Word;
 use std::alloc::Global;
 
 /// `section SEC2`: the number of the last section of the name and subsection.

@@ -3,9 +3,9 @@
 use crate::refusal::Refusal;
 use crate::rendering::put_id;
 use bstr::BString;
-use script_words::words::Word;
 use gix_config::File;
 use gix_config::file::SectionId;
+use script_words::words::Word;
 use std::alloc::Global;
 
 /// BYTES..: each of them.

@@ -1,8 +1,8 @@
 //! The files of a script, whose calls may fail by their turns.
 
-use script_words::turns::Turns;
 use gix_config::host::{FileFault, Files, MemFiles, Stage};
 use gix_config::source::Trust;
+use script_words::turns::Turns;
 
 /// Which call fails, and at what stage.
 #[derive(Clone, Copy)]

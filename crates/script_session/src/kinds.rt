@@ -1,12 +1,12 @@
 //! The letters of the kinds of events, and filters that drop some of these kinds.
 
 use crate::refusal::Refusal;
+use gix_config::parse::{EventRef, Events};
 use script_words::arguments::text_and_letters;
 use script_words::kinds::{
     BLANKS, COMMENTS, LAST_PIECES, LINE_ENDS, NAMES, PIECES, SEPARATORS, VALUES, kinds_of,
 };
 use script_words::words::Word;
-use gix_config::parse::{EventRef, Events};
 use std::alloc::Global;
 
 /// The letter of an event's kind.

@@ -1,13 +1,13 @@
 //! What a script sets that is outside of a file, as plain data. A command that needs it makes a host of its own of it.
 
 use crate::failing::{Failure, TurnFiles};
-use script_words::outside::{self as words, Fault, Refuses};
 use gix_config::NoMemory;
 use gix_config::file::{includes, init};
 use gix_config::host::{EnvVar, FileFault, MemEnv, MemFile, MemFiles, Places, Stage};
 use gix_config::path::interpolate;
 use gix_config::source::Trust;
 use includes::conditional;
+use script_words::outside::{self as words, Fault, Refuses};
 use std::alloc::{AllocError, Global};
 
 /// What is at a path.

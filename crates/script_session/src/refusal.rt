@@ -1,6 +1,5 @@
 //! Why a command was not done.
 
-use script_words::words::NotUnderstood;
 use gix_config::file::init::{from_env, from_git_dir, from_paths};
 use gix_config::file::{includes, init, rename_section, section, set_raw_value};
 use gix_config::lookup::existing;
@@ -9,6 +8,7 @@ use gix_config::parse::{Error, SinkFault, span};
 use gix_config::path::interpolate;
 use gix_config::refusals::Refusal as _;
 use gix_config::{NoMemory, lookup, value};
+use script_words::words::NotUnderstood;
 use std::alloc::{AllocError, AllocFailed};
 
 /// Why a command was not done.

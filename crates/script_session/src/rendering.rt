@@ -5,16 +5,16 @@ use crate::answer::{Answer, Outcome};
 use crate::kinds::letter_of;
 use crate::refusal::Refusal;
 use bstr::BString;
-use script_words::answers::{
-    put_bytes, put_dashed, put_digits, put_digits_of, put_error, put_flag, put_integer, put_letter,
-    put_number, put_optional, put_refused,
-};
 use gix_config::File;
 use gix_config::file::{Metadata, Section, SectionId, SectionRef};
 use gix_config::parse::{Error, EventRef};
 use gix_config::refusals::Refusal as _;
 use gix_config::source::{Source, Trust};
 use gix_config::value::normalize;
+use script_words::answers::{
+    put_bytes, put_dashed, put_digits, put_digits_of, put_error, put_flag, put_integer, put_letter,
+    put_number, put_optional, put_refused,
+};
 use std::alloc::{AllocError, Global};
 
 /// The line that answers a command, with a first word that says whether a growth was refused, if that is known.

@@ -5,9 +5,9 @@ ghost use Rattle.std.specs.Prelude.{◌≡◌, None, OnErr, OnOk};
 ghost use Rattle.script_session.specs.Session.{ChangesFile, LoadsFile};
 
 use crate::outside::Outside;
-use script_words::words::{Place, Slot};
 use gix_config::File;
 use gix_config::file::{Metadata, Section};
+use script_words::words::{Place, Slot};
 use std::alloc::{AllocError, Global};
 use std::mem::replace;
 use std::rc::Rc;

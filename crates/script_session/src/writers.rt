@@ -1,7 +1,7 @@
 //! A writer that fails once.
 
-use script_words::turns::Turns;
 use gix_config::parse::{Sink, SinkFault};
+use script_words::turns::Turns;
 use std::alloc::Global;
 
 /// What happens at the write that fails.

@@ -10,8 +10,8 @@ ghost use Rattle.gitconf_sources.specs.Key.{key_of};
 ghost use Rattle.gitconf_read.specs.Reading.{span};
 ghost use Rattle.gitconf_parse.specs.Met as spec;
 
-use gitconf_sources::key::KeyRef;
 use gitconf_items::event::{Header, Span};
+use gitconf_sources::key::KeyRef;
 use gitconf_text::parse::section::bytes::is_same_name;
 
 /// Whether the bytes are, in lower case, the name.

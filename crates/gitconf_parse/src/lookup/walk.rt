@@ -14,8 +14,8 @@ use crate::lookup::header::header_first;
 use crate::lookup::named::{is_meant, is_named};
 use crate::lookup::part::{Opening, part_opening};
 use crate::lookup::run::{Run, long_run_end, run_end};
-use gitconf_sources::key::KeyRef;
 use gitconf_read::reading::{Expected, Fault, ReadError};
+use gitconf_sources::key::KeyRef;
 
 /// How far a text was read.
 #[derive(Clone, Copy)]

@@ -8,14 +8,14 @@ ghost use Rattle.gitconf_state.specs.Edits.{Append, apply};
 ghost use Rattle.gitconf_store.specs.Appends.{appended_bytes, bytes_at, kept_at, line_at, put_at, HasNoRoomAt, IsLineAt};
 
 use crate::store::Store;
+use gitconf_body::buffer::{append, check_room, take_back};
 use gitconf_items::event::Span;
 use gitconf_items::items::Item;
-use gitconf_views::fronts::{parts_lines, put_behind};
-use gitconf_views::shifted_sections::{copies_before, move_front, move_sections};
-use gitconf_body::buffer::{append, check_room, take_back};
 use gitconf_sections::sections::SectionList;
 use gitconf_text::line_end::LineEnd;
 use gitconf_text::parse::span;
+use gitconf_views::fronts::{parts_lines, put_behind};
+use gitconf_views::shifted_sections::{copies_before, move_front, move_sections};
 
 /// The items that others are put after at a place: what is held after the section there, or the front if there is no section.
 fn items_at<'a>(front: &'a [Item], sections: &'a SectionList, at: usize) -> &'a [Item]

@@ -1,10 +1,10 @@
 //! Edits of the section of a number, for the editor of a section.
 use crate::store::Store;
+use gitconf_body::editor::Editor;
 use gitconf_body::items_edits::{
     PopEntry, PushLine, PushLineBelow, PushNewline, RemoveEntry, RemoveMarkedEntries, SetEntry,
 };
 use gitconf_body::take_out;
-use gitconf_body::editor::Editor;
 use gitconf_table::table::SectionId;
 use gitconf_text::NoMemory;
 use gitconf_text::parse::span;

@@ -1,8 +1,8 @@
 //! Setting the value of an existing entry.
 use crate::set_raw_value;
 use crate::store::Store;
-use gitconf_sources::key::KeyRef;
 use gitconf_body::value_at::InPlaceOf;
+use gitconf_sources::key::KeyRef;
 
 impl Store {
     ghost use Rattle.gitconf_store.specs.Existing.{IsSetExisting};

@@ -9,11 +9,11 @@ ghost use Rattle.gitconf_store.specs.Appends.{bytes_at, included, HasNoRoomAt};
 
 use crate::store::Store;
 use gitconf_lookups::tokens;
+use gitconf_print::line_end::first_line_end;
 use gitconf_text::line_end::LineEnd;
 use gitconf_text::parse::span;
 use gitconf_views::section::SectionRef;
 use gitconf_views::tables::view_of;
-use gitconf_print::line_end::first_line_end;
 
 impl Store {
     /// How many sections there are.

@@ -13,12 +13,12 @@ ghost use Rattle.gitconf_lookups.specs.SomeSections.{Filtered};
 
 use crate::store::Store;
 use bstr::BString;
-use gitconf_sources::key::KeyRef;
-use gitconf_sources::meta::Metadata;
 use gitconf_lookups::existing;
 use gitconf_lookups::found::{Deciding, Found};
 use gitconf_lookups::texts::{implicit_text, text, text_with_section, texts, texts_with_sections};
 use gitconf_lookups::walk::{all_found, last_found};
+use gitconf_sources::key::KeyRef;
+use gitconf_sources::meta::Metadata;
 use gitconf_text::NoMemory;
 use gitconf_views::section::SectionRef;
 

@@ -1,8 +1,8 @@
 //! Making sections.
 use crate::store::Store;
-use gitconf_body::section;
 use gitconf_body::blanks::Blanks;
 use gitconf_body::buffer::take_back;
+use gitconf_body::section;
 use gitconf_table::table::SectionId;
 use gitconf_text::NoMemory;
 use gitconf_text::parse::section::header::{Error, validate};

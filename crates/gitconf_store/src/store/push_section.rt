@@ -6,12 +6,12 @@ ghost use Rattle.gitconf_state.specs.Edits.{Number, PushSection, answer, apply};
 
 use crate::store::Store;
 use crate::store::append::put_text;
-use gitconf_items::moving::moved_header;
-use gitconf_views::shifted_sections::{move_list, put_last};
 use gitconf_body::buffer::{check_room, take_back};
+use gitconf_items::moving::moved_header;
 use gitconf_table::table::SectionId;
 use gitconf_text::parse::span;
 use gitconf_views::detached;
+use gitconf_views::shifted_sections::{move_list, put_last};
 
 impl Store {
     /// Checks whether [`Store::push_section`] may add the section after the others. Takes no memory.

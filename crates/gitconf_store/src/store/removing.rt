@@ -10,8 +10,8 @@ ghost use Rattle.gitconf_lookups.specs.SomeSections.{Filtered};
 ghost use Rattle.gitconf_views.specs.Views.{shown};
 
 use crate::store::Store;
-use gitconf_sources::meta::Metadata;
 use gitconf_lookups::filters::last_passing;
+use gitconf_sources::meta::Metadata;
 use gitconf_table::table::SectionId;
 use gitconf_text::NoMemory;
 use gitconf_views::detached;

@@ -17,10 +17,10 @@ ghost use Rattle.gitconf_store.specs.Renamings.{marked_places, with_renamed, Are
 use crate::headings::{passing_places, set_headers};
 use crate::rename_section;
 use crate::store::Store;
-use gitconf_sources::meta::Metadata;
+use gitconf_body::buffer::take_back;
 use gitconf_body::heading::{check_header, put_header};
 use gitconf_lookups::existing;
-use gitconf_body::buffer::take_back;
+use gitconf_sources::meta::Metadata;
 use gitconf_table::table::SectionId;
 use gitconf_text::NoMemory;
 use gitconf_text::parse::section::header::{Error as HeaderError, validate};

@@ -1,13 +1,13 @@
 //! Entries at a place in the section of a number, for the editors of values.
 use crate::store::Store;
 use bstr::BString;
-use gitconf_sources::key::KeyRef;
-use gitconf_sources::meta::Metadata;
+use gitconf_body::editor::Editor;
 use gitconf_body::items_edits::{RewriteEntry, WriteEntry};
 use gitconf_body::value_at::InPlaceOf;
 use gitconf_lookups::existing;
 use gitconf_lookups::places::{all_value_places, last_value_place, put_in_order};
-use gitconf_body::editor::Editor;
+use gitconf_sources::key::KeyRef;
+use gitconf_sources::meta::Metadata;
 use gitconf_table::table::SectionId;
 use gitconf_text::NoMemory;
 use gitconf_text::parse::section::ValueNameError;

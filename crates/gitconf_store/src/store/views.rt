@@ -1,13 +1,13 @@
 //! The sections of a store, walked over and found by name.
 
 use crate::store::Store;
-use gitconf_sources::meta::Metadata;
 use gitconf_lookups::existing::Error;
 use gitconf_lookups::filters::last_passing;
 use gitconf_lookups::walks::{
     SectionIds, SectionsAndIds, SectionsAndIdsByName, SectionsAndPostmatter, SectionsByName,
     SectionsByNameAndFilter, SectionsNamed,
 };
+use gitconf_sources::meta::Metadata;
 use gitconf_views::section::SectionRef;
 
 impl Store {

@@ -2,8 +2,8 @@
 ghost use Rattle.std.specs.Iterator.{item_count, YieldsFirstBy, YieldsLastBy};
 ghost use Rattle.gitconf_table.specs.SectionIters.{named_left, shown_section, with_name_left};
 
-use crate::table::{Row, SectionId, has_name, is_named, row_at};
 use crate::index::Places;
+use crate::table::{Row, SectionId, has_name, is_named, row_at};
 
 /// The sections of a name and subsection in file order, from either end: [`SectionTable::named`].
 #[derive(Drop)]

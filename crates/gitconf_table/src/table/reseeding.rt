@@ -3,10 +3,10 @@ ghost use Rattle.std.specs.Prelude.{◌≡◌, ◌+◌, ◌≤◌, length, map, 
 ghost use Rattle.gitconf_table.specs.Rows.{entries_of};
 ghost use Rattle.gitconf_table.specs.Tables.{word_of_name, word_of_names};
 
+use crate::index::WordIndex;
 use crate::letters::{name_at, subsection_at};
 use crate::table::{Row, SectionTable};
 use crate::word::{full_state, name_state, word_of};
-use crate::index::WordIndex;
 
 impl<T> SectionTable<T> {
     /// Makes the words by which names are found from another seed, in place. Nothing that the table returns depends on the seed;

@@ -2,9 +2,9 @@
 ghost use Rattle.std.specs.Prelude.{◌≡◌, ◌-◌, ◌≤◌, length};
 ghost use Rattle.gitconf_table.specs.Runs.{woven, AreRuns};
 
-use crate::table::{SectionTable, relocate};
 use crate::lists::weave;
 use crate::runs::Run;
+use crate::table::{SectionTable, relocate};
 
 impl<T> SectionTable<T> {
     /// Weaves the sections from `first` on among those before them; their numbers, their names and what they hold stay. Takes

@@ -3,18 +3,18 @@ ghost use Rattle.std.specs.Prelude.{◌≡◌, IfOk};
 
 use crate::detached::Section;
 use crate::section::trusted;
-use gitconf_sources::source::Trust;
+use gitconf_body::editor::Editor;
 use gitconf_body::heading::put_header;
 use gitconf_body::items_edit::{ItemsEdit, edit_or_leave};
 use gitconf_body::items_edits::{
     PopEntry, PushLine, PushLineBelow, PushNewline, RemoveEntry, RemoveMarkedEntries, SetEntry,
 };
-use gitconf_body::editor::Editor;
+use gitconf_print::line_end::body_line_end;
+use gitconf_sources::source::Trust;
 use gitconf_text::NoMemory;
 use gitconf_text::line_end::LineEnd;
 use gitconf_text::parse::section::header;
 use gitconf_text::parse::span;
-use gitconf_print::line_end::body_line_end;
 
 impl Section {
     ghost use Rattle.std.specs.List.{list_all};

@@ -2,11 +2,11 @@
 use crate::detached::Section;
 use crate::detached::writing::text_of;
 use bstr::BString;
+use gitconf_body::blanks::Blanks;
+use gitconf_body::popped::texts_of;
+use gitconf_body::value;
 use gitconf_sources::lists::bytes_of;
 use gitconf_sources::source::Trust;
-use gitconf_body::popped::texts_of;
-use gitconf_body::blanks::Blanks;
-use gitconf_body::value;
 use gitconf_text::NoMemory;
 use gitconf_text::line_end::LineEnd;
 use gitconf_text::parse::section::header;

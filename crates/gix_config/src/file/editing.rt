@@ -1,8 +1,8 @@
 //! Edits of the section of a number, for editors.
 use crate::file::{File, SectionId, SectionRef};
-use gitconf_sources::source::Trust;
 use gitconf_body::blanks::Blanks;
 use gitconf_body::editor::Editor;
+use gitconf_sources::source::Trust;
 use gitconf_text::NoMemory;
 use gitconf_text::line_end::LineEnd;
 use gitconf_text::parse::section::header;

@@ -5,9 +5,9 @@ mod loading;
 mod repository;
 
 use crate::file::File;
-use gitconf_sources::meta::Metadata;
 pub use gitconf_includes::init::{Error, Options};
 pub use gitconf_loaders::{from_env, from_git_dir, from_paths};
+use gitconf_sources::meta::Metadata;
 use gitconf_store::store::Store;
 use std::alloc::Global;
 use std::rc::Rc;

@@ -1,11 +1,11 @@
 //! Files that include others.
 
 use crate::file::File;
-use gitconf_sources::meta::Metadata;
-use gitconf_sources::{Files, Host};
 use gitconf_includes::includes;
 use gitconf_includes::init::{Error, Options};
 use gitconf_loaders::resolving::{Resolved, resolve, resolved_text};
+use gitconf_sources::meta::Metadata;
+use gitconf_sources::{Files, Host};
 use gitconf_store::store::Store;
 use std::alloc::Global;
 use std::mem::replace;

@@ -1,12 +1,12 @@
 //! The editor of a section, in a file or in none.
 
 use bstr::BString;
-use script_words::editor_arguments::PushedLine;
 use script_session::gix_config::NoMemory;
 use script_session::gix_config::file::section::value;
 use script_session::gix_config::file::{DetachedSectionMut, SectionMut};
 use script_session::gix_config::parse::section::header;
 use script_session::gix_config::parse::span;
+use script_words::editor_arguments::PushedLine;
 
 /// What the lines of a block ask of the editor of a section.
 pub trait SectionEditor {

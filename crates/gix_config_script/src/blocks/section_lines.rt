@@ -4,6 +4,11 @@ ghost use Rattle.std.specs.Prelude.{◌≡◌};
 use super::section_editor::SectionEditor;
 use super::tell;
 use bstr::BString;
+use script_session::answer::{Answer, Outcome};
+use script_session::arguments::{flags_of_all, owned};
+use script_session::gix_config::file::is_whitespace;
+use script_session::refusal::Refusal;
+use script_session::rendering::line_of;
 use script_words::answers::{put_bytes, put_optional};
 use script_words::arguments::{no_words, section_names, text};
 use script_words::blocks::next_asked;
@@ -16,11 +21,6 @@ use script_words::editors::{
 };
 use script_words::play::{Fault, Streams};
 use script_words::words::{Word, words_of};
-use script_session::answer::{Answer, Outcome};
-use script_session::arguments::{flags_of_all, owned};
-use script_session::gix_config::file::is_whitespace;
-use script_session::refusal::Refusal;
-use script_session::rendering::line_of;
 use std::alloc::{AllocError, Global};
 use std::io::{Read, Write};
 

@@ -3,16 +3,16 @@ ghost use Rattle.std.specs.Prelude.{◌≡◌};
 ghost use Rattle.script_session.specs.ValueEditors.{lent};
 
 use super::tell;
+use script_session::answer::{Answer, Outcome};
+use script_session::gix_config::file::ValueMut;
+use script_session::refusal::Refusal;
+use script_session::rendering::line_of;
 use script_words::arguments::{bytes, no_words};
 use script_words::blocks::next_asked;
 use script_words::bracket::Bracket;
 use script_words::editors::{ValueLine, value_line_of};
 use script_words::play::{Fault, Streams};
 use script_words::words::{Word, words_of};
-use script_session::answer::{Answer, Outcome};
-use script_session::gix_config::file::ValueMut;
-use script_session::refusal::Refusal;
-use script_session::rendering::line_of;
 use std::alloc::{AllocError, Global};
 use std::io::{Read, Write};
 

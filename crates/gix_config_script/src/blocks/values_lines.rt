@@ -3,6 +3,11 @@ ghost use Rattle.std.specs.Prelude.{◌≡◌};
 ghost use Rattle.script_session.specs.MultiValueEditors.{lent};
 
 use super::tell;
+use script_session::answer::{Answer, Outcome};
+use script_session::arguments::bytes_of_all;
+use script_session::gix_config::file::MultiValueMut;
+use script_session::refusal::Refusal;
+use script_session::rendering::line_of;
 use script_words::arguments::{bytes, no_words, number};
 use script_words::blocks::next_asked;
 use script_words::bracket::Bracket;
@@ -10,11 +15,6 @@ use script_words::editor_arguments::number_and_bytes;
 use script_words::editors::{ValuesLine, values_line_of};
 use script_words::play::{Fault, Streams};
 use script_words::words::{Word, words_of};
-use script_session::answer::{Answer, Outcome};
-use script_session::arguments::bytes_of_all;
-use script_session::gix_config::file::MultiValueMut;
-use script_session::refusal::Refusal;
-use script_session::rendering::line_of;
 use std::alloc::{AllocError, Global};
 use std::io::{Read, Write};
 

@@ -15,16 +15,16 @@ ghost use Rattle.gix_config.specs.SectionEditors.{edited, lent, told};
 
 use crate::file::section_mut::SectionMut;
 use crate::file::{File, shared};
+use gitconf_includes::includes;
+use gitconf_includes::init::Options;
+use gitconf_loaders::from_env::Error;
+use gitconf_loaders::globals::home_options;
+use gitconf_loaders::resolving::{Resolved, resolve};
+use gitconf_loaders::variables::{count, key_at, value_at};
 use gitconf_sources::key::KeyRef;
 use gitconf_sources::meta::Metadata;
 use gitconf_sources::source::Source;
 use gitconf_sources::{Env, Files, Host, Places};
-use gitconf_includes::includes;
-use gitconf_includes::init::Options;
-use gitconf_loaders::globals::home_options;
-use gitconf_loaders::resolving::{Resolved, resolve};
-use gitconf_loaders::from_env::Error;
-use gitconf_loaders::variables::{count, key_at, value_at};
 use gitconf_text::NoMemory;
 use std::alloc::Global;
 

@@ -1,12 +1,12 @@
 //! Files that are loaded by their paths.
 
 use crate::file::File;
+use gitconf_includes::init::Options;
+use gitconf_loaders::from_paths::Error;
+use gitconf_loaders::{globals, paths};
 use gitconf_sources::meta::Metadata;
 use gitconf_sources::source::Source;
 use gitconf_sources::{Env, Files, Host};
-use gitconf_includes::init::Options;
-use gitconf_loaders::{globals, paths};
-use gitconf_loaders::from_paths::Error;
 use std::alloc::Global;
 
 impl File {

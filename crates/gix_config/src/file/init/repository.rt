@@ -11,14 +11,14 @@ ghost use Rattle.gix_config.specs.Repository.{AreOverridesBehind, AreOwnAndOverr
 
 use crate::file::File;
 use crate::file::init::environment::{expanded, overrides};
-use gitconf_sources::source::Source;
-use gitconf_sources::{Env, FileFault, Files, Host, Places};
 use gitconf_includes::includes;
 use gitconf_includes::init::Options;
-use gitconf_loaders::globals::from_globals;
-use gitconf_loaders::paths::from_path;
 use gitconf_loaders::from_git_dir::Error;
 use gitconf_loaders::from_paths;
+use gitconf_loaders::globals::from_globals;
+use gitconf_loaders::paths::from_path;
+use gitconf_sources::source::Source;
+use gitconf_sources::{Env, FileFault, Files, Host, Places};
 use gitconf_text::NoMemory;
 use gitconf_values::path::{interpolate, join, parent};
 use includes::conditional::{Context, GitDir};

@@ -3,8 +3,8 @@ use crate::file::multi_value_mut::targets::Targets;
 use crate::file::{File, Metadata, SectionId};
 use crate::lookup::existing;
 use bstr::BString;
-use gitconf_sources::key::KeyRef;
 use gitconf_body::value_at::InPlaceOf;
+use gitconf_sources::key::KeyRef;
 use gitconf_text::NoMemory;
 use gitconf_text::parse::span;
 

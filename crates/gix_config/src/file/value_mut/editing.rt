@@ -3,9 +3,9 @@ use crate::file::value_mut::spelling::Spelling;
 use crate::file::{File, Metadata, SectionId};
 use crate::lookup::existing;
 use bstr::BString;
-use gitconf_sources::key::KeyRef;
-use gitconf_body::value_at::InPlaceOf;
 use gitconf_body::editor::Editor;
+use gitconf_body::value_at::InPlaceOf;
+use gitconf_sources::key::KeyRef;
 use gitconf_text::NoMemory;
 use gitconf_text::parse::span;
 
