@@ -1,5 +1,5 @@
-//! Entries that are written and deleted at a place among the items of a body.
-ghost use Rattle.std.specs.Prelude.{◌≡◌, ◌↔◌, ℕ, List, ◌+◌, ◌-◌, ◌<◌, ◌≤◌, ◌^◌, ◌∷◌, ◌++◌, min, drop, take, length, true, IfErr, OnOk, OnErr, IsErrOf};
+//! Entries that are written at a place among the items of a body.
+ghost use Rattle.std.specs.Prelude.{◌≡◌, ◌↔◌, ◌+◌, ◌-◌, ◌<◌, ◌≤◌, ◌^◌, ◌∷◌, ◌++◌, min, drop, take, length, true, IfErr, OnOk, OnErr, IsErrOf};
 ghost use Rattle.gitconf_text.specs.Value.{escaped};
 ghost use Rattle.gitconf_items.specs.declared.items.Item.TheVariants as kinds;
 ghost use Rattle.gitconf_items.specs.Items.{assigned_of, items_of};
@@ -8,7 +8,6 @@ ghost use Rattle.gitconf_state.specs.Editors as state;
 ghost use Rattle.gitconf_body.specs.Buffers.{Grows};
 ghost use Rattle.gitconf_body.specs.Editors.{editor_in, EditorFits};
 ghost use Rattle.gitconf_body.specs.Standing.{Stand, end_items};
-ghost use Rattle.gitconf_body.specs.Taken.{StayWithin};
 ghost use Rattle.gitconf_body.specs.ValuesAt as spec;
 ghost use Rattle.gitconf_body.specs.ValuesAt.{IfReplaces, behind_way, instead_of, written_put};
 
