@@ -1,5 +1,5 @@
 -- Links and buckets as the chains of their places.
-use Rattle.std.proofs.Common.{◌≡◌, ◌≢◌, ℕ, ◌+◌, ◌-◌, ◌<◌, ◌≤◌, ◌⊎◌, inl, inr, refl, sym, ap, subst, ◌∙◌, arith, min, zero, suc, List, [], ◌∷◌, ◌++◌, length, set, take, drop, insert, remove}
+use Rattle.std.proofs.Common.{◌≡◌, ◌≢◌, ℕ, ◌+◌, ◌-◌, ◌<◌, ◌≤◌, ◌⊎◌, inl, inr, refl, sym, ap, subst, ◌∙◌, arith, min, zero, suc, List, [], ◌∷◌, ◌++◌, length, set, take, drop, remove}
 use Rattle.std.proofs.lemmas.Bool.{cases_eq}
 use Rattle.std.proofs.lemmas.List.{get_or-set_same, get_or-set_other, get_or_append_left, length-append, length-set}
 use Rattle.std.proofs.lemmas.List.{map-append, take-map, drop-map}
@@ -107,11 +107,6 @@ pub whole_again : (n : ℕ) (new items : List Link) → n ≡ length items → l
 whole_again n new items e same =
     let whole : n ≡ length new = omega (arith, e, same) in
     rw whole (take-append_seam new (drop (length new) items))
-
-pub words_put : (links : List Link) (at : ℕ) (l : Link) → words_of (insert links at l) ≡ insert (words_of links) at l.word
-words_put links at l =
-    map-append (λ (l : Link). l.word) (take at links) (l ∷ drop at links)
-    ∙ (λ j. sym (take-map (λ (l : Link). l.word) at links) j ++ l.word ∷ sym (drop-map (λ (l : Link). l.word) at links) j)
 
 pub words_out : (links : List Link) (at : ℕ) → words_of (remove links at) ≡ remove (words_of links) at
 words_out links at =

@@ -1,5 +1,5 @@
 -- Rows as the sections that they show, and their names among the letters of a table.
-use Rattle.std.proofs.Common.{◌≡◌, ℕ, zero, suc, ◌+◌, ◌-◌, ◌≤◌, ◌<◌, ◌==◌, not, List, [], ◌∷◌, ◌++◌, length, take, drop, get_or, set, map, filter, find, insert, remove, position, slice_index, Option, Some, None, refl, ap, sym, subst, ◌∙◌, add-one, arith}
+use Rattle.std.proofs.Common.{◌≡◌, ℕ, zero, suc, ◌+◌, ◌-◌, ◌≤◌, ◌<◌, not, List, [], ◌∷◌, ◌++◌, length, take, drop, get_or, set, map, filter, find, remove, position, slice_index, Option, Some, None, refl, ap, sym, subst, ◌∙◌, add-one, arith}
 use Rattle.std.specs.Option.{option_map}
 use Rattle.std.specs.List.{slice_get, AllByRecursion, AllZip}
 use Rattle.std.proofs.lemmas.List.{map-append, length-map, length-append, length-drop, take-map, drop-map, drop-append-le, take-append-le, get_or_default}
@@ -125,11 +125,6 @@ module _ {T : Type 0} where
   pub fit_last : (n : ℕ) (rows : List (Row T)) (r : Row T) → RowsFit n rows → NamesFit n r.names → RowsFit n (rows ++ r ∷ [])
   fit_last n rows r fit new = all_append (λ (r : Row T). NamesFit n r.names) rows (r ∷ []) fit (new, tt)
 
-  pub fit_insert : (n : ℕ) (rows : List (Row T)) (i : ℕ) (r : Row T) → RowsFit n rows → NamesFit n r.names → RowsFit n (insert rows i r)
-  fit_insert n rows i r fit new =
-      let P : Row T → Type 0 = λ (r : Row T). NamesFit n r.names in
-      all_append P (take i rows) (r ∷ drop i rows) (all_take P i rows fit) (new, all_drop P i rows fit)
-
   pub fit_remove : (n : ℕ) (rows : List (Row T)) (i : ℕ) → RowsFit n rows → RowsFit n (remove rows i)
   fit_remove n rows i fit =
       let P : Row T → Type 0 = λ (r : Row T). NamesFit n r.names in
@@ -248,22 +243,11 @@ module _ {T : Type 0} where
     section_numbered next rows i r w is k =
         subst (AreNumbered next) (sym (set_section rows i r w is)) (changed_numbered (λ e. record e { section = w }) (λ e. refl) next (entries_of letters rows) i k)
 
-    -- other names of a row
-    set_names : (rows : List (Row T)) (i : ℕ) (r : Row T) (names : Names) → r ≡ get_or rows i r
-        → entries_of letters (set rows i (record r { names = names })) ≡ changed_at (λ e. record e { name = part_of letters (name_part names); subsection = option_map (part_of letters) (subsection_part names) }) (entries_of letters rows) i
-    set_names rows i r names is = set_changes (λ e. record e { name = part_of letters (name_part names); subsection = option_map (part_of letters) (subsection_part names) }) rows i r (record r { names = names }) is refl
-
     -- the entry at a place is that of the row there
     pub entry_at : (rows : List (Row T)) (i : ℕ) (r : Row T) → i < length (entries_of letters rows) → r ≡ get_or rows i r → slice_get (entries_of letters rows) i ≡ Some (entry_of_row letters r)
     entry_at [] i r within is = absurd (omega (arith, within))
     entry_at (x ∷ rows) zero r within is = ap (λ (y : Row T). Some (entry_of_row letters y)) (sym is)
     entry_at (x ∷ rows) (suc i) r within is = entry_at rows i r (omega (arith, within)) is
-
-    -- a row that is put between others is an entry that is put there
-    entries_of-insert : (rows : List (Row T)) (i : ℕ) (r : Row T) → entries_of letters (insert rows i r) ≡ insert (entries_of letters rows) i (entry_of_row letters r)
-    entries_of-insert rows i r =
-        map-append (entry_of_row letters) (take i rows) (r ∷ drop i rows)
-        ∙ (λ j. sym (take-map (entry_of_row letters) i rows) j ++ entry_of_row letters r ∷ sym (drop-map (entry_of_row letters) i rows) j)
 
     pub entries_of-remove : (rows : List (Row T)) (i : ℕ) → entries_of letters (remove rows i) ≡ remove (entries_of letters rows) i
     entries_of-remove rows i =
@@ -318,24 +302,8 @@ module _ {T : Type 0} (letters letters2 name : List ℕ) (s : Option (List ℕ))
       ∙ map-append (entry_of_row letters2) rows (record { id = number; names = names; section = section } ∷ [])
       ∙ (λ j. entries_same rows fit j ++ entry_put number section j ∷ [])
 
-  pub entries_inserted : (at : ℕ) (rows rows2 : List (Row T)) (number : ℕ) (section : T) → rows2 ≡ insert rows at (record { id = number; names = names; section = section }) → RowsFit (length letters) rows
-      → entries_of letters2 rows2 ≡ insert (entries_of letters rows) at (entry_of number name s section)
-  entries_inserted at rows rows2 number section is fit =
-      ap (entries_of letters2) is
-      ∙ entries_of-insert letters2 rows at (record { id = number; names = names; section = section })
-      ∙ (λ j. insert (entries_same rows fit j) at (entry_put number section j))
-
-  pub entries_renamed : (at : ℕ) (rows : List (Row T)) (r : Row T) → r ≡ get_or rows at r → RowsFit (length letters) rows
-      → entries_of letters2 (set rows at (record r { names = names })) ≡ changed_at (λ e. record e { name = fold name; subsection = s }) (entries_of letters rows) at
-  entries_renamed at rows r is fit =
-      set_names letters2 rows at r names is
-      ∙ (λ j. changed_at (λ e. record e { name = put.name_is j; subsection = put.subsection_is j }) (entries_same rows fit j) at)
-
   pub fit_pushed : (rows rows2 : List (Row T)) (number : ℕ) (section : T) → rows2 ≡ rows ++ record { id = number; names = names; section = section } ∷ [] → RowsFit (length letters) rows → RowsFit (length letters2) rows2
   fit_pushed rows rows2 number section is fit = rw is (fit_last (length letters2) rows _ (rows_fit (length letters) (length letters2) rows (longer letters letters2 (fold name) s names put) fit) put.fit)
-
-  pub fit_inserted : (at : ℕ) (rows rows2 : List (Row T)) (number : ℕ) (section : T) → rows2 ≡ insert rows at (record { id = number; names = names; section = section }) → RowsFit (length letters) rows → RowsFit (length letters2) rows2
-  fit_inserted at rows rows2 number section is fit = rw is (fit_insert (length letters2) rows at _ (rows_fit (length letters) (length letters2) rows (longer letters letters2 (fold name) s names put) fit) put.fit)
 
   pub fit_renamed : (at : ℕ) (rows : List (Row T)) (r : Row T) → RowsFit (length letters) rows → RowsFit (length letters2) (set rows at (record r { names = names }))
   fit_renamed at rows r fit = fit_set (length letters2) rows at (record r { names = names }) (rows_fit (length letters) (length letters2) rows (longer letters letters2 (fold name) s names put) fit) put.fit

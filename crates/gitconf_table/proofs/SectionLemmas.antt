@@ -1,5 +1,5 @@
 -- Numbered sections under the edits of a table, and the rows that hold them.
-use Rattle.std.proofs.Common.{◌≡◌, ℕ, zero, suc, ◌+◌, ◌≤◌, ◌<◌, ◌==◌, Bool, true, false, not, cond, nat_lt, List, [], ◌∷◌, ◌++◌, length, take, drop, get_or, subst, eqb-true, map, filter, find, position, insert, remove, Option, Some, None, refl, ap, sym, ◌∙◌, append_assoc, add-zero, arith}
+use Rattle.std.proofs.Common.{◌≡◌, ℕ, zero, suc, ◌+◌, ◌≤◌, ◌<◌, ◌==◌, Bool, true, false, not, cond, nat_lt, List, [], ◌∷◌, ◌++◌, length, take, drop, get_or, subst, eqb-true, map, filter, find, position, remove, Option, Some, None, refl, ap, sym, ◌∙◌, append_assoc, add-zero, arith}
 use Rattle.std.specs.Option.{option_map}
 use Rattle.std.specs.Str.{bytes_eq}
 use Rattle.std.proofs.lemmas.Str.Ascii.{lowercase-lowercase}
@@ -96,10 +96,6 @@ module _ {T : Type 0} where
   -- a table of those entries
   abbrev pub tables : ℕ → List (SectionEntry T) → Sections T
   tables next entries = record { entries = entries; next = next }
-
-  -- an entry that is put between others gets the next number
-  pub insert_numbered : (next : ℕ) (es : List (SectionEntry T)) (i : ℕ) (e : SectionEntry T) → e.number ≡ next → AreNumbered next es → AreNumbered (next + 1) (insert es i e)
-  insert_numbered next es i e p k = put_numbered next (take i es) (drop i es) e p (rw (take-append-drop i es) k)
 
   -- where all have other numbers, all are kept
   others_kept : (n : ℕ) (es : List (SectionEntry T)) → AllByRecursion (λ f. (f.number == n) ≡ false) es → filter (λ e. not (has_number n e)) es ≡ es

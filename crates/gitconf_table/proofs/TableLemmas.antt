@@ -1,5 +1,5 @@
 -- The places and words of a table under its edits, and what its walks find.
-use Rattle.std.proofs.Common.{◌≡◌, ◌≢◌, ℕ, zero, suc, ◌+◌, ◌≤◌, ◌<◌, ◌==◌, ◌⊎◌, inl, inr, Bool, true, false, not, List, [], ◌∷◌, ◌++◌, length, take, drop, set, map, filter, insert, remove, position, slice_index, Option, Some, None, refl, ap, sym, subst, ◌∙◌, arith, add-zero, eqb-true}
+use Rattle.std.proofs.Common.{◌≡◌, ◌≢◌, ℕ, zero, suc, ◌+◌, ◌≤◌, ◌<◌, ◌==◌, ◌⊎◌, inl, inr, Bool, true, false, not, List, [], ◌∷◌, ◌++◌, length, take, drop, set, map, filter, remove, position, slice_index, Option, Some, None, refl, ap, sym, subst, ◌∙◌, arith, add-zero, eqb-true}
 use Rattle.std.specs.Prelude.{◌&&◌, slice_get}
 use Rattle.std.specs.Option.{option_eq, option_map}
 use Rattle.std.specs.List.{filter_map, list_any, AllByRecursion, AllZip}
@@ -20,7 +20,7 @@ use Rattle.gitconf_table.specs.Rows.{entries_at, entries_of, entry_of_row}
 use Rattle.gitconf_table.specs.Word.{full_state, full_word, name_state, name_word, nothing_behind, whole_state, with_bytes, word_of}
 use Rattle.gitconf_table.specs.Words.{places_in, places_of}
 use Rattle.gitconf_table.specs.Tables.{IsTable, AreApart, ArePlaced, ArePlacedTo, numbers_of, word_of_name, word_of_names}
-use Rattle.gitconf_table.proofs.SectionLemmas.{all_put_numbered, changed_numbered, fold_again, insert_numbered, none_has, not_placed, number_at-place, push_numbered}
+use Rattle.gitconf_table.proofs.SectionLemmas.{all_put_numbered, changed_numbered, fold_again, none_has, not_placed, number_at-place, push_numbered}
 
 -- equal names have equal words, from any seed
 module _ (seed : ℕ) where
@@ -93,10 +93,6 @@ module _ {T : Type 0} where
       rw count (found_in p word_of w words (λ at. option_map (entry_of_row letters) (slice_get rows at)) ws (entries_of letters rows) 0
       (λ k. let sum : 0 + k ≡ k = omega arith in rw sum (sym (slice_get-map (entry_of_row letters) rows k)))
       (λ k. let sum : 0 + k ≡ k = omega arith in rw sum (ap (λ l. slice_index l k) same)))
-
--- lists under f
-pub map_put : {A B : Type 0} (f : A → B) (xs : List A) (i : ℕ) (y : A) → map f (insert xs i y) ≡ insert (map f xs) i (f y)
-map_put f xs i y = map-append f (take i xs) (y ∷ drop i xs) ∙ (λ j. sym (take-map f i xs) j ++ f y ∷ sym (drop-map f i xs) j)
 
 pub map_out : {A B : Type 0} (f : A → B) (xs : List A) (i : ℕ) → map f (remove xs i) ≡ remove (map f xs) i
 map_out f xs i = map-append f (take i xs) (drop (suc i) xs) ∙ (λ j. sym (take-map f i xs) j ++ sym (drop-map f (suc i) xs) j)
@@ -174,18 +170,6 @@ module _ {T : Type 0} {seed : ℕ} where
           let same : k ≡ length (numbers_of es) = omega (arith, below, last, all) in
           let number : e.number ≡ length places = is ∙ sym h.counted in
           rw (same, numbers, get_or-append_seam (numbers_of es) e.number [] 0, number, get_or-append_seam places (length es) [] 0) (sym count)
-
-  -- one section more between others
-  pub table_put : (next at : ℕ) (es : List (SectionEntry T)) (places more names full : List ℕ) (e : SectionEntry T) → e.number ≡ next → next < no_number
-      → IsTable seed next es places names full → length more ≡ next + 1 → ArePlaced (numbers_of (insert es at e)) more
-      → IsTable seed (next + 1) (insert es at e) more (insert names at (word_of_name seed e)) (insert full at (word_of_names seed e))
-  table_put next at es places more names full e is room h count placed = record {
-    numbered = record { once = insert_numbered next es at e is h.numbered.once; within = omega (arith, room) };
-    counted = count;
-    placed = placed;
-    names = sym (map_put (word_of_name seed) es at e ∙ ap (λ l. insert l at (word_of_name seed e)) (sym h.names));
-    full = sym (map_put (word_of_names seed) es at e ∙ ap (λ l. insert l at (word_of_names seed e)) (sym h.full));
-  }
 
   -- one section fewer
   pub table_out : (next at : ℕ) (es : List (SectionEntry T)) (places more names full : List ℕ)
@@ -342,12 +326,6 @@ module _ {T : Type 0} {seed : ℕ} where
   table_pushed next es es2 places places2 names names2 full full2 name s section e1 e2 e3 e4 room h =
       rw (e1, e2, e3, e4, ← folded_word seed name, ← folded_full seed name s) (table_push next es places names full (entry_of next name s section) refl room h)
 
-  pub table_inserted : (next at : ℕ) (es es2 : List (SectionEntry T)) (places more names names2 full full2 : List ℕ) (name : List ℕ) (s : Option (List ℕ)) (section : T)
-      → es2 ≡ insert es at (entry_of next name s section) → names2 ≡ insert names at (name_word seed name) → full2 ≡ insert full at (full_word seed name s)
-      → next < no_number → IsTable seed next es places names full → length more ≡ next + 1 → ArePlaced (numbers_of es2) more → IsTable seed (next + 1) es2 more names2 full2
-  table_inserted next at es es2 places more names names2 full full2 name s section e1 e3 e4 room h count placed =
-      rw (e1, e3, e4, ← folded_word seed name, ← folded_full seed name s) (table_put next at es places more names full (entry_of next name s section) refl room h count (rw e1 at placed))
-
   pub table_renamed : (next at : ℕ) (es es2 : List (SectionEntry T)) (places names names2 full full2 : List ℕ) (name : List ℕ) (s : Option (List ℕ))
       → es2 ≡ changed_at (λ e. record e { name = fold name; subsection = s }) es at → names2 ≡ set names at (name_word seed name) → full2 ≡ set full at (full_word seed name s)
       → IsTable seed next es places names full → IsTable seed next es2 places names2 full2
@@ -363,9 +341,6 @@ module _ {T : Type 0} where
   -- what the loop over places needs of the numbers
   pub numbers_within : (next : ℕ) (es : List (SectionEntry T)) (places : List ℕ) → AreNumbered next es → length places ≡ next → (k : ℕ) → k < length (numbers_of es) → slice_index (numbers_of es) k < length places
   numbers_within next es places h count k within = let b = below_next next es h k within in omega (arith, b, count)
-
-  pub inserted_numbered : (next at : ℕ) (es es2 : List (SectionEntry T)) (name : List ℕ) (s : Option (List ℕ)) (section : T) → es2 ≡ insert es at (entry_of next name s section) → AreNumbered next es → AreNumbered (next + 1) es2
-  inserted_numbered next at es es2 name s section e h = rw e (insert_numbered next es at (entry_of next name s section) refl h)
 
 -- what no clone changes
 pub cloned_map : {T : Type 0} (C : T → T → Type 0) (f : SectionEntry T → ℕ) → ((e d : SectionEntry T) → IsEntryClone C e d → f d ≡ f e)

@@ -3,7 +3,6 @@ use Rattle.std.specs.Prelude.{ℕ, List, map, filter}
 use Rattle.std.specs.Borrow.{Bor}
 use Rattle.std.specs.Option.{option_copied}
 use Rattle.gitconf_table.specs.declared.table.SectionIter.{SectionIter}
-use Rattle.gitconf_table.specs.declared.table.Ids.{Ids}
 use Rattle.gitconf_table.specs.declared.table.by_name.Named.{Named}
 use Rattle.gitconf_table.specs.declared.table.by_name.WithName.{WithName}
 use Rattle.gitconf_text.specs.Sections.{has_name, is_named}
@@ -16,10 +15,6 @@ shown_section item = (item.0, item.1.now)
 -- the numbers and contents that are left
 abbrev pub sections_left : {T : Type 0} → SectionIter T → List (ℕ × T)
 sections_left it = map (λ r. (r.id, r.section)) it.rows.now
-
--- the numbers that are left
-abbrev pub ids_left : {T : Type 0} → Ids T → List ℕ
-ids_left it = map (λ e. e.number) (filter (is_named it.name.now (option_copied it.subsection)) (entries_at it.letters.now it.rows.now it.places))
 
 -- the sections of a name and subsection that are left
 abbrev pub named_left : {T : Type 0} → Named T → List (ℕ × T)

@@ -1,5 +1,5 @@
 //! An index over a list of words: it finds the places of a word without a walk over the others.
-ghost use Rattle.std.specs.Prelude.{◌≡◌, ◌+◌, ◌-◌, ◌<◌, ◌≤◌, [], ◌∷◌, ◌++◌, drop, insert, length, remove, slice_set, take, true, vec_capacity, vec_len, IfOk, OnOk};
+ghost use Rattle.std.specs.Prelude.{◌≡◌, ◌+◌, ◌-◌, ◌<◌, ◌≤◌, [], ◌∷◌, ◌++◌, drop, length, remove, take, true, vec_capacity, vec_len, IfOk, OnOk};
 ghost use Rattle.std.specs.Iterator.{item_count, YieldsFirst, YieldsLast};
 ghost use Rattle.std.specs.List.{AllByRecursion};
 ghost use Rattle.gitconf_table.specs.Links.{bucket_of, no_place, words_of, AreEmpty, AreLinked, IsLed};
@@ -246,16 +246,6 @@ impl WordIndex {
         relink_all(&mut self.links, &mut self.buckets);
     }
 
-    /// Puts a word at a place. Takes time for all words.
-    pub fn insert(&mut self, at: usize, word: u32)
-        requires room { 0 < self.old.room }
-        requires within { at ≤ length self.old.words }
-        ensures { self.new.words ≡ insert self.old.words at word }
-    {
-        self.links.insert(at, unlinked(word)).unwrap();
-        relink_all(&mut self.links, &mut self.buckets);
-    }
-
     /// Removes the word at a place. Takes time for all words.
     pub fn remove(&mut self, at: usize)
         requires { at < length self.old.words }
@@ -264,14 +254,6 @@ impl WordIndex {
     {
         self.links.remove(at);
         relink_all(&mut self.links, &mut self.buckets);
-    }
-
-    /// Puts another word at a place. Takes time for the places of the word's bucket.
-    pub fn set(&mut self, at: usize, word: u32)
-        requires { at < length self.old.words }
-        ensures { self.new.words ≡ slice_set self.old.words at word }
-    {
-        self.set_each(&[at], word);
     }
 
     /// Puts another word at all these places. If they ascend, takes time for them and, once, for the places of the word's

@@ -1,19 +1,19 @@
 //! The table of a file's sections and their numbers. Its contracts speak of the plain list in file order. Besides it, it
 //! keeps the place of each number, and indexes by name and by name and subsection, so that no lookup walks over all sections.
 ghost use Rattle.std.specs.Prelude.{◌≡◌, ℕ, ◌+◌, ◌-◌, ◌^◌, ◌<◌, ◌≤◌, ◌==◌, ◌↔◌, [], ◌++◌, drop, length, map, slice_get, slice_index, take, vec_capacity, vec_len, IfErr, IfOk, IfSome, OnOk, OnErr, IsErrOf};
-ghost use Rattle.std.specs.Iterator.{item_count, YieldsFirst, YieldsFirstBy, YieldsLast, YieldsLastBy};
+ghost use Rattle.std.specs.Iterator.{item_count, YieldsFirstBy, YieldsLastBy};
 ghost use Rattle.std.specs.List.{list_any};
 ghost use Rattle.std.specs.Option.{option_copied, option_eq, option_map};
 ghost use Rattle.std.specs.Str.{bytes_eq};
 ghost use Rattle.std.specs.Borrow.{sem};
 ghost use Rattle.gitconf_text.specs.Bytes.{fold};
 ghost use Rattle.gitconf_table.specs.Links.{no_place};
-ghost use Rattle.gitconf_text.specs.Sections.{all_named, entry_of, has_name, ids, is_named, named, no_number, number_at, numbered_from, place_of, section_at, section_of, sections_of, with_all, with_behind, with_last, with_names, without, IsNumbered, IsTableClone};
+ghost use Rattle.gitconf_text.specs.Sections.{all_named, entry_of, has_name, is_named, named, no_number, number_at, numbered_from, place_of, section_at, section_of, sections_of, with_all, with_last, without, IsNumbered, IsTableClone};
 ghost use Rattle.gitconf_table.specs.Rows.{entry_of_row, moved_rows, numbers_in, RowsFit};
 ghost use Rattle.gitconf_table.specs.Tables.{AreApart, ArePlaced, ArePlacedTo};
 ghost use Rattle.gitconf_table.specs.Word.{full_word, name_word};
 ghost use Rattle.gitconf_table.specs.Words.{places_of};
-ghost use Rattle.gitconf_table.specs.SectionIters.{ids_left, named_left, sections_left, shown_section, with_name_left};
+ghost use Rattle.gitconf_table.specs.SectionIters.{named_left, sections_left, shown_section, with_name_left};
 
 use crate::index::{Places, WordIndex};
 use crate::letters::{Names, make_room, name_at, put, put_names, subsection_at};
@@ -215,14 +215,6 @@ impl<T> SectionTable<T> {
         if row.id == id { Some(at) } else { None }
     }
 
-    /// What the section of this number holds, or `None` if none has it. Takes constant time.
-    pub fn get(&self, id: SectionId) -> Option<&T>
-        ensures { option_copied result ≡ section_of id self.now }
-    {
-        let at = self.position(id)?;
-        Some(self.at(at))
-    }
-
     /// The sections in file order, each as its number and what it holds.
     pub fn iter(&self) -> SectionIter<'_, T>
         ensures left { sections_left result ≡ sections_of self.now }
@@ -232,28 +224,9 @@ impl<T> SectionTable<T> {
         SectionIter { rows: &self.rows }
     }
 
-    /// The numbers of the sections of this name, without ASCII case, and exactly this subsection, in file
-    /// order. Takes no memory, and constant time except for the bytes of the names; each step takes the time of the
-    /// sections that share a bucket, one or two on average besides those that are asked for.
-    pub fn ids<'a, 'n, 's>(
-        &'a self,
-        name: &'n str,
-        subsection: Option<&'s [u8]>,
-    ) -> Ids<'a, 'n, 's, T>
-        ensures left { ids_left result ≡ ids name.now (option_copied subsection.entry) self.now }
-        ensures fits { length (ids_left result) < 2 ^ 64 }
-    {
-        Ids {
-            rows: &self.rows,
-            letters: &self.letters,
-            places: places_named(&self.full, self.seed, name, subsection),
-            name,
-            subsection,
-        }
-    }
-
     /// The sections of this name, without ASCII case, and exactly this subsection, in file order, each as its
-    /// number and what it holds. Takes the time of [`SectionTable::ids`], and no memory.
+    /// number and what it holds. Takes no memory, and constant time except for the bytes of the names; each step takes the time of the
+    /// sections that share a bucket, one or two on average besides those that are asked for.
     pub fn named<'a, 'n, 's>(
         &'a self,
         name: &'n str,
@@ -272,7 +245,7 @@ impl<T> SectionTable<T> {
     }
 
     /// The sections of this name, without ASCII case, and any subsection, in file order, each as its number and
-    /// what it holds. Takes the time of [`SectionTable::ids`], and no memory.
+    /// what it holds. Takes the time of [`SectionTable::named`], and no memory.
     pub fn with_name<'a, 'n>(&'a self, name: &'n str) -> WithName<'a, 'n, T>
         ensures left { with_name_left result ≡ all_named name.now self.now }
         ensures fits { length (with_name_left result) < 2 ^ 64 }
@@ -382,51 +355,6 @@ impl<T> SectionTable<T> {
         Ok(id)
     }
 
-    /// Puts a section directly after the one at a place, under the next number and `name` in ASCII lower
-    /// case, and returns that number. Takes memory for the names, and on average constant memory for its place and the
-    /// indexes; moves what follows, and links all sections again.
-    ///
-    /// Errors: a [`span::Error`], number 3, if only the greatest number is left, otherwise 27 when out of
-    /// memory, or if there are 4294967295 sections. The table is then as it was.
-    pub fn insert_behind(
-        &mut self,
-        position: usize,
-        name: &[u8],
-        subsection: Option<&[u8]>,
-        section: T,
-    ) -> Result<SectionId, span::Error>
-    where
-        T: Drop,
-        requires { position < length self.old.entries }
-        ensures id { IfOk result (λ id. id ≡ self.old.next) }
-        ensures ok { OnOk result (self.new ≡ with_behind position name.now (option_copied subsection.entry) section self.old) }
-        ensures used_up { IsErrOf result 3 ↔ (self.old.next ≡ no_number) }
-        ensures memory { IfErr result (λ e. self.old.next < no_number → e ≡ 27) }
-        ensures err { OnErr result (self.new ≡ self.old) }
-    {
-        if self.next == usize::MAX {
-            return Err(span::Error::too_large());
-        }
-        let id = SectionId { number: self.next };
-        reserve_row(
-            &mut self.rows,
-            &mut self.places,
-            &mut self.names,
-            &mut self.full,
-        )?;
-        let (names, state) = put_names(&mut self.letters, self.seed, name, subsection)?;
-        let row = Row { id, names, section };
-        let at = position + 1;
-        self.rows.insert(at, row).unwrap();
-        // Any place for now: all are written down once the row is there.
-        self.places.push(0).unwrap();
-        relocate(&self.rows, &mut self.places, 0);
-        self.names.insert(at, word_of(state));
-        self.full.insert(at, word_of(full_state(state, subsection)));
-        self.next += 1;
-        Ok(id)
-    }
-
     /// Puts all sections of another table after the first `position` ones, in their order and under the next
     /// numbers. Their names and what they hold are moved. Takes memory for the places and the indexes, moves what
     /// follows, and links all sections again; after all others, only those of the other table. A table with another seed gets
@@ -497,28 +425,6 @@ impl<T> SectionTable<T> {
         self.full.remove(at);
         relocate(&self.rows, &mut self.places, 0);
         Some(section)
-    }
-
-    /// Gives the section at a place other names, `name` in ASCII lower case; its number, its place and what it
-    /// holds stay. Takes memory for the names, and time for them and for the sections that have the new name, or share a
-    /// bucket with them. When out of memory the table is as it was.
-    pub fn rename(
-        &mut self,
-        position: usize,
-        name: &[u8],
-        subsection: Option<&[u8]>,
-    ) -> Result<(), NoMemory>
-        requires { position < length self.old.entries }
-        ensures ok { OnOk result (self.new ≡ with_names self.old position name.now (option_copied subsection.entry)) }
-        ensures err { OnErr result (self.new ≡ self.old) }
-    {
-        let (names, state) = put_names(&mut self.letters, self.seed, name, subsection)?;
-        self.names.set(position, word_of(state));
-        self.full
-            .set(position, word_of(full_state(state, subsection)));
-        let row = &mut self.rows[position];
-        row.names = names;
-        Ok(())
     }
 }
 
@@ -748,49 +654,5 @@ impl<'a, T> DoubleEndedIterator for SectionIter<'a, T> {
         let (row, rest) = self.rows.split_last()?;
         self.rows = rest;
         Some((row.id, &row.section))
-    }
-}
-
-/// The numbers of the sections of a name and subsection in file order, from either end: [`SectionTable::ids`].
-#[derive(Drop)]
-pub struct Ids<'a, 'n, 's, T> {
-    rows: &'a [Row<T>],
-    letters: &'a [u8],
-    places: Places<'a>,
-    name: &'n str,
-    subsection: Option<&'s [u8]>,
-}
-
-impl<T> Iterator for Ids<'_, '_, '_, T> {
-    type Item = SectionId;
-
-    ghost next_gives = { YieldsFirst ids_left };
-
-    ghost remaining = { item_count ids_left };
-
-    fn next(&mut self) -> Option<SectionId> {
-        while let Some(at) = self.places.next() {
-            if let Some(row) = row_at(self.rows, at) {
-                if is_named(self.letters, row, self.name, self.subsection) {
-                    return Some(row.id);
-                }
-            }
-        }
-        None
-    }
-}
-
-impl<T> DoubleEndedIterator for Ids<'_, '_, '_, T> {
-    ghost next_back_gives = { YieldsLast ids_left };
-
-    fn next_back(&mut self) -> Option<SectionId> {
-        while let Some(at) = self.places.next_back() {
-            if let Some(row) = row_at(self.rows, at) {
-                if is_named(self.letters, row, self.name, self.subsection) {
-                    return Some(row.id);
-                }
-            }
-        }
-        None
     }
 }

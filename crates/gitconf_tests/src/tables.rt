@@ -23,14 +23,11 @@ const BRANCH: Names<'static> = (b"branch", None);
 
 const OTHER: Names<'static> = (b"core", Some(b"\xff"));
 
-/// The place of no section.
-const LAST: usize = usize::MAX;
-
 /// A change of a table; a section is given by its place, or by its number if it is removed.
 #[derive(Clone, Copy)]
 enum Step<'a> {
-    /// After a section, or last.
-    Put(usize, Names<'a>, u8),
+    /// Last.
+    Put(Names<'a>, u8),
     /// Before a section, all sections of another table.
     PutAll(usize, &'a [(Names<'a>, u8)]),
     Remove(usize),
@@ -57,17 +54,10 @@ fn table_of(alloc: Global, sections: &[(Names<'_>, u8)]) -> Result<SectionTable<
     Ok(table)
 }
 
-fn put(
-    table: &mut SectionTable<u8>,
-    at: usize,
-    names: Names<'_>,
-    content: u8,
-) -> Result<SectionId, span::Error> {
-    if at < table.len() {
-        table.insert_behind(at, names.0, names.1, content)
-    } else {
-        table.push(names.0, names.1, content)
-    }
+/// What is under a number.
+fn under(table: &SectionTable<u8>, id: SectionId) -> Option<u8> {
+    let at = table.position(id)?;
+    Some(*table.at(at))
 }
 
 fn put_all(
@@ -85,7 +75,7 @@ fn put_all(
 
 fn rename(table: &mut SectionTable<u8>, at: usize, names: Names<'_>) -> Result<(), NoMemory> {
     if at < table.len() {
-        table.rename(at, names.0, names.1)?;
+        table.rename_each(&[at], names.0, names.1)?;
     }
     Ok(())
 }
@@ -104,9 +94,9 @@ fn take(
     step: Step<'_>,
 ) -> Result<Option<u8>, span::Error> {
     match step {
-        Put(at, names, content) => {
-            let id = put(table, at, names, content)?;
-            return Ok(table.get(id).copied());
+        Put(names, content) => {
+            let id = table.push(names.0, names.1, content)?;
+            return Ok(under(table, id));
         }
         PutAll(at, sections) => put_all(alloc, table, at, sections)?,
         Remove(number) => {
@@ -181,7 +171,7 @@ fn behind_numbers(
 ) -> Option<usize> {
     let mut at = behind(told, at, b'|')?;
     for id in numbers {
-        at = behind(told, at, table.get(*id).copied().unwrap_or(b'-'))?;
+        at = behind(told, at, under(table, *id).unwrap_or(b'-'))?;
     }
     Some(at)
 }
@@ -242,7 +232,9 @@ fn leads_to(
 ) -> Result<bool, Fail> {
     for _ in 0..MOST {
         if is_taken(alloc, table, numbers, row, before)? {
-            return Ok(table.get(SectionId::default()).is_none() && is_told(table, numbers, row.2));
+            return Ok(
+                under(table, SectionId::default()).is_none() && is_told(table, numbers, row.2),
+            );
         }
     }
     Err(Fail::new("too many growths"))
@@ -251,6 +243,10 @@ fn leads_to(
 const THREE: [(Names<'static>, u8); 3] = [(CORE, b'f'), (BRANCH, b'g'), (UPPER, b'h')];
 
 const ONE: [(Names<'static>, u8); 1] = [(CORE, b'i')];
+
+const BEHIND_FIRST: [(Names<'static>, u8); 1] = [(LOWER, b'd')];
+
+const BEHIND_FOURTH: [(Names<'static>, u8); 1] = [(EMPTY, b'e')];
 
 const TEN: [(Names<'static>, u8); 10] = [
     (BRANCH, b'0'),
@@ -269,25 +265,17 @@ const TEN: [(Names<'static>, u8); 10] = [
 type Row = (Step<'static>, Option<u8>, &'static [u8]);
 
 static ROWS: [Row; 21] = [
-    (Put(LAST, CORE, b'a'), Some(b'a'), b"a|a|||||a----------"),
+    (Put(CORE, b'a'), Some(b'a'), b"a|a|||||a----------"),
+    (Put(LOWER, b'b'), Some(b'b'), b"ab|a||b||b|ab---------"),
+    (Put(UPPER, b'c'), Some(b'c'), b"abc|a||b|c|bc|abc--------"),
     (
-        Put(LAST, LOWER, b'b'),
-        Some(b'b'),
-        b"ab|a||b||b|ab---------",
-    ),
-    (
-        Put(LAST, UPPER, b'c'),
-        Some(b'c'),
-        b"abc|a||b|c|bc|abc--------",
-    ),
-    (
-        Put(0, LOWER, b'd'),
-        Some(b'd'),
+        PutAll(1, &BEHIND_FIRST),
+        None,
         b"adbc|a||db|c|dbc|abcd-------",
     ),
     (
-        Put(3, EMPTY, b'e'),
-        Some(b'e'),
+        PutAll(4, &BEHIND_FOURTH),
+        None,
         b"adbce|a|e|db|c|dbc|abcde------",
     ),
     (Reseed(1), None, b"adbce|a|e|db|c|dbc|abcde------"),
@@ -300,7 +288,7 @@ static ROWS: [Row; 21] = [
     (PutAll(0, &[]), None, b"fghdcei|fci|e|d|h|hd|--cdefghi--"),
     (Remove(8), Some(b'i'), b"fghdce|fc|e|d|h|hd|--cdefgh---"),
     (
-        Put(LAST, OTHER, b'j'),
+        Put(OTHER, b'j'),
         Some(b'j'),
         b"fghdcej|fc|e|d|h|hd|--cdefgh-j-",
     ),
@@ -404,18 +392,7 @@ fn three_of_one_name(table: &mut SectionTable<char>) -> Result<[SectionId; 3], s
     Ok([first, second, third])
 }
 
-/// Whether the numbers of a name are found from both ends.
-fn ids_are_walked(table: &SectionTable<char>, numbers: &[SectionId; 3]) -> bool {
-    let [first, second, third] = *numbers;
-    let mut ids = table.ids("core", None);
-    ids.next() == Some(first)
-        && ids.next_back() == Some(third)
-        && ids.next() == Some(second)
-        && ids.next_back().is_none()
-        && ids.next().is_none()
-}
-
-/// The same for the sections of a name and no subsection.
+/// Whether the sections of a name and no subsection are found from both ends.
 fn named_are_walked(table: &SectionTable<char>, numbers: &[SectionId; 3]) -> bool {
     let [first, second, third] = *numbers;
     let mut named = table.named("core", None);
@@ -443,10 +420,9 @@ fn all_are_walked(table: &SectionTable<char>, numbers: &[SectionId; 3]) -> bool 
     all.next_back() == Some((third, &'d')) && all.next() == Some((first, &'a')) && all.count() == 2
 }
 
-/// All four.
+/// All three.
 fn are_walked(table: &SectionTable<char>, numbers: &[SectionId; 3]) -> bool {
-    ids_are_walked(table, numbers)
-        && named_are_walked(table, numbers)
+    named_are_walked(table, numbers)
         && with_name_are_walked(table, numbers)
         && all_are_walked(table, numbers)
 }

@@ -1,5 +1,5 @@
 -- The sections of a file as a plain list in file order.
-use Rattle.std.specs.Prelude.{◌≡◌, ℕ, ◌+◌, ◌<◌, ◌≤◌, Bool, false, not, ◌==◌, ◌&&◌, List, [], ◌∷◌, ◌++◌, length, take, drop, Option, map, filter, find, position, insert, zero, suc, slice_get}
+use Rattle.std.specs.Prelude.{◌≡◌, ℕ, ◌+◌, ◌<◌, ◌≤◌, Bool, false, not, ◌==◌, ◌&&◌, List, [], ◌∷◌, ◌++◌, length, take, drop, Option, map, filter, find, position, zero, suc, slice_get}
 use Rattle.std.specs.Option.{option_eq, option_map}
 use Rattle.std.specs.List.{AllByRecursion, AllZip}
 use Rattle.std.specs.Str.{bytes_eq}
@@ -39,10 +39,6 @@ pub record IsNumbered {T : Type 0} (all : Sections T) : Type 0 where
 -- the list with a new section last
 abbrev pub with_last : {T : Type 0} → List ℕ → Option (List ℕ) → T → Sections T → Sections T
 with_last name subsection section all = record { entries = all.entries ++ entry_of all.next name subsection section ∷ []; next = all.next + 1 }
-
--- the list with a new section directly after the one at a place
-abbrev pub with_behind : {T : Type 0} → ℕ → List ℕ → Option (List ℕ) → T → Sections T → Sections T
-with_behind at name subsection section all = record { entries = insert all.entries (at + 1) (entry_of all.next name subsection section); next = all.next + 1 }
 
 -- the same sections, numbered from `next` on
 abbrev pub numbered_from : {T : Type 0} → ℕ → List (SectionEntry T) → List (SectionEntry T)
@@ -108,10 +104,6 @@ has_name name e = is_same_name name e.name
 -- the section has the name, and exactly this subsection
 abbrev pub is_named : {T : Type 0} → List ℕ → Option (List ℕ) → SectionEntry T → Bool
 is_named name subsection e = has_name name e && option_eq bytes_eq e.subsection subsection
-
--- the numbers of the sections of a name and subsection, in file order
-abbrev pub ids : {T : Type 0} → List ℕ → Option (List ℕ) → Sections T → List ℕ
-ids name subsection all = map (λ e. e.number) (filter (is_named name subsection) all.entries)
 
 -- the sections of a name and subsection, in file order
 abbrev pub named : {T : Type 0} → List ℕ → Option (List ℕ) → Sections T → List (ℕ × T)
