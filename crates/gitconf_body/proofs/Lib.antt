@@ -19,4 +19,5 @@ pub mod Taken
 pub mod Unmarked
 pub mod ValuesAt
 pub mod ItemsEdits
+pub mod Done
 pub mod Copies

@@ -12,5 +12,7 @@ pub mod Lines
 pub mod Taken
 pub mod ValuesAt
 pub mod Growth
+pub mod Done
+pub mod Refusals
 pub mod ItemsEdits
 pub mod Copies

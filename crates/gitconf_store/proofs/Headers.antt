@@ -3,3 +3,4 @@ pub mod Making
 pub mod Renaming
 pub mod RenamingAll
 pub mod HeaderBytes
+pub mod Made

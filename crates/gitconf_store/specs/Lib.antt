@@ -8,5 +8,6 @@ pub mod RenameErrors
 pub mod Renamings
 pub mod NewSections
 pub mod Appends
+pub mod Edited
 pub mod LeavingOut
 pub mod ItemsEdits

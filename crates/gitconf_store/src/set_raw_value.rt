@@ -13,13 +13,13 @@ pub enum Error {
     /// There is no such value, and none may be made: refusal 7, 8 or 9.
     #[error(transparent)]
     Lookup(existing::Error),
-    /// A section has to be made, and can't be: refusal 3, 4 or 5.
+    /// A section has to be made, and can't be of these names: refusal 4 or 5.
     #[error(transparent)]
     Header(header::Error),
     /// The name of the value is invalid: refusal 6.
     #[error(transparent)]
     ValueName(ValueNameError),
-    /// There is no room for the new bytes: refusal 3.
+    /// There is no room for the new bytes, or no number for a section that has to be made: refusal 3.
     #[error(transparent)]
     Span(span::Error),
     /// A growth was refused: refusal 27.
@@ -48,6 +48,7 @@ impl From<header::Error> for Error {
 
     fn from(header: header::Error) -> Error {
         match header {
+            header::Error::Span(span) => Error::from(span),
             header::Error::Memory => Error::Memory,
             header => Error::Header(header),
         }

@@ -114,7 +114,14 @@ impl Store {
     ghost use Rattle.gitconf_text.specs.LineEnds.{bytes_of_line_end};
     ghost use Rattle.gitconf_views.specs.Counts.{are_void, section_entries};
     ghost use Rattle.gitconf_store.specs.Edits as edits;
-    ghost use Rattle.gitconf_store.specs.Edits.{EditGrows, IsRefusal, IsSet, IsSetSomewhere, UsedGrows, set_numbers};
+    ghost use Rattle.gitconf_store.specs.Edits.{IsSetSomewhere, UsedGrows};
+    ghost use Rattle.gitconf_store.specs.Edited.{IsEdited, made_causes};
+    ghost use Rattle.gitconf_store.specs.SetErrors.{set_refusal};
+    ghost use Rattle.gitconf_store.specs.declared.set_raw_value.Error.TheVariants.{ValueName};
+    ghost use Rattle.gitconf_state.specs.Edits as states;
+    ghost use Rattle.gitconf_state.specs.Edits.{Raw, SetRawValue};
+    ghost use Rattle.gitconf_body.specs.Done.{IsRefusedFor, first_cause};
+    ghost use Rattle.gitconf_body.specs.Refusals.{header_refusal};
     ghost use Rattle.gitconf_items.specs.ItemEvents.{events_left};
     ghost use Rattle.gitconf_state.specs.Made.{IsMade};
     ghost use Rattle.gitconf_views.specs.Loading.{IsLoading};
@@ -508,20 +515,18 @@ impl Store {
         value: &[u8],
     ) -> Result<(), HeaderError>
         requires key { is_value_name key.now ≡ true }
-        ensures name { IsErrOf result HeaderError.InvalidName ↔ (is_made_name section_name.now ≡ false) }
-        ensures subsection { IsErrOf result HeaderError.InvalidSubSection
-            ↔ ((is_made_name section_name.now ≡ true) × (is_valid_or_none (option_copied subsection_name.entry) ≡ false)) }
         ensures ok { OnOk result (self.new ≡ with_used self.new.used (edits.set_new section_name.now (option_copied subsection_name.entry) key.now
             value.now self.old)) }
         ensures err { OnErr result (self.new ≡ self.old) }
-        ensures used { EditGrows result header_number
-            (new_section_bytes (file_line_end self.old) section_name.now (option_copied subsection_name.entry) key.now value.now) self.old self.new }
-        ensures refused { is_made_name section_name.now ≡ true → is_valid_or_none (option_copied subsection_name.entry) ≡ true
-            → 2 ^ 32 ≤ self.old.used + new_section_bytes (file_line_end self.old) section_name.now (option_copied subsection_name.entry) key.now value.now
-            → IsErrAnd result (λ e. header_number e ≡ 3) }
-        ensures known { IfErr result (λ e. list_any (λ number. number == header_number e) set_numbers ≡ true) }
+        ensures put { OnOk result (self.new.used ≡ self.old.used
+            + new_section_bytes (file_line_end self.old) section_name.now (option_copied subsection_name.entry) key.now value.now) }
+        ensures told { IsRefusedFor header_refusal (first_cause (made_causes section_name.now (option_copied subsection_name.entry)
+            (new_section_bytes (file_line_end self.old) section_name.now (option_copied subsection_name.entry) key.now value.now) self.old)) result }
     {
         validate(section_name.as_bytes(), subsection_name)?;
+        if self.sections.numbers_left() == 0 {
+            return Err(HeaderError::Span(span::Error::too_large()));
+        }
         let line_end = self.line_end();
         let len = self.buffer.len();
         let section = section_with(
@@ -570,10 +575,14 @@ impl Store {
         filter: F,
     ) -> Result<Option<BString>, set_raw_value::Error>
         requires { F.IsAlwaysCallable filter }
-        ensures value_name { IsRefusal result 6 ↔ (is_value_name value_name.now ≡ false) }
+        ensures value_name { IsErrOf result (ValueName 6) ↔ (is_value_name value_name.now ≡ false) }
         // For a filter whose result depends only on what it is shown.
         ensures exact { (keeps : Meta → Bool) → ComputesKey F.FnMut keeps filter
-            → IsSet section_name.now (option_copied subsection_name.entry) value_name.now keeps new_value.now result self.old self.new }
+            → IsEdited set_refusal (SetRawValue section_name.now (option_copied subsection_name.entry) value_name.now keeps new_value.now)
+            result self.old self.new }
+        ensures answer { (keeps : Meta → Bool) → ComputesKey F.FnMut keeps filter
+            → IfOk result (λ o. Raw (option_map bstring_bytes o)
+            ≡ states.answer (SetRawValue section_name.now (option_copied subsection_name.entry) value_name.now keeps new_value.now) self.old) }
         // For any filter, even one that changes its mind.
         ensures somewhere { OnOk result (IsSetSomewhere section_name.now (option_copied subsection_name.entry) value_name.now new_value.now self.old self.new) }
         ensures err { OnErr result (self.new ≡ self.old) }
@@ -605,8 +614,10 @@ impl Store {
         value_name: &str,
         new_value: &[u8],
     ) -> Result<Option<BString>, set_raw_value::Error>
-        ensures value_name { IsRefusal result 6 ↔ (is_value_name value_name.now ≡ false) }
-        ensures exact { IsSet section_name.now (option_copied subsection_name.entry) value_name.now (λ _. true) new_value.now result self.old self.new }
+        ensures exact { IsEdited set_refusal (SetRawValue section_name.now (option_copied subsection_name.entry) value_name.now (λ _. true) new_value.now)
+            result self.old self.new }
+        ensures answer { IfOk result (λ o. Raw (option_map bstring_bytes o)
+            ≡ states.answer (SetRawValue section_name.now (option_copied subsection_name.entry) value_name.now (λ _. true) new_value.now) self.old) }
         ensures err { OnErr result (self.new ≡ self.old) }
     {
         self.set_raw_value_filter_by(

@@ -1,9 +1,8 @@
 -- A section that stands alone with other items, in a longer buffer.
-use Rattle.std.proofs.lemmas.Bool.{eqb-true}
 use Rattle.std.proofs.Common.{◌≡◌, ℕ, ◌+◌, ◌<◌, ◌^◌, Bool, false, true, List, [], length, Option, Some, None, Result, Ok, Err, arith, refl, ap, sym, subst, ◌∙◌, inl, inr}
-use Rattle.std.specs.Prelude.{◌⊎◌, ◌==◌, if◌then◌else◌, IfErr, IsErrAnd, IsErrOf, OnErr, OnOk}
-use Rattle.std.specs.List.{list_all, list_any}
-use Rattle.gitconf_text.specs.Names.{is_made_name, is_valid_or_none}
+use Rattle.std.specs.Prelude.{◌⊎◌, OnErr, OnOk}
+use Rattle.std.specs.List.{list_all}
+use Rattle.gitconf_text.specs.Names.{is_made_name, is_valid_or_none, is_value_name}
 use Rattle.gitconf_text.specs.Part as parts
 use Rattle.gitconf_sources.specs.Metadata.{Meta}
 use Rattle.gitconf_text.specs.Sections.{no_number}
@@ -14,24 +13,22 @@ use Rattle.gitconf_items.specs.ItemsFit.{AreItemsWithin}
 use Rattle.gitconf_items.specs.ShownEvents.{IsExtended, IsShown}
 use Rattle.gitconf_items.proofs.Shown.{is_shown_more}
 use Rattle.gitconf_state.specs.Edit.{header_bytes, made_header}
-use Rattle.gitconf_state.specs.Editors.{value_set}
 use Rattle.gitconf_state.specs.Edits.{renamed, Detached}
 use Rattle.gitconf_state.specs.State.{is_header, is_item}
 use Rattle.gitconf_state.proofs.Edits.Items.{made_header_is}
 use Rattle.gitconf_items.specs.Items.{items_of}
-use Rattle.gitconf_body.specs.declared.editor.Editor.{Editor}
-use Rattle.gitconf_body.specs.Blanks.{given_editor, IsGiven, PutsAround}
-use Rattle.gitconf_body.specs.Editors.{set_put}
-use Rattle.gitconf_body.specs.Puts.{value_set_bytes}
+use Rattle.gitconf_body.specs.Done.{IsDone, room_causes}
+use Rattle.gitconf_body.specs.Refusals.{span_refusal, value_refusal}
 use Rattle.gitconf_body.proofs.Buffers.{extended_fit, extended_items}
-use Rattle.gitconf_body.proofs.Puts.{set_is}
+use Rattle.gitconf_body.proofs.Done.{key_err, key_ok, key_refused, room_err, room_ok}
 use Rattle.gitconf_views.specs.declared.section.Section.{Section as Own}
-use Rattle.gitconf_views.specs.Alone.{detached_of, made_alone, whole, with_items, IsEditedAlone, StandsAlone}
+use Rattle.gitconf_views.specs.Alone.{changed_alone, detached_of, made_alone, whole, with_items, IsEditedAlone, StandsAlone}
 use Rattle.gitconf_body.specs.Copies.{header_size, items_size}
 use Rattle.gitconf_body.specs.Growth.{UsedGrows}
 use Rattle.gitconf_views.specs.Store.{section_under}
-use Rattle.gitconf_body.specs.ValueErrors.{edit_numbers, of_span, value_number}
-use Rattle.gitconf_body.specs.declared.value.Error.TheVariants.{Memory, Span}
+use Rattle.gitconf_body.specs.ValueErrors.{of_span}
+use Rattle.gitconf_body.specs.declared.value.Error.{Error as ValueError}
+use Rattle.gitconf_body.specs.declared.value.Error.TheVariants.{ValueName}
 use Rattle.gitconf_views.proofs.Append.{header_more, header_shown_more}
 
 -- its header in the longer buffer
@@ -138,85 +135,35 @@ made_alone_is b s name subsection meta made from empty count = λ i. record {
   used = (count ∙ made_size name subsection) i;
 }
 
--- a refusal of a place keeps its number
-pub span_number : (n : ℕ) → value_number (of_span n) ≡ n
-span_number n = go (n == 27) refl
-  where
-    go : (t : Bool) → (n == 27) ≡ t → value_number (if t then Memory else Span n) ≡ n
-    go true is = sym (eqb-true n 27 is)
-    go false is = refl
-
--- what a place is refused by: 3 or want of memory
-pub no_six : {T : Type 0} (r : Result T ℕ) → IfErr r (λ e. (e ≡ 3) ⊎ (e ≡ 27)) → IsErrAnd r (λ e. e ≡ 6) → ⊥
-no_six (Ok t) known is = is
-no_six (Err e) (inl three) is = omega (arith, three, is)
-no_six (Err e) (inr memory) is = omega (arith, memory, is)
-
-pub is_three : {T : Type 0} (r : Result T ℕ) → IsErrAnd r (λ e. e ≡ 3) → IsErrOf r 3
-is_three (Ok t) is = absurd is
-is_three (Err e) is = ap Err is
-
-pub of_three : {T : Type 0} (r : Result T ℕ) → IsErrOf r 3 → IsErrAnd r (λ e. e ≡ 3)
-of_three r is = subst (λ t. IsErrAnd t (λ e. e ≡ 3)) (sym is) refl
-
-pub place_known : {T : Type 0} (r : Result T ℕ) → IfErr r (λ e. (e ≡ 3) ⊎ (e ≡ 27)) → IfErr r (λ e. list_any (λ refusal. refusal == e) edit_numbers ≡ true)
-place_known (Ok t) known = tt
-place_known (Err e) (inl three) = rw three refl
-place_known (Err e) (inr memory) = rw memory refl
-
 -- an edit whose bytes were counted
-pub done_alone : {T : Type 0} (r : Result T ℕ) (change : List parts.Item → List parts.Item) (count bytes : ℕ) (old new : Detached) → OnOk r (new.section ≡ with_items change old.section)
-    → OnErr r (new ≡ old) → UsedGrows r count old.used new.used → count ≡ bytes → IsEditedAlone change true bytes (λ e. e) r old new
-done_alone {T} r change count bytes old new ok err puts same =
-    let used : UsedGrows {T = T} r bytes old.used new.used = subst (λ n. UsedGrows {T = T} r n old.used new.used) same puts in
+pub alone_ok : {T U : Type 0} (t : T) (u : U) (key : List ℕ) (change : List parts.Item → List parts.Item) (count bytes : ℕ) (old new : Detached) → is_value_name key ≡ true
+    → new.section ≡ with_items change old.section → UsedGrows (Ok t) count old.used new.used → count ≡ bytes → IsEditedAlone change key bytes (Ok u) old new
+alone_ok t u key change count bytes old new named is puts same =
+    let grows : UsedGrows (Ok t) bytes old.used new.used = subst (λ n. UsedGrows (Ok t) n old.used new.used) same puts in
+    record { ok = λ i. record { section = is i; used = grows.put i }; err = tt; told = key_ok value_refusal t u key old.used new.used bytes named grows }
+
+-- one that was refused
+pub alone_err : {T : Type 0} (U : Type 0) (n : ℕ) (e : ValueError) (key : List ℕ) (change : List parts.Item → List parts.Item) (count bytes : ℕ) (old new : Detached) → is_value_name key ≡ true → new ≡ old
+    → UsedGrows {T = T} (Err n) count old.used new.used → count ≡ bytes → e ≡ of_span n → IsEditedAlone {T = U} change key bytes (Err e) old new
+alone_err {T} U n e key change count bytes old new named is puts same refusal =
+    let grows : UsedGrows {T = T} (Err n) bytes old.used new.used = subst (λ m. UsedGrows {T = T} (Err n) m old.used new.used) same puts in
     record {
-      ok = ok;
-      err = err;
-      put = used.put;
-      invalid = (λ six. absurd (no_six r used.known six), λ none. absurd (let no : true ≡ false = none in cc));
-      too_large = (λ three. (refl, used.too_large (is_three r three)), λ large. of_three r (used.refused large.1));
-      known = place_known r used.known;
+      ok = tt;
+      err = is;
+      told = key_err {T = T} U value_refusal n e key old.used new.used bytes named grows (λ three. refusal ∙ ap of_span three) (λ memory. refusal ∙ ap of_span memory);
     }
 
--- The same where the answer or the refusal is passed on, for a name that may be one.
-pub done_with : {T U E : Type 0} (t : T) (u : U) (number : E → ℕ) (change : List parts.Item → List parts.Item) (is_named : Bool) (bytes : ℕ) (old new : Detached) → is_named ≡ true
-    → IsEditedAlone change true bytes (λ e. e) (Ok t) old new → IsEditedAlone change is_named bytes number (Ok u) old new
-done_with {T} {U} {E} t u number change is_named bytes old new named done =
-    subst (λ n. IsEditedAlone {T = U} {E = E} change n bytes number (Ok u) old new) (sym named)
-    (record { ok = done.ok; err = tt; put = done.put; invalid = done.invalid; too_large = done.too_large; known = tt })
+-- a name that is none changes nothing
+pub alone_unnamed : (T : Type 0) (e : ValueError) (key : List ℕ) (change : List parts.Item → List parts.Item) (bytes : ℕ) (old : Detached) → is_value_name key ≡ false → e ≡ ValueName 6
+    → IsEditedAlone {T = T} change key bytes (Err e) old old
+alone_unnamed T e key change bytes old none six = record { ok = tt; err = refl; told = key_refused T value_refusal key old.used bytes e none six }
 
-pub refused_with : {T U E : Type 0} (n : ℕ) (e : E) (number : E → ℕ) (change : List parts.Item → List parts.Item) (is_named : Bool) (bytes : ℕ) (old new : Detached) → is_named ≡ true → number e ≡ n
-    → IsEditedAlone {T = T} change true bytes (λ e. e) (Err n) old new → IsEditedAlone {T = U} change is_named bytes number (Err e) old new
-refused_with {T} {U} {E} n e number change is_named bytes old new named same is =
-    subst (λ t. IsEditedAlone {T = U} {E = E} change t bytes number (Err e) old new) (sym named)
-    (record {
-      ok = tt;
-      err = is.err;
-      put = tt;
-      invalid = (λ six. is.invalid.0 (sym same ∙ six), λ none. same ∙ is.invalid.1 none);
-      too_large = (λ three. is.too_large.0 (sym same ∙ three), λ large. same ∙ is.too_large.1 large);
-      known = subst (λ m. list_any (λ refusal. refusal == m) edit_numbers ≡ true) (sym same) is.known;
-    })
-
--- A name that is none changes nothing.
-pub unnamed : {T E : Type 0} (e : E) (number : E → ℕ) (change : List parts.Item → List parts.Item) (is_named : Bool) (bytes : ℕ) (old : Detached) → is_named ≡ false → number e ≡ 6
-    → IsEditedAlone {T = T} change is_named bytes number (Err e) old old
-unnamed {T} {E} e number change is_named bytes old none six =
-    subst (λ n. IsEditedAlone {T = T} {E = E} change n bytes number (Err e) old old) (sym none)
-    (record {
-      ok = tt;
-      err = refl;
-      put = tt;
-      invalid = (λ is. refl, λ is. six);
-      too_large = (λ three. absurd (let no = sym six ∙ three in omega (arith, no)), λ large. absurd (let no : false ≡ true = large.0 in cc));
-      known = subst (λ m. list_any (λ refusal. refusal == m) edit_numbers ≡ true) (sym six) refl;
-    })
-
--- A value is set in it.
-pub set_done : {T : Type 0} (e : Editor) (key name value : List ℕ) (r : Result T ℕ) (old new : Detached) → key ≡ name → IsGiven e → PutsAround e
-    → OnOk r (new.section ≡ with_items (value_set (given_editor e) key value) old.section) → OnErr r (new ≡ old)
-    → UsedGrows r (set_put e key value old.section.items) old.used new.used
-    → IsEditedAlone (value_set (given_editor e) name value) true (value_set_bytes (given_editor e) name value old.section.items) (λ e. e) r old new
-set_done e key name value r old new same given around ok err used =
-    subst (λ k. IsEditedAlone (value_set (given_editor e) k value) true (value_set_bytes (given_editor e) k value old.section.items) (λ e. e) r old new) same
-    (done_alone r (value_set (given_editor e) key value) _ _ old new ok err used (set_is e key value old.section.items given around))
+-- a line ending
+pub line_end_alone : {T : Type 0} (r : Result T ℕ) (change : List parts.Item → List parts.Item) (bytes : ℕ) (old new : Detached) → OnOk r (new.section ≡ with_items change old.section) → OnErr r (new ≡ old)
+    → UsedGrows r bytes old.used new.used → IsDone (room_causes old.used bytes) span_refusal r (changed_alone change bytes old) old new
+line_end_alone (Ok t) change bytes old new ok err puts = record { ok = λ i. record { section = ok i; used = puts.put i }; err = tt; told = room_ok span_refusal t t old.used new.used bytes puts }
+line_end_alone {T} (Err n) change bytes old new ok err puts = record {
+  ok = tt;
+  err = err;
+  told = room_err {T = T} T span_refusal n n old.used new.used bytes puts (λ three. three) (λ memory. memory);
+}

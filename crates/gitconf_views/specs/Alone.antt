@@ -18,7 +18,9 @@ use Rattle.gitconf_items.specs.Items.{items_of}
 use Rattle.gitconf_body.specs.Copies.{header_size, items_size}
 use Rattle.gitconf_sections.specs.Section.{Section}
 use Rattle.gitconf_views.specs.declared.section.Section.{Section as Own}
-use Rattle.gitconf_body.specs.ValueErrors.{edit_numbers}
+use Rattle.gitconf_body.specs.declared.value.Error.{Error as ValueError}
+use Rattle.gitconf_body.specs.Done.{IsDone, key_causes}
+use Rattle.gitconf_body.specs.Refusals.{value_refusal}
 use Rattle.gitconf_views.specs.Store.{section_under}
 
 -- a section without what is held after it
@@ -58,12 +60,10 @@ pub record StandsAlone (buffer copies : List ℕ) (s : Own) : Type 0 where
   pub spelled : is_header (header_of buffer s.header) ≡ true
   pub items : list_all is_item (items_of buffer s.items.items) ≡ true
 
--- An editor's edit was done and added just the bytes that are counted, or it was refused and the section is as it was. Refusal 6 comes if and only if the name is invalid, otherwise 3 if and only if these bytes would pass the limit; any other
--- is out of memory.
-pub record IsEditedAlone {T E : Type 0} (change : List parts.Item → List parts.Item) (is_named : Bool) (bytes : ℕ) (number : E → ℕ) (result : Result T E) (old new : Detached) : Type 0 where
-  pub ok : OnOk result (new.section ≡ with_items change old.section)
-  pub err : OnErr result (new ≡ old)
-  pub put : OnOk result (new.used ≡ old.used + bytes)
-  pub invalid : IsErrAnd result (λ e. number e ≡ 6) ↔ (is_named ≡ false)
-  pub too_large : IsErrAnd result (λ e. number e ≡ 3) ↔ ((is_named ≡ true) × (2 ^ 32 ≤ old.used + bytes))
-  pub known : IfErr result (λ e. list_any (λ refusal. refusal == number e) edit_numbers ≡ true)
+-- such a section after an edit of its items that added so many bytes
+abbrev pub changed_alone : (change : List parts.Item → List parts.Item) → (bytes : ℕ) → Detached → Detached
+changed_alone change bytes old = record { section = with_items change old.section; used = old.used + bytes }
+
+-- How an editor writes an entry of this name: the edit is done and adds so many bytes; or it is refused, and the section is as it was.
+abbrev pub IsEditedAlone : {T : Type 0} → (change : List parts.Item → List parts.Item) → (key : List ℕ) → (bytes : ℕ) → Result T ValueError → (old new : Detached) → Type 0
+IsEditedAlone change key bytes result old new = IsDone (key_causes key old.used bytes) value_refusal result (changed_alone change bytes old) old new

@@ -18,7 +18,7 @@ use Rattle.gitconf_includes.proofs.States.{headed_stays, IsHeaded}
 use Rattle.gitconf_lookups.specs.Picks.{picked}
 use Rattle.gitconf_loaders.specs.Resolving.{MakesOf}
 use Rattle.gitconf_loaders.specs.Globals.{empty_file, home_rules}
-use Rattle.gix_config.specs.Puts.{put_bytes}
+use Rattle.gitconf_store.specs.Edited.{put_bytes}
 use Rattle.gitconf_loaders.specs.Paths.{has_room_behind, IsBehind, IsLoadedFrom, Then}
 use Rattle.gitconf_loaders.specs.Variables.{reported_key, key_variable}
 use Rattle.gitconf_loaders.proofs.Clean.{behind_headed, global_clean, path_headed}

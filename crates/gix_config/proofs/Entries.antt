@@ -31,7 +31,7 @@ use Rattle.gitconf_loaders.proofs.Counts.{fault_load, refused_else, renumbered, 
 use Rattle.gitconf_loaders.specs.Variables.{IsCount, IsCountCause, IsEntryCause, IsKeyAt, IsValueAt}
 use Rattle.gitconf_loaders.specs.declared.from_env.Error.{Error}
 use Rattle.gitconf_loaders.specs.declared.from_env.Error.TheVariants as env
-use Rattle.gix_config.specs.Edited.{IsEdited}
+use Rattle.gitconf_store.specs.Edited.{IsEdited}
 use Rattle.gix_config.specs.Environment.{ArePut, Edited, env_meta, IsEntryPut, IsEnvCause, IsFromEnv, IsMadeOfEntries, IsOverrides, IsSome, IsPushed, IsPut, IsPutUnder, IsSectionFor}
 use Rattle.gix_config.specs.SectionEditors.{IsFoundOrMade}
 

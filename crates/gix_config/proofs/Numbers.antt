@@ -1,18 +1,21 @@
 -- The section of a number follows each edit of it.
-use Rattle.std.proofs.Common.{◌≡◌, ℕ, ◌+◌, ◌==◌, ◌||◌, Bool, true, false, List, [], ◌∷◌, map, filter, Option, Some, None, Result, Ok, Err, refl, ap, sym, subst, ◌∙◌}
+use Rattle.std.proofs.Common.{◌≡◌, ℕ, ◌+◌, ◌==◌, ◌||◌, Bool, true, false, List, [], ◌∷◌, length, map, filter, Option, Some, None, Result, Ok, Err, refl, ap, sym, subst, ◌∙◌}
 use Rattle.std.specs.Prelude.{if◌then◌else◌, IfSome, OnErr, OnOk}
 use Rattle.std.specs.List.{last_or, list_any}
+use Rattle.gitconf_text.specs.Names.{is_value_name}
 use Rattle.gitconf_text.specs.Part.{Item}
 use Rattle.gitconf_state.specs.Edit.{with_used}
-use Rattle.gitconf_state.specs.Edits.{Edit, SetValue, apply, change_items, change_numbered, numbered}
+use Rattle.gitconf_state.specs.Edits.{Edit, PushLineEnd, SetValue, apply, change_items, change_numbered, numbered}
 use Rattle.gitconf_state.specs.Editors.{Editor}
 use Rattle.gitconf_state.specs.State.{SectionState, State}
 use Rattle.gitconf_state.proofs.Edits.Lists.{last_at, last_passing}
-use Rattle.gitconf_views.proofs.AloneEdits.{is_three, no_six, of_three, place_known}
-use Rattle.gitconf_store.specs.Edits.{UsedGrows}
+use Rattle.gitconf_body.specs.Done.{Cause, InvalidKey, IsRefusedFor, OutOfMemory, TooLarge, first_cause, key_causes}
+use Rattle.gitconf_body.specs.Growth.{UsedGrows}
+use Rattle.gitconf_body.specs.Refusals.{span_refusal}
+use Rattle.gitconf_body.proofs.Done.{key_err, key_ok, key_refused, room_err, room_ok}
+use Rattle.gitconf_store.specs.Edited.{IsEdited, causes, put_bytes}
 use Rattle.gitconf_store.specs.Editors.{PutsIn}
-use Rattle.gix_config.specs.Edited.{edit_numbers, has_name, has_number, IsEdited}
-use Rattle.gix_config.specs.Puts.{done, put_bytes}
+use Rattle.gix_config.specs.Edited.{has_number}
 
 -- a section of the number
 pub numbered_stands : (id : ℕ) (state : State) → has_number id state ≡ true → (s : SectionState) × (numbered id state ≡ Some s)
@@ -54,56 +57,89 @@ if_numbered {P} id state stands there = go (numbered id state) (numbered_stands 
     go None some there = absurd (let h = some.1 in cc)
     go (Some s) some there = there
 
--- an edit with all its bytes
-pub with_all : {T E : Type 0} (edit : Edit) (result : Result T E) (old new : State) → OnOk result (new ≡ with_used new.used (apply edit old))
-    → OnOk result (new.used ≡ old.used + put_bytes edit old) → OnOk result (new ≡ done edit old)
-with_all edit (Ok t) old new ok put = ok ∙ ap (λ n. with_used n (apply edit old)) put
-with_all edit (Err e) old new ok put = tt
-
--- an edit, from what a store says of it
-pub edited_in : {T : Type 0} (edit : Edit) (id : ℕ) (result : Result T ℕ) (count : ℕ) (old new : State) → has_number id old ≡ true → has_name edit ≡ true
-    → OnOk result (new ≡ with_used new.used (apply edit old)) → OnErr result (new ≡ old)
-    → PutsIn id result count old new → count ≡ put_bytes edit old → IsEdited edit (λ e. e) result old new
-edited_in {T} edit id result count old new stands named ok err puts same =
-    let used : UsedGrows {T = T} result (put_bytes edit old) old.used new.used = subst (λ n. UsedGrows {T = T} result n old.used new.used) same (if_numbered id old stands puts.there) in
+-- what a store says of an edit that writes an entry, for a section that is there and a name that is valid
+pub entry_ok : {T U : Type 0} {E : Type 0} (refusal : Cause → E) (edit : Edit) (id : ℕ) (key : List ℕ) (t : T) (u : U) (count : ℕ) (old new : State) → has_number id old ≡ true → is_value_name key ≡ true
+    → causes edit old ≡ key_causes key old.used (put_bytes edit old) → new ≡ with_used new.used (apply edit old) → PutsIn id (Ok t) count old new → count ≡ put_bytes edit old
+    → IsEdited refusal edit (Ok u) old new
+entry_ok {T} {U} {E} refusal edit id key t u count old new stands named told is puts same =
+    let grows : UsedGrows (Ok t) (put_bytes edit old) old.used new.used = subst (λ n. UsedGrows (Ok t) n old.used new.used) same (if_numbered id old stands puts.there) in
     record {
-      ok = with_all edit result old new ok used.put;
-      err = err;
-      invalid = (λ six. absurd (no_six result used.known six), λ none. absurd (let no = sym named ∙ none in cc));
-      too_large = (λ three. (named, used.too_large (is_three result three)), λ large. of_three result (used.refused large.1));
-      known = place_known result used.known;
+      ok = is ∙ ap (λ n. with_used n (apply edit old)) grows.put;
+      err = tt;
+      told = subst (λ cs. IsRefusedFor {T = U} {E = E} refusal (first_cause cs) (Ok u)) (sym told) (key_ok refusal t u key old.used new.used (put_bytes edit old) named grows);
     }
 
+pub entry_err : {T : Type 0} {E : Type 0} (U : Type 0) (refusal : Cause → E) (edit : Edit) (id : ℕ) (key : List ℕ) (n : ℕ) (e : E) (count : ℕ) (old new : State) → has_number id old ≡ true → is_value_name key ≡ true
+    → causes edit old ≡ key_causes key old.used (put_bytes edit old) → new ≡ old → PutsIn {T = T} id (Err n) count old new → count ≡ put_bytes edit old
+    → (n ≡ 3 → e ≡ refusal TooLarge) → (n ≡ 27 → e ≡ refusal OutOfMemory) → IsEdited {T = U} refusal edit (Err e) old new
+entry_err {T} {E} U refusal edit id key n e count old new stands named told is puts same large memory =
+    let grows : UsedGrows {T = T} (Err n) (put_bytes edit old) old.used new.used = subst (λ m. UsedGrows {T = T} (Err n) m old.used new.used) same (if_numbered id old stands puts.there) in
+    record {
+      ok = tt;
+      err = is;
+      told = subst (λ cs. IsRefusedFor {T = U} {E = E} refusal (first_cause cs) (Err e)) (sym told)
+          (key_err {T = T} U refusal n e key old.used new.used (put_bytes edit old) named grows large memory);
+    }
+
+-- an entry that is written for a name that is known to be valid
+pub entry_written : {T : Type 0} (edit : Edit) (id : ℕ) (key : List ℕ) (result : Result T ℕ) (count : ℕ) (old new : State) → has_number id old ≡ true → is_value_name key ≡ true
+    → causes edit old ≡ key_causes key old.used (put_bytes edit old) → OnOk result (new ≡ with_used new.used (apply edit old)) → OnErr result (new ≡ old) → PutsIn id result count old new
+    → count ≡ put_bytes edit old → IsEdited span_refusal edit result old new
+entry_written edit id key (Ok t) count old new stands named told ok err puts same = entry_ok span_refusal edit id key t t count old new stands named told ok puts same
+entry_written {T} edit id key (Err n) count old new stands named told ok err puts same =
+    entry_err {T = T} T span_refusal edit id key n n count old new stands named told err puts same (λ three. three) (λ memory. memory)
+
+-- an edit that is refused for its name
+pub entry_unnamed : {E : Type 0} (T : Type 0) (refusal : Cause → E) (edit : Edit) (key : List ℕ) (e : E) (old : State) → is_value_name key ≡ false
+    → causes edit old ≡ key_causes key old.used (put_bytes edit old) → e ≡ refusal InvalidKey → IsEdited {T = T} refusal edit (Err e) old old
+entry_unnamed {E} T refusal edit key e old none told is = record {
+  ok = tt;
+  err = refl;
+  told = subst (λ cs. IsRefusedFor {T = T} {E = E} refusal (first_cause cs) (Err e)) (sym told) (key_refused T refusal key old.used (put_bytes edit old) e none is);
+}
+
+-- a line ending
+pub line_end_edited : {T : Type 0} (number : ℕ) (editor : Editor) (result : Result T ℕ) (old new : State) → has_number number old ≡ true
+    → OnOk result (new ≡ with_used new.used (apply (PushLineEnd number editor) old)) → OnErr result (new ≡ old) → PutsIn number result (length editor.line_end) old new
+    → IsEdited span_refusal (PushLineEnd number editor) result old new
+line_end_edited number editor (Ok t) old new stands ok err puts =
+    let grows : UsedGrows (Ok t) (length editor.line_end) old.used new.used = if_numbered number old stands puts.there in
+    record { ok = ok ∙ ap (λ n. with_used n (apply (PushLineEnd number editor) old)) grows.put; err = tt; told = room_ok span_refusal t t old.used new.used (length editor.line_end) grows }
+line_end_edited {T} number editor (Err n) old new stands ok err puts =
+    let grows : UsedGrows {T = T} (Err n) (length editor.line_end) old.used new.used = if_numbered number old stands puts.there in
+    record { ok = tt; err = err; told = room_err {T = T} T span_refusal n n old.used new.used (length editor.line_end) grows (λ three. three) (λ memory. memory) }
+
 -- the section still is
-pub edited_stands : {T E : Type 0} (edit : Edit) (number : E → ℕ) (result : Result T E) (old new : State) (id : ℕ) → has_number id (apply edit old) ≡ has_number id old
-    → has_number id old ≡ true → IsEdited edit number result old new → has_number id new ≡ true
-edited_stands edit number (Ok t) old new id keeps stands e = ap (has_number id) e.ok ∙ keeps ∙ stands
-edited_stands edit number (Err t) old new id keeps stands e = ap (has_number id) e.err ∙ stands
+pub edited_stands : {T E : Type 0} (refusal : Cause → E) (edit : Edit) (result : Result T E) (old new : State) (id : ℕ) → has_number id (apply edit old) ≡ has_number id old
+    → has_number id old ≡ true → IsEdited refusal edit result old new → has_number id new ≡ true
+edited_stands refusal edit (Ok t) old new id keeps stands e = ap (has_number id) e.ok ∙ keeps ∙ stands
+edited_stands refusal edit (Err t) old new id keeps stands e = ap (has_number id) e.err ∙ stands
 
 pub either_stands : {T E : Type 0} (result : Result T E) (old new after : State) (id : ℕ) → has_number id after ≡ has_number id old
     → has_number id old ≡ true → OnOk result (new ≡ after) → OnErr result (new ≡ old) → has_number id new ≡ true
 either_stands (Ok t) old new after id keeps stands ok err = ap (has_number id) ok ∙ keeps ∙ stands
 either_stands (Err t) old new after id keeps stands ok err = ap (has_number id) err ∙ stands
 
--- the same of another answer
-pub edited_ok : {T U E F : Type 0} (edit : Edit) (number : E → ℕ) (count : F → ℕ) (t : T) (u : U) (old new : State) → IsEdited {T = T} {E = E} edit number (Ok t) old new → IsEdited {T = U} {E = F} edit count (Ok u) old new
-edited_ok edit number count t u old new e = record { ok = e.ok; err = tt; invalid = e.invalid; too_large = e.too_large; known = tt }
-
-pub edited_err : {T U E F : Type 0} (edit : Edit) (number : E → ℕ) (count : F → ℕ) (e : E) (f : F) (old new : State) → count f ≡ number e
-    → IsEdited {T = T} {E = E} edit number (Err e) old new → IsEdited {T = U} {E = F} edit count (Err f) old new
-edited_err edit number count e f old new same is = record {
-  ok = tt;
-  err = is.err;
-  invalid = (λ six. is.invalid.0 (sym same ∙ six), λ none. same ∙ is.invalid.1 none);
-  too_large = (λ three. is.too_large.0 (sym same ∙ three), λ large. same ∙ is.too_large.1 large);
-  known = subst (λ n. list_any (λ refusal. refusal == n) edit_numbers ≡ true) (sym same) is.known;
-}
-
 -- the same edit, by the editor and the key that they are
-pub set_again : {T E : Type 0} (id : ℕ) (value : List ℕ) (number : E → ℕ) (result : Result T E) (old new : State) (editor other : Editor) (key name : List ℕ) → editor ≡ other → key ≡ name
-    → IsEdited (SetValue id editor key value) number result old new → IsEdited (SetValue id other name value) number result old new
-set_again id value number result old new editor other key name same alike e =
-    subst (λ k. IsEdited (SetValue id other k value) number result old new) alike (subst (λ d. IsEdited (SetValue id d key value) number result old new) same e)
+pub set_again : {T E : Type 0} (refusal : Cause → E) (id : ℕ) (value : List ℕ) (result : Result T E) (old new : State) (editor other : Editor) (key name : List ℕ) → editor ≡ other → key ≡ name
+    → IsEdited refusal (SetValue id editor key value) result old new → IsEdited refusal (SetValue id other name value) result old new
+set_again refusal id value result old new editor other key name same alike e =
+    subst (λ k. IsEdited refusal (SetValue id other k value) result old new) alike (subst (λ d. IsEdited refusal (SetValue id d key value) result old new) same e)
+
+-- with another answer, or for no answer
+pub answered : {T U E : Type 0} (refusal : Cause → E) (edit : Edit) (t : T) (u : U) (old new : State) → IsEdited refusal edit (Ok t) old new → IsEdited refusal edit (Ok u) old new
+answered {T} {U} {E} refusal edit t u old new e = record { ok = e.ok; err = tt; told = told_too (first_cause (causes edit old)) e.told }
+  where
+    told_too : (o : Option Cause) → IsRefusedFor {T = T} {E = E} refusal o (Ok t) → IsRefusedFor {T = U} {E = E} refusal o (Ok u)
+    told_too None told = tt
+    told_too (Some cause) told = absurd (let no = told in cc)
+
+pub unanswered : {T E : Type 0} (U : Type 0) (refusal : Cause → E) (edit : Edit) (e : E) (old new : State) → IsEdited {T = T} refusal edit (Err e) old new → IsEdited {T = U} refusal edit (Err e) old new
+unanswered {T} {E} U refusal edit e old new is = record { ok = tt; err = is.err; told = told_too (first_cause (causes edit old)) is.told }
+  where
+    told_too : (o : Option Cause) → IsRefusedFor {T = T} {E = E} refusal o (Err e) → IsRefusedFor {T = U} {E = E} refusal o (Err e)
+    told_too None told = told
+    told_too (Some cause) told = ap Err (let same = told in cc)
 
 pub used_stands : {T E : Type 0} (result : Result T E) (old new after : State) (id : ℕ) → has_number id after ≡ has_number id old
     → has_number id old ≡ true → OnOk result (new ≡ with_used new.used after) → OnErr result (new ≡ old) → has_number id new ≡ true

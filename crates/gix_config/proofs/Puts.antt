@@ -15,7 +15,7 @@ use Rattle.gitconf_body.specs.Puts as puts
 use Rattle.gitconf_body.specs.Puts.{assigned_bytes, changed_bytes, line_bytes, value_set_bytes}
 use Rattle.gitconf_store.proofs.Headers.HeaderBytes.{header_tokens}
 use Rattle.gitconf_views.proofs.LineBytes.{both_bytes, comment_within, items_bytes, made_bytes, one_bytes, run_bytes}
-use Rattle.gix_config.specs.Puts.{put_bytes}
+use Rattle.gitconf_store.specs.Edited.{put_bytes}
 
 -- The tokens of a line that is pushed have these bytes, and more.
 leading_fits : (o : Option (List ℕ)) → puts.run_bytes o ≤ token_bytes (flat_map item_tokens (leading_item o))

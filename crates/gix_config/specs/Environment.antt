@@ -25,7 +25,7 @@ use Rattle.gitconf_loaders.specs.declared.from_env.Error.{Error}
 use Rattle.gitconf_loaders.specs.declared.from_env.Error.TheVariants as env
 use Rattle.gitconf_body.specs.ValueErrors.{value_number}
 use Rattle.gitconf_body.specs.declared.value.Error.{Error as ValueError}
-use Rattle.gix_config.specs.Edited.{IsEdited}
+use Rattle.gitconf_store.specs.Edited.{IsEdited}
 use Rattle.gix_config.specs.SectionEditors.{editor_at, IsFoundOrMade}
 
 -- a section that was found or made: the file, the section's number, and an editor of it

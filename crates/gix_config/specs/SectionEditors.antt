@@ -21,7 +21,7 @@ use Rattle.gitconf_lookups.specs.declared.existing.Error.TheVariants.{KeyMissing
 use Rattle.gitconf_lookups.specs.Misses.{IsExisting}
 use Rattle.gitconf_store.specs.NewSections.{HasNoPlace}
 use Rattle.gitconf_lookups.specs.Picks.{picked, HasSection, IsMissing}
-use Rattle.gix_config.specs.Puts.{done}
+use Rattle.gitconf_store.specs.Edited.{done}
 use Rattle.gix_config.specs.declared.file.section_mut.SectionMut.{SectionMut}
 use Rattle.gix_config.specs.declared.file.section_mut.making.Error.{Error}
 use Rattle.gix_config.specs.declared.file.section_mut.making.Error.TheVariants.{NonePasses, Lookup}

@@ -13,7 +13,7 @@ ghost use Rattle.gitconf_includes.specs.Laws.{AreHeaded};
 ghost use Rattle.gitconf_lookups.specs.Picks.{picked};
 ghost use Rattle.gitconf_lookups.specs.ValuePlaces.{editor_of_numbered};
 ghost use Rattle.gix_config.specs.Environment.{AreNamed, IsFromEnv, IsOverrides};
-ghost use Rattle.gix_config.specs.Puts.{put_bytes};
+ghost use Rattle.gitconf_store.specs.Edited.{put_bytes};
 ghost use Rattle.gix_config.specs.Repository.{IsRepository};
 ghost use Rattle.gix_config.specs.SectionEditors.{with_leading};
 

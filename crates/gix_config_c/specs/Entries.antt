@@ -10,7 +10,8 @@ use Rattle.gitconf_state.specs.Edits.{Push, Raw, Remove, answer, apply}
 use Rattle.gitconf_state.specs.Editors.{editor_of}
 use Rattle.gitconf_state.specs.Lookup.{listed, miss_of}
 use Rattle.gitconf_state.specs.State.{SectionState, State}
-use Rattle.gix_config.specs.Edited.{IsEdited, value_number}
+use Rattle.gitconf_store.specs.Edited.{IsEdited}
+use Rattle.gitconf_body.specs.ValueErrors.{value_number}
 
 -- the section whose entries a key is about: the last one of its names
 abbrev pub section_of : Key → State → Option SectionState

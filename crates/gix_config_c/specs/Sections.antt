@@ -13,7 +13,7 @@ use Rattle.gitconf_text.specs.Names.{is_made_name, is_valid_or_none}
 use Rattle.gitconf_text.specs.declared.parse.section.header.Error.{Error as HeaderError}
 use Rattle.gitconf_text.specs.declared.parse.section.header.Error.TheVariants.{InvalidName, InvalidSubSection}
 use Rattle.gitconf_text.specs.SectionKeys.{SectionKey}
-use Rattle.gix_config.specs.Puts.{done}
+use Rattle.gitconf_store.specs.Edited.{done}
 
 -- number 0 where the last section of the names was removed, 100 if there is none, else memory ran out
 pub record IsRemoved (key : SectionKey) (old new : State) (number : ℕ) : Type 0 where

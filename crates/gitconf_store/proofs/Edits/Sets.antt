@@ -1,89 +1,39 @@
 -- A value that is set by its names.
-use Rattle.std.proofs.Common.{◌≡◌, ◌⊎◌, ℕ, ◌+◌, ◌≤◌, ◌^◌, Bool, true, false, List, [], ◌∷◌, ◌++◌, length, Option, Some, None, Result, Ok, Err, inl, inr, refl, ap, sym, subst, ◌∙◌}
+use Rattle.std.proofs.Common.{◌≡◌, ◌⊎◌, ℕ, ◌+◌, ◌≤◌, ◌^◌, ◌||◌, ◌&&◌, Bool, true, false, not, List, [], ◌∷◌, ◌++◌, length, Option, Some, None, Result, Ok, Err, inl, inr, refl, ap, sym, subst, ◌∙◌}
 use Rattle.std.specs.List.{list_any, last_or, slice_get}
 use Rattle.std.specs.Option.{option_map}
-use Rattle.std.specs.Prelude.{◌==◌, if◌then◌else◌, filter, IfErr, IfSome, IsErrAnd, IsErrOf, IsOk, OnOk, ◌↔◌}
-use Rattle.std.proofs.lemmas.Bool.{eqb-true}
+use Rattle.std.specs.Prelude.{◌==◌, if◌then◌else◌, filter, IfErr, IfOk, IfSome, IsErrOf, OnOk}
+use Rattle.std.proofs.lemmas.Bool.{eqb-true, leb-true, le-leb}
 use Rattle.bstr.specs.declared.bstring.BString.{BString}
 use Rattle.bstr.specs.Owned.{bstring_bytes}
-use Rattle.gitconf_text.specs.HeaderErrors.{header_number, of_span as header_of_span}
 use Rattle.gitconf_text.specs.Names.{is_made_name, is_valid_or_none, is_value_name}
 use Rattle.gitconf_text.specs.declared.parse.section.header.Error.{Error as HeaderError}
-use Rattle.gitconf_text.specs.declared.parse.section.header.Error.TheVariants.{InvalidName, InvalidSubSection}
-use Rattle.gitconf_text.specs.declared.parse.section.header.Error.TheVariants as headers
 use Rattle.gitconf_sources.specs.Metadata.{Meta}
 use Rattle.gitconf_text.specs.Sections.{no_number}
+use Rattle.gitconf_body.specs.Done.{Cause, InvalidKey, InvalidName, InvalidSubsection, IsRefusedFor, TooLarge, first_cause, is_full}
+use Rattle.gitconf_body.specs.Growth.{UsedGrows}
 use Rattle.gitconf_body.specs.Places.{IsLastAt}
-use Rattle.gitconf_state.specs.Edit.{is_target, old_value, new_section_bytes, section_with, set_bytes, set_raw_value, set_raw_value_bytes, with_used}
+use Rattle.gitconf_body.specs.Refusals.{header_refusal}
+use Rattle.gitconf_state.specs.Edit.{is_target, old_value, new_section_bytes, replaced_value, section_with, set_bytes, set_raw_value, set_raw_value_bytes, with_used}
+use Rattle.gitconf_state.specs.Edits.{Raw, SetRawValue, answer}
 use Rattle.gitconf_state.specs.LineEnds.{file_line_end}
 use Rattle.gitconf_state.specs.State.{SectionState, State}
 use Rattle.gitconf_state.proofs.Edits.Lists.{any_at, filter_none, last_passing}
 use Rattle.gitconf_state.proofs.Edits.Places.{set_raw_value_at, set_raw_value_new, replaced_value_at, replaced_value_none}
 use Rattle.gitconf_store.specs.declared.set_raw_value.Error.{Error}
-use Rattle.gitconf_store.specs.declared.set_raw_value.Error.TheVariants.{Header, Memory, Span}
-use Rattle.gitconf_store.specs.Edits.{update_at, set_at, set_new, EditGrows, IsSet, UsedGrows, set_numbers}
-use Rattle.gitconf_store.specs.SetErrors.{of_header, of_span, set_number}
+use Rattle.gitconf_store.specs.declared.set_raw_value.Error.TheVariants.{Memory, Span}
+use Rattle.gitconf_store.specs.Edited.{IsEdited, causes, header_causes, made_causes}
+use Rattle.gitconf_store.specs.Edits.{update_at, set_at, set_new}
+use Rattle.gitconf_store.specs.SetErrors.{of_header, of_span, set_number, set_refusal}
 use Rattle.gitconf_store.proofs.Places.Targets.{stands_at}
 
 -- a refusal's number stays what it was
-number_of_header : (e : HeaderError) → set_number (of_header e) ≡ header_number e
-number_of_header headers.InvalidName = refl
-number_of_header headers.InvalidSubSection = refl
-number_of_header (headers.Span number) = refl
-number_of_header headers.Memory = refl
-
 pub number_of_span : (e : ℕ) → set_number (of_span e) ≡ e
 number_of_span e = go (e == 27) refl
   where
     go : (b : Bool) → (e == 27) ≡ b → set_number (if b then Memory else Span e) ≡ e
     go true is = sym (eqb-true e 27 is)
     go false is = refl
-
--- the number is one of those that setting a value has
-abbrev pub Known : ℕ → Type 0
-Known n = list_any (λ number. number == n) set_numbers ≡ true
-
--- the two of a place are
-pub span_known : (n : ℕ) → (n ≡ 3) ⊎ (n ≡ 27) → Known n
-span_known n (inl is) = subst Known (sym is) refl
-span_known n (inr is) = subst Known (sym is) refl
-
--- so is what a header's test answers
-pub validated_known : (made valid : Bool) (r : Result (Unit {0}) HeaderError) → (IsErrOf r InvalidName ↔ (made ≡ false)) → (IsErrOf r InvalidSubSection ↔ ((made ≡ true) × (valid ≡ false)))
-    → (IsOk r ↔ ((made ≡ true) × (valid ≡ true))) → IfErr r (λ e. Known (header_number e))
-validated_known false valid r name subsection ok = subst (λ t. IfErr t (λ e. Known (header_number e))) (sym (name.1 refl)) refl
-validated_known true false r name subsection ok = subst (λ t. IfErr t (λ e. Known (header_number e))) (sym (subsection.1 (refl, refl))) refl
-validated_known true true (Ok t) name subsection ok = tt
-validated_known true true (Err e) name subsection ok = absurd (let h = ok.1 (refl, refl) in cc)
-
--- and what is made of a refusal of a place
-pub made_of_span : (e : ℕ) → header_number (header_of_span e) ≡ e
-made_of_span e = go (e == 27) refl
-  where
-    go : (b : Bool) → (e == 27) ≡ b → header_number (if b then headers.Memory else headers.Span e) ≡ e
-    go true is = sym (eqb-true e 27 is)
-    go false is = refl
-
--- which refusal of a header it was
-only_name : (e : HeaderError) → of_header e ≡ Header InvalidName → e ≡ InvalidName
-only_name headers.InvalidName is = refl
-only_name headers.InvalidSubSection is = absurd (cc)
-only_name (headers.Span number) is = absurd (cc)
-only_name headers.Memory is = absurd (cc)
-
-only_subsection : (e : HeaderError) → of_header e ≡ Header InvalidSubSection → e ≡ InvalidSubSection
-only_subsection headers.InvalidName is = absurd (cc)
-only_subsection headers.InvalidSubSection is = refl
-only_subsection (headers.Span number) is = absurd (cc)
-only_subsection headers.Memory is = absurd (cc)
-
--- that of a place is none of a header
-no_header : (e : ℕ) (h : HeaderError) → of_span e ≡ Header h → ⊥
-no_header e h = go (e == 27)
-  where
-    go : (b : Bool) → (if b then Memory else Span e) ≡ Header h → ⊥
-    go true is = absurd (cc)
-    go false is = absurd (cc)
 
 -- the bytes of a section that is made
 bytes_new : (name : List ℕ) (subsection : Option (List ℕ)) (key : List ℕ) (keeps : Meta → Bool) (value : List ℕ) (state : State)
@@ -105,57 +55,51 @@ bytes_at name subsection key keeps value state at l =
     ] ≡ set_bytes (file_line_end state) key value l.found.items
     found o is = rw is refl
 
--- A section was made.
-pub made_ok : (name : List ℕ) (subsection : Option (List ℕ)) (key : List ℕ) (keeps : Meta → Bool) (value : List ℕ) (old new : State) (r : Result (Unit {0}) HeaderError)
-    → r ≡ Ok tt → list_any (is_target name subsection keeps) old.sections ≡ false
-    → (IsErrOf r InvalidName ↔ (is_made_name name ≡ false)) → (IsErrOf r InvalidSubSection ↔ ((is_made_name name ≡ true) × (is_valid_or_none subsection ≡ false)))
-    → new ≡ with_used new.used (set_new name subsection key value old)
-    → EditGrows r header_number (new_section_bytes (file_line_end old) name subsection key value) old new
-    → (is_made_name name ≡ true → is_valid_or_none subsection ≡ true → 2 ^ 32 ≤ old.used + new_section_bytes (file_line_end old) name subsection key value → IsErrAnd r (λ e. header_number e ≡ 3))
-    → IsSet name subsection key keeps value (Ok None) old new
-made_ok name subsection key keeps value old new r done none named valid made grows refused = record {
-  refused = λ keyed either big. elim either [
-    | inl some ↦ absurd (let no = sym none ∙ some in cc)
-    | inr fine ↦ absurd (subst (λ r. IsErrAnd r (λ e. header_number e ≡ 3)) done (refused fine.0 fine.1 (subst (λ n. 2 ^ 32 ≤ old.used + n) (bytes_new name subsection key keeps value old none) big)))
-  ];
-  invalid_name = (λ fault. absurd (cc), λ all. absurd (let h = sym done ∙ named.1 all.2 in cc));
-  invalid_subsection = (λ fault. absurd (cc), λ all. absurd (let h = sym done ∙ valid.1 (all.2, all.3) in cc));
-  ok = made ∙ ap (with_used new.used) (sym (set_raw_value_new name subsection key keeps value old none));
-  answer = sym (replaced_value_none name subsection key keeps old none);
-  put = subst (λ n. new.used ≡ old.used + n) (sym (bytes_new name subsection key keeps value old none))
-      (subst (λ r. OnOk r (new.used ≡ old.used + new_section_bytes (file_line_end old) name subsection key value)) done grows.put);
-  too_large = tt;
-  known = tt;
-}
+-- the causes, by whether a section passes
+tested : (keyed none named valid full used_up : Bool) → List (Bool × Cause)
+tested keyed none named valid full used_up =
+    (not keyed, InvalidKey) ∷ (none && not named, InvalidName) ∷ (none && not valid, InvalidSubsection) ∷ (full || (none && used_up), TooLarge) ∷ []
 
--- None could be made.
-pub made_err : (name : List ℕ) (subsection : Option (List ℕ)) (key : List ℕ) (keeps : Meta → Bool) (value : List ℕ) (old new : State) (r : Result (Unit {0}) HeaderError) (e : HeaderError) (result : Result (Option BString) Error)
-    → r ≡ Err e → result ≡ Err (of_header e) → is_value_name key ≡ true → list_any (is_target name subsection keeps) old.sections ≡ false
-    → (IsErrOf r InvalidName ↔ (is_made_name name ≡ false)) → (IsErrOf r InvalidSubSection ↔ ((is_made_name name ≡ true) × (is_valid_or_none subsection ≡ false)))
-    → EditGrows r header_number (new_section_bytes (file_line_end old) name subsection key value) old new → IfErr r (λ e. Known (header_number e))
-    → (is_made_name name ≡ true → is_valid_or_none subsection ≡ true → 2 ^ 32 ≤ old.used + new_section_bytes (file_line_end old) name subsection key value → IsErrAnd r (λ e. header_number e ≡ 3))
-    → IsSet name subsection key keeps value result old new
-made_err name subsection key keeps value old new r e result fault is keyed none named valid grows is_known refused = subst (λ t. IsSet name subsection key keeps value t old new) (sym is) (record {
-  refused = λ keyed either big. elim either [
-    | inl some ↦ absurd (let no = sym none ∙ some in cc)
-    | inr fine ↦ number_of_header e ∙ subst (λ r. IsErrAnd r (λ e. header_number e ≡ 3)) fault (refused fine.0 fine.1 (subst (λ n. 2 ^ 32 ≤ old.used + n) (bytes_new name subsection key keeps value old none) big))
-  ];
-  invalid_name = (
-    λ same. (keyed, none, named.0 (fault ∙ (let h : of_header e ≡ Header InvalidName = cc in ap Err (only_name e h)))),
-    λ all. ap (λ e. Err (of_header e)) (let h = sym fault ∙ named.1 all.2 in let g : e ≡ InvalidName = cc in g),
-  );
-  invalid_subsection = (
-    λ same. let v = valid.0 (fault ∙ (let h : of_header e ≡ Header InvalidSubSection = cc in ap Err (only_subsection e h))) in (keyed, none, v.0, v.1),
-    λ all. ap (λ e. Err (of_header e)) (let h = sym fault ∙ valid.1 (all.2, all.3) in let g : e ≡ InvalidSubSection = cc in g),
-  );
-  ok = tt;
-  answer = tt;
-  put = tt;
-  too_large = λ number. elim (subst (λ n. header_number e ≡ 3 → (2 ^ 32 ≤ old.used + n) ⊎ (old.next ≡ no_number)) (sym (bytes_new name subsection key keeps value old none))
-      (subst (λ r. IfErr r (λ e. header_number e ≡ 3 → (2 ^ 32 ≤ old.used + new_section_bytes (file_line_end old) name subsection key value) ⊎ (old.next ≡ no_number))) fault grows.too_large)
-      (sym (number_of_header e) ∙ number)) [ inl passes ↦ inl passes | inr used_up ↦ inr (none, used_up) ];
-  known = subst Known (sym (number_of_header e)) (subst (λ r. IfErr r (λ e. Known (header_number e))) fault is_known);
-})
+-- a section is made for a valid key: what making it is refused by
+made_refusal : (T U : Type 0) (named valid full used_up : Bool) (e : HeaderError) (bytes : Bool) → bytes ≡ full
+    → IsRefusedFor {T = T} header_refusal (first_cause ((not named, InvalidName) ∷ (not valid, InvalidSubsection) ∷ (full || used_up, TooLarge) ∷ [])) (Err e)
+    → IsRefusedFor {T = U} set_refusal (first_cause (tested true true named valid bytes used_up)) (Err (of_header e))
+made_refusal T U named valid full used_up e bytes same told =
+    subst (λ b. IsRefusedFor {T = U} set_refusal (first_cause (tested true true named valid b used_up)) (Err (of_header e))) (sym same) (go named valid (full || used_up) told)
+  where
+    is : (f : HeaderError) → IsErrOf {T = T} (Err e) f → e ≡ f
+    is f err = cc
+
+    go : (n v f : Bool) → IsRefusedFor {T = T} header_refusal (first_cause ((not n, InvalidName) ∷ (not v, InvalidSubsection) ∷ (f, TooLarge) ∷ [])) (Err e)
+        → IsRefusedFor {T = U} set_refusal (first_cause ((not n, InvalidName) ∷ (not v, InvalidSubsection) ∷ (f, TooLarge) ∷ [])) (Err (of_header e))
+    go false v f told = ap Err (ap of_header (is _ told))
+    go true false f told = ap Err (ap of_header (is _ told))
+    go true true true told = ap Err (ap of_header (is _ told))
+    go true true false told = ap of_header told
+
+made_none : {T U : Type 0} (named valid full used_up : Bool) (t : T) (u : U) (bytes : Bool) → bytes ≡ full
+    → IsRefusedFor header_refusal (first_cause ((not named, InvalidName) ∷ (not valid, InvalidSubsection) ∷ (full || used_up, TooLarge) ∷ [])) (Ok t)
+    → IsRefusedFor set_refusal (first_cause (tested true true named valid bytes used_up)) (Ok u)
+made_none {T} {U} named valid full used_up t u bytes same told =
+    subst (λ b. IsRefusedFor {T = U} set_refusal (first_cause (tested true true named valid b used_up)) (Ok u)) (sym same) (go named valid (full || used_up) told)
+  where
+    go : (n v f : Bool) → IsRefusedFor {T = T} header_refusal (first_cause ((not n, InvalidName) ∷ (not v, InvalidSubsection) ∷ (f, TooLarge) ∷ [])) (Ok t)
+        → IsRefusedFor {T = U} set_refusal (first_cause ((not n, InvalidName) ∷ (not v, InvalidSubsection) ∷ (f, TooLarge) ∷ [])) (Ok u)
+    go false v f told = absurd (cc)
+    go true false f told = absurd (cc)
+    go true true true told = absurd (cc)
+    go true true false told = tt
+
+-- the causes are those of the tests
+of_tests : {T : Type 0} (name : List ℕ) (subsection : Option (List ℕ)) (key : List ℕ) (keeps : Meta → Bool) (value : List ℕ) (old : State) (r : Result T Error) (some : Bool) → is_value_name key ≡ true
+    → list_any (is_target name subsection keeps) old.sections ≡ some
+    → IsRefusedFor set_refusal (first_cause (tested true (not some) (is_made_name name) (is_valid_or_none subsection) (is_full old.used (set_raw_value_bytes name subsection key keeps value old)) (old.next == no_number))) r
+    → IsRefusedFor set_refusal (first_cause (causes (SetRawValue name subsection key keeps value) old)) r
+of_tests {T} name subsection key keeps value old r some keyed is told =
+    subst (λ k. IsRefusedFor {T = T} set_refusal (first_cause (tested k (not (list_any (is_target name subsection keeps) old.sections)) (is_made_name name) (is_valid_or_none subsection)
+    (is_full old.used (set_raw_value_bytes name subsection key keeps value old)) (old.next == no_number))) r) (sym keyed)
+    (subst (λ s. IsRefusedFor {T = T} set_refusal (first_cause (tested true (not s) (is_made_name name) (is_valid_or_none subsection)
+    (is_full old.used (set_raw_value_bytes name subsection key keeps value old)) (old.next == no_number))) r) (sym is) told)
 
 updated : {A : Type 0} (change : A → A) (before : List A) (x : A) (behind : List A) → update_at (length before) change (before ++ x ∷ behind) ≡ before ++ change x ∷ behind
 updated change [] x behind = refl
@@ -186,42 +130,91 @@ grown_at name subsection key keeps value old new at r l used =
     subst (λ n. UsedGrows r n old.used new.used) (sym (bytes_at name subsection key keeps value old at l))
     (subst (λ o. IfSome o (λ s. UsedGrows r (set_bytes (file_line_end old) key value s.items) old.used new.used)) (at_last name subsection keeps old at l) used)
 
--- A section stood.
-pub found_ok : {T : Type 0} (name : List ℕ) (subsection : Option (List ℕ)) (key : List ℕ) (keeps : Meta → Bool) (value : List ℕ) (old new : State) (at : ℕ) (t : T) (o : Option BString) (bytes : Option (List ℕ))
-    → IsLastAt (is_target name subsection keeps) old.sections at → new ≡ with_used new.used (set_at at key value old)
-    → IfSome (slice_get old.sections at) (λ s. bytes ≡ old_value key s.items) → option_map bstring_bytes o ≡ bytes
-    → IfSome (slice_get old.sections at) (λ s. UsedGrows {T = T} (Ok t) (set_bytes (file_line_end old) key value s.items) old.used new.used)
-    → IsSet name subsection key keeps value (Ok o) old new
-found_ok {T} name subsection key keeps value old new at t o bytes l set was same used = record {
-  refused = λ keyed either big. absurd (let no = (grown_at name subsection key keeps value old new at (Ok t) l used).refused big in cc);
-  invalid_name = (λ fault. absurd (cc), λ all. absurd (stands all.1));
-  invalid_subsection = (λ fault. absurd (cc), λ all. absurd (stands all.1));
-  ok = set ∙ ap (with_used new.used) (set_last name subsection key keeps value old at l);
-  answer = same ∙ subst (λ s. IfSome s (λ s. bytes ≡ old_value key s.items)) (at_last name subsection keeps old at l) was
-      ∙ sym (replaced_value_at name subsection key keeps old l.before l.found l.behind l.is l.passes l.none);
-  put = (grown_at name subsection key keeps value old new at (Ok t) l used).put;
-  too_large = tt;
-  known = tt;
+-- A section was made.
+pub made_ok : (name : List ℕ) (subsection : Option (List ℕ)) (key : List ℕ) (keeps : Meta → Bool) (value : List ℕ) (old new : State) (o : Option BString) → is_value_name key ≡ true
+    → list_any (is_target name subsection keeps) old.sections ≡ false → new ≡ with_used new.used (set_new name subsection key value old)
+    → new.used ≡ old.used + new_section_bytes (file_line_end old) name subsection key value
+    → IsRefusedFor header_refusal (first_cause (made_causes name subsection (new_section_bytes (file_line_end old) name subsection key value) old)) (Ok tt)
+    → IsEdited set_refusal (SetRawValue name subsection key keeps value) (Ok o) old new
+made_ok name subsection key keeps value old new o keyed none made put told = record {
+  ok = made ∙ (λ i. with_used ((put ∙ ap (λ n. old.used + n) (sym (bytes_new name subsection key keeps value old none))) i) (sym (set_raw_value_new name subsection key keeps value old none) i));
+  err = tt;
+  told = of_tests name subsection key keeps value old (Ok o) false keyed none
+      (made_none (is_made_name name) (is_valid_or_none subsection) (is_full old.used (new_section_bytes (file_line_end old) name subsection key value)) (old.next == no_number) tt o _
+      (ap (is_full old.used) (bytes_new name subsection key keeps value old none)) told);
 }
+
+-- None could be made.
+pub made_err : (name : List ℕ) (subsection : Option (List ℕ)) (key : List ℕ) (keeps : Meta → Bool) (value : List ℕ) (old new : State) (e : HeaderError) → is_value_name key ≡ true
+    → list_any (is_target name subsection keeps) old.sections ≡ false → new ≡ old
+    → IsRefusedFor {T = Unit {0}} header_refusal (first_cause (made_causes name subsection (new_section_bytes (file_line_end old) name subsection key value) old)) (Err e)
+    → IsEdited {T = Option BString} set_refusal (SetRawValue name subsection key keeps value) (Err (of_header e)) old new
+made_err name subsection key keeps value old new e keyed none same told = record {
+  ok = tt;
+  err = same;
+  told = of_tests name subsection key keeps value old (Err (of_header e)) false keyed none
+      (made_refusal (Unit {0}) (Option BString) (is_made_name name) (is_valid_or_none subsection) (is_full old.used (new_section_bytes (file_line_end old) name subsection key value)) (old.next == no_number) e _
+      (ap (is_full old.used) (bytes_new name subsection key keeps value old none)) told);
+}
+
+-- what is told of a section that stood
+stood : (name : List ℕ) (subsection : Option (List ℕ)) (keeps : Meta → Bool) (old : State) (at : ℕ) → IsLastAt (is_target name subsection keeps) old.sections at
+    → list_any (is_target name subsection keeps) old.sections ≡ true
+stood name subsection keeps old at l = ap (list_any (is_target name subsection keeps)) l.is ∙ any_at (is_target name subsection keeps) l.before l.found l.behind l.passes
+
+stood_told : {T U : Type 0} (named valid used_up : Bool) (used count new : ℕ) (r : Result T ℕ) (s : Result U Error) → UsedGrows r count used new
+    → (2 ^ 32 ≤ used + count → IsRefusedFor set_refusal (Some TooLarge) s) → ((2 ^ 32 ≤ used + count → ⊥) → IsRefusedFor set_refusal None s)
+    → IsRefusedFor set_refusal (first_cause (tested true false named valid (is_full used count) used_up)) s
+stood_told {T} {U} named valid used_up used count new r s grows large fits = go (is_full used count) refl
   where
-    stands : list_any (is_target name subsection keeps) old.sections ≡ false → ⊥
-    stands none = let h = sym none ∙ ap (list_any (is_target name subsection keeps)) l.is ∙ any_at (is_target name subsection keeps) l.before l.found l.behind l.passes in absurd (cc)
+    go : (f : Bool) → is_full used count ≡ f → IsRefusedFor set_refusal (first_cause (tested true false named valid f used_up)) s
+    go true full = large (leb-true (2 ^ 32) (used + count) full)
+    go false full = fits (λ no. absurd (let h = sym full ∙ le-leb (2 ^ 32) (used + count) no in cc))
+
+-- A section stood.
+pub found_ok : {T : Type 0} (name : List ℕ) (subsection : Option (List ℕ)) (key : List ℕ) (keeps : Meta → Bool) (value : List ℕ) (old new : State) (at : ℕ) (t : T) (o : Option BString) → is_value_name key ≡ true
+    → IsLastAt (is_target name subsection keeps) old.sections at → new ≡ with_used new.used (set_at at key value old)
+    → IfSome (slice_get old.sections at) (λ s. UsedGrows {T = T} (Ok t) (set_bytes (file_line_end old) key value s.items) old.used new.used)
+    → IsEdited set_refusal (SetRawValue name subsection key keeps value) (Ok o) old new
+found_ok {T} name subsection key keeps value old new at t o keyed l set used =
+    let grows = grown_at name subsection key keeps value old new at (Ok t) l used in
+    record {
+      ok = set ∙ (λ i. with_used (grows.put i) (set_last name subsection key keeps value old at l i));
+      err = tt;
+      told = of_tests name subsection key keeps value old (Ok o) true keyed (stood name subsection keeps old at l)
+          (stood_told (is_made_name name) (is_valid_or_none subsection) (old.next == no_number) old.used (set_raw_value_bytes name subsection key keeps value old) new.used (Ok t) (Ok o) grows
+          (λ full. absurd (let no = grows.refused full in cc)) (λ fits. tt));
+    }
 
 -- It stays as it was.
-pub found_err : {T : Type 0} (name : List ℕ) (subsection : Option (List ℕ)) (key : List ℕ) (keeps : Meta → Bool) (value : List ℕ) (old new : State) (at : ℕ) (r : Result T ℕ) (e : ℕ) (result : Result (Option BString) Error)
-    → IsLastAt (is_target name subsection keeps) old.sections at → r ≡ Err e → result ≡ Err (of_span e)
-    → IfSome (slice_get old.sections at) (λ s. UsedGrows {T = T} r (set_bytes (file_line_end old) key value s.items) old.used new.used)
-    → IsSet name subsection key keeps value result old new
-found_err {T} name subsection key keeps value old new at r e result l fault is used = subst (λ t. IsSet name subsection key keeps value t old new) (sym is) (record {
-  refused = λ keyed either big. number_of_span e ∙ (let three = sym fault ∙ (grown_at name subsection key keeps value old new at r l used).refused big in cc);
-  invalid_name = (λ same. absurd (no_header e InvalidName (cc)), λ all. absurd (stands all.1));
-  invalid_subsection = (λ same. absurd (no_header e InvalidSubSection (cc)), λ all. absurd (stands all.1));
-  ok = tt;
-  answer = tt;
-  put = tt;
-  too_large = λ number. inl ((grown_at name subsection key keeps value old new at r l used).too_large (fault ∙ ap Err (sym (number_of_span e) ∙ number)));
-  known = subst Known (sym (number_of_span e)) (span_known e (subst (λ r. IfErr r (λ e. (e ≡ 3) ⊎ (e ≡ 27))) fault (grown_at name subsection key keeps value old new at r l used).known));
-})
+pub found_err : (T : Type 0) (name : List ℕ) (subsection : Option (List ℕ)) (key : List ℕ) (keeps : Meta → Bool) (value : List ℕ) (old new : State) (at : ℕ) (e : ℕ) → is_value_name key ≡ true
+    → IsLastAt (is_target name subsection keeps) old.sections at → new ≡ old
+    → IfSome (slice_get old.sections at) (λ s. UsedGrows {T = T} (Err e) (set_bytes (file_line_end old) key value s.items) old.used new.used)
+    → IsEdited {T = Option BString} set_refusal (SetRawValue name subsection key keeps value) (Err (of_span e)) old new
+found_err T name subsection key keeps value old new at e keyed l same used =
+    let grows = grown_at {T = T} name subsection key keeps value old new at (Err e) l used in
+    record {
+      ok = tt;
+      err = same;
+      told = of_tests name subsection key keeps value old (Err (of_span e)) true keyed (stood name subsection keeps old at l)
+          (stood_told {T = T} (is_made_name name) (is_valid_or_none subsection) (old.next == no_number) old.used (set_raw_value_bytes name subsection key keeps value old) new.used (Err e) (Err (of_span e)) grows
+          (λ full. ap Err (ap of_span (let three = grows.refused full in cc)))
+          (λ fits. memory grows fits grows.known));
+    }
   where
-    stands : list_any (is_target name subsection keeps) old.sections ≡ false → ⊥
-    stands none = let h = sym none ∙ ap (list_any (is_target name subsection keeps)) l.is ∙ any_at (is_target name subsection keeps) l.before l.found l.behind l.passes in absurd (cc)
+    memory : UsedGrows {T = T} (Err e) (set_raw_value_bytes name subsection key keeps value old) old.used new.used
+        → (2 ^ 32 ≤ old.used + set_raw_value_bytes name subsection key keeps value old → ⊥) → ((e ≡ 3) ⊎ (e ≡ 27)) → of_span e ≡ Memory
+    memory grows fits (inl three) = absurd (fits (grows.too_large (ap Err three)))
+    memory grows fits (inr out) = ap of_span out
+
+-- what it returns
+pub answer_new : (name : List ℕ) (subsection : Option (List ℕ)) (key : List ℕ) (keeps : Meta → Bool) (value : List ℕ) (old : State) → list_any (is_target name subsection keeps) old.sections ≡ false
+    → Raw None ≡ answer (SetRawValue name subsection key keeps value) old
+answer_new name subsection key keeps value old none = ap Raw (sym (replaced_value_none name subsection key keeps old none))
+
+pub answer_at : (name : List ℕ) (subsection : Option (List ℕ)) (key : List ℕ) (keeps : Meta → Bool) (value : List ℕ) (old : State) (at : ℕ) (o bytes : Option (List ℕ))
+    → IsLastAt (is_target name subsection keeps) old.sections at → IfSome (slice_get old.sections at) (λ s. bytes ≡ old_value key s.items) → o ≡ bytes
+    → Raw o ≡ answer (SetRawValue name subsection key keeps value) old
+answer_at name subsection key keeps value old at o bytes l was same =
+    ap Raw (same ∙ subst (λ s. IfSome s (λ s. bytes ≡ old_value key s.items)) (at_last name subsection keeps old at l) was
+    ∙ sym (replaced_value_at name subsection key keeps old l.before l.found l.behind l.is l.passes l.none))

@@ -10,7 +10,6 @@ use gitconf_text::parse::span;
 use gitconf_views::section::shared;
 
 impl Store {
-    ghost use Rattle.std.specs.List.{list_any};
     ghost use Rattle.std.specs.Option.{option_copied};
     ghost use Rattle.std.specs.Prelude.{◌≡◌, [], ◌==◌, ◌+◌, ◌≤◌, ◌^◌, ◌↔◌, true, false, length, IfOk, IfErr, IsErrAnd, IsErrOf, OnOk, OnErr};
     ghost use Rattle.gitconf_text.specs.HeaderErrors.{header_number, header_numbers};
@@ -18,8 +17,9 @@ impl Store {
     ghost use Rattle.gitconf_state.specs.Edit.{header_bytes, spacing_of, with_used};
     ghost use Rattle.gitconf_state.specs.Edits.{answer, apply, NewSection, Number};
     ghost use Rattle.gitconf_state.specs.LineEnds.{file_line_end};
-    ghost use Rattle.gitconf_store.specs.Edits.{EditGrows};
-    ghost use Rattle.gitconf_store.specs.NewSections.{IsSectionChecked};
+    ghost use Rattle.gitconf_body.specs.Done.{IsRefusedFor, checked, first_cause};
+    ghost use Rattle.gitconf_body.specs.Refusals.{header_refusal};
+    ghost use Rattle.gitconf_store.specs.Edited.{causes, put_bytes};
 
     /// Makes a section after all others, whose body is one line ending, the file's; it has the file's metadata. Returns its number.
     ///
@@ -36,20 +36,16 @@ impl Store {
         name: &str,
         subsection_name: Option<&[u8]>,
     ) -> Result<SectionId, Error>
-        ensures name { IsErrOf result Error.InvalidName ↔ (is_made_name name.now ≡ false) }
-        ensures subsection { IsErrOf result Error.InvalidSubSection
-            ↔ ((is_made_name name.now ≡ true) × (is_valid_or_none (option_copied subsection_name.entry) ≡ false)) }
         ensures ok { OnOk result (self.new ≡ with_used self.new.used (apply (NewSection name.now (option_copied subsection_name.entry)) self.old)) }
         ensures answer { IfOk result (λ id. Number id ≡ answer (NewSection name.now (option_copied subsection_name.entry)) self.old) }
         ensures err { OnErr result (self.new ≡ self.old) }
-        ensures used { EditGrows result header_number
-            (length (file_line_end self.old) + header_bytes name.now (option_copied subsection_name.entry)) self.old self.new }
-        ensures refused { is_made_name name.now ≡ true → is_valid_or_none (option_copied subsection_name.entry) ≡ true
-            → 2 ^ 32 ≤ self.old.used + (length (file_line_end self.old) + header_bytes name.now (option_copied subsection_name.entry))
-            → IsErrAnd result (λ e. header_number e ≡ 3) }
-        ensures known { IfErr result (λ e. list_any (λ number. number == header_number e) header_numbers ≡ true) }
+        ensures put { OnOk result (self.new.used ≡ self.old.used + put_bytes (NewSection name.now (option_copied subsection_name.entry)) self.old) }
+        ensures told { IsRefusedFor header_refusal (first_cause (causes (NewSection name.now (option_copied subsection_name.entry)) self.old)) result }
     {
         validate(name.as_bytes(), subsection_name)?;
+        if self.sections.numbers_left() == 0 {
+            return Err(Error::Span(span::Error::too_large()));
+        }
         let line_end = self.line_end();
         let len = self.buffer.len();
         let section = section::new_section(
@@ -78,7 +74,7 @@ impl Store {
     /// Refusals 4 and 5, each if and only if [`Store::new_section`] returns it; otherwise 3 if and only if the buffer would be longer than
     /// 4294967295 bytes or no number is left.
     pub fn check_new_section(&self, name: &str, subsection_name: Option<&[u8]>) -> Result<(), Error>
-        ensures { IsSectionChecked name.now (option_copied subsection_name.entry) self.now result }
+        ensures { result ≡ checked header_refusal (first_cause (causes (NewSection name.now (option_copied subsection_name.entry)) self.now)) }
     {
         validate(name.as_bytes(), subsection_name)?;
         if self.sections.numbers_left() == 0 {

@@ -86,9 +86,10 @@ impl<'a> DetachedSectionMut<'a> {
     ghost use Rattle.gitconf_state.specs.Editors.{line_end_pushed, marked_count, popped, popped_entry, pushed, pushed_after_last, removed, removed_marked, value_set};
     ghost use Rattle.gitconf_state.specs.Edits.{renamed, with_trust};
     ghost use Rattle.gitconf_body.specs.Puts.{after_last_bytes, line_bytes, value_set_bytes};
-    ghost use Rattle.gitconf_views.specs.Alone.{is_refusal_of_header, with_items, IsEditedAlone};
+    ghost use Rattle.gitconf_views.specs.Alone.{changed_alone, is_refusal_of_header, with_items, IsEditedAlone};
     ghost use Rattle.gitconf_views.specs.AloneEditors.{edited, editor, lent};
-    ghost use Rattle.gitconf_body.specs.ValueErrors.{value_number};
+    ghost use Rattle.gitconf_body.specs.Done.{room_causes, IsDone};
+    ghost use Rattle.gitconf_body.specs.Refusals.{span_refusal};
 
     /// Pushes a line after the section's others: the blanks before a name, the name, and if a value is given `=` with the blanks around it
     /// and the value, as a file spells it; then the line ending, unless it is switched off. It looks at no item. Takes memory for what is
@@ -101,8 +102,8 @@ impl<'a> DetachedSectionMut<'a> {
     pub fn push(&mut self, value_name: &str, value: Option<&[u8]>) -> Result<(), value::Error>
         ensures same_section { lent self.new ≡ lent self.old }
         ensures same_editor { editor self.new ≡ editor self.old }
-        ensures done { IsEditedAlone (pushed (editor self.old) value_name.now (option_copied value.entry) None) (is_value_name value_name.now)
-            (line_bytes (editor self.old) value_name.now (option_copied value.entry) None) value_number result (edited self.old) (edited self.new) }
+        ensures done { IsEditedAlone (pushed (editor self.old) value_name.now (option_copied value.entry) None) value_name.now
+            (line_bytes (editor self.old) value_name.now (option_copied value.entry) None) result (edited self.old) (edited self.new) }
     {
         let editor = self.blanks.editor(self.line_end, self.ends);
         self.section.push_line(&editor, value_name, value, None)
@@ -122,8 +123,8 @@ impl<'a> DetachedSectionMut<'a> {
     ) -> Result<(), value::Error>
         ensures same_section { lent self.new ≡ lent self.old }
         ensures same_editor { editor self.new ≡ editor self.old }
-        ensures done { IsEditedAlone (pushed (editor self.old) value_name.now (option_copied value.entry) (Some comment.now)) (is_value_name value_name.now)
-            (line_bytes (editor self.old) value_name.now (option_copied value.entry) (Some comment.now)) value_number result (edited self.old)
+        ensures done { IsEditedAlone (pushed (editor self.old) value_name.now (option_copied value.entry) (Some comment.now)) value_name.now
+            (line_bytes (editor self.old) value_name.now (option_copied value.entry) (Some comment.now)) result (edited self.old)
             (edited self.new) }
     {
         let editor = self.blanks.editor(self.line_end, self.ends);
@@ -146,8 +147,8 @@ impl<'a> DetachedSectionMut<'a> {
     ) -> Result<(), value::Error>
         ensures same_section { lent self.new ≡ lent self.old }
         ensures same_editor { editor self.new ≡ editor self.old }
-        ensures done { IsEditedAlone (pushed_after_last (editor self.old) value_name.now (option_copied value.entry)) (is_value_name value_name.now)
-            (after_last_bytes (editor self.old) value_name.now (option_copied value.entry) (edited self.old).section.items) value_number result
+        ensures done { IsEditedAlone (pushed_after_last (editor self.old) value_name.now (option_copied value.entry)) value_name.now
+            (after_last_bytes (editor self.old) value_name.now (option_copied value.entry) (edited self.old).section.items) result
             (edited self.old) (edited self.new) }
     {
         let editor = self.blanks.editor(self.line_end, self.ends);
@@ -164,8 +165,8 @@ impl<'a> DetachedSectionMut<'a> {
     pub fn push_newline(&mut self) -> Result<(), span::Error>
         ensures same_section { lent self.new ≡ lent self.old }
         ensures same_editor { editor self.new ≡ editor self.old }
-        ensures done { IsEditedAlone (line_end_pushed (editor self.old)) true (length (editor self.old).line_end) (λ e. e) result (edited self.old)
-            (edited self.new) }
+        ensures done { IsDone (room_causes (edited self.old).used (length (editor self.old).line_end)) span_refusal result
+            (changed_alone (line_end_pushed (editor self.old)) (length (editor self.old).line_end) (edited self.old)) (edited self.old) (edited self.new) }
     {
         let editor = self.blanks.editor(self.line_end, self.ends);
         self.section.push_line_end(&editor)
@@ -182,8 +183,8 @@ impl<'a> DetachedSectionMut<'a> {
     pub fn set(&mut self, value_name: &str, value: &[u8]) -> Result<Option<BString>, value::Error>
         ensures same_section { lent self.new ≡ lent self.old }
         ensures same_editor { editor self.new ≡ editor self.old }
-        ensures done { IsEditedAlone (value_set (editor self.old) value_name.now value.now) (is_value_name value_name.now)
-            (value_set_bytes (editor self.old) value_name.now value.now (edited self.old).section.items) value_number result (edited self.old)
+        ensures done { IsEditedAlone (value_set (editor self.old) value_name.now value.now) value_name.now
+            (value_set_bytes (editor self.old) value_name.now value.now (edited self.old).section.items) result (edited self.old)
             (edited self.new) }
         ensures answer { IfOk result (λ o. option_map bstring_bytes o ≡ old_value value_name.now (edited self.old).section.items) }
     {

@@ -28,13 +28,14 @@ impl Section {
     ghost use Rattle.gitconf_state.specs.Edit.{old_value};
     ghost use Rattle.gitconf_state.specs.Editors.{line_end_pushed, pushed, pushed_after_last, value_set};
     ghost use Rattle.gitconf_state.specs.Edits.{IsEditor};
-    ghost use Rattle.gitconf_views.specs.Alone.{IsEditedAlone};
+    ghost use Rattle.gitconf_views.specs.Alone.{changed_alone, IsEditedAlone};
     ghost use Rattle.gitconf_body.specs.Blanks.{given_editor, IsGiven, PutsAround};
     ghost use Rattle.gitconf_body.specs.Puts.{after_last_bytes, line_bytes, value_set_bytes};
-    ghost use Rattle.gitconf_body.specs.ValueErrors.{value_number};
+    ghost use Rattle.gitconf_body.specs.Done.{room_causes, IsDone};
+    ghost use Rattle.gitconf_body.specs.Refusals.{span_refusal};
 
     /// [`Section::push_entry`], for a name that may be invalid.
-    #[tactic(auto, using(crate::proofs::AloneEdits::done_alone, crate::proofs::AloneEdits::done_with, crate::proofs::AloneEdits::refused_with, crate::proofs::AloneEdits::span_number, crate::proofs::AloneEdits::unnamed, gitconf_body::proofs::Puts::line_is))]
+    #[tactic(auto, using(crate::proofs::AloneEdits::alone_ok, crate::proofs::AloneEdits::alone_err, crate::proofs::AloneEdits::alone_unnamed, gitconf_body::proofs::Puts::line_is))]
     pub fn push_line(
         &mut self,
         editor: &Editor<'_>,
@@ -45,10 +46,8 @@ impl Section {
         requires given { IsGiven editor.now }
         requires puts { PutsAround editor.now }
         requires editor { IsEditor (given_editor editor.now) }
-        ensures done { IsEditedAlone (pushed (given_editor editor.now) value_name.now (option_copied value.entry) (option_copied comment.entry))
-            (is_value_name value_name.now)
-            (line_bytes (given_editor editor.now) value_name.now (option_copied value.entry) (option_copied comment.entry)) value_number result
-            self.old self.new }
+        ensures done { IsEditedAlone (pushed (given_editor editor.now) value_name.now (option_copied value.entry) (option_copied comment.entry)) value_name.now
+            (line_bytes (given_editor editor.now) value_name.now (option_copied value.entry) (option_copied comment.entry)) result self.old self.new }
     {
         let key = value_name.as_bytes();
         if !is_value_name(key) {
@@ -59,7 +58,7 @@ impl Section {
     }
 
     /// [`Section::push_entry_after_last`], for a name that may be invalid.
-    #[tactic(auto, using(crate::proofs::AloneEdits::done_alone, crate::proofs::AloneEdits::done_with, crate::proofs::AloneEdits::refused_with, crate::proofs::AloneEdits::span_number, crate::proofs::AloneEdits::unnamed, gitconf_body::proofs::Puts::below_is))]
+    #[tactic(auto, using(crate::proofs::AloneEdits::alone_ok, crate::proofs::AloneEdits::alone_err, crate::proofs::AloneEdits::alone_unnamed, gitconf_body::proofs::Puts::below_is))]
     pub fn push_line_after_last(
         &mut self,
         editor: &Editor<'_>,
@@ -69,9 +68,8 @@ impl Section {
         requires given { IsGiven editor.now }
         requires puts { PutsAround editor.now }
         requires editor { IsEditor (given_editor editor.now) }
-        ensures done { IsEditedAlone (pushed_after_last (given_editor editor.now) value_name.now (option_copied value.entry)) (is_value_name value_name.now)
-            (after_last_bytes (given_editor editor.now) value_name.now (option_copied value.entry) self.old.section.items) value_number result
-            self.old self.new }
+        ensures done { IsEditedAlone (pushed_after_last (given_editor editor.now) value_name.now (option_copied value.entry)) value_name.now
+            (after_last_bytes (given_editor editor.now) value_name.now (option_copied value.entry) self.old.section.items) result self.old self.new }
     {
         let key = value_name.as_bytes();
         if !is_value_name(key) {
@@ -82,17 +80,17 @@ impl Section {
     }
 
     /// [`Section::push_newline`].
-    #[tactic(auto, using(crate::proofs::AloneEdits::done_alone))]
+    #[tactic(auto, using(crate::proofs::AloneEdits::line_end_alone))]
     pub fn push_line_end(&mut self, editor: &Editor<'_>) -> Result<(), span::Error>
         requires editor { IsEditor (given_editor editor.now) }
-        ensures done { IsEditedAlone (line_end_pushed (given_editor editor.now)) true (length (given_editor editor.now).line_end) (λ e. e) result
-            self.old self.new }
+        ensures done { IsDone (room_causes self.old.used (length (given_editor editor.now).line_end)) span_refusal result
+            (changed_alone (line_end_pushed (given_editor editor.now)) (length (given_editor editor.now).line_end) self.old) self.old self.new }
     {
         self.push_newline(editor)
     }
 
     /// [`Section::set_entry`], for a name that may be invalid.
-    #[tactic(auto, using(crate::proofs::AloneEdits::done_alone, crate::proofs::AloneEdits::done_with, crate::proofs::AloneEdits::refused_with, crate::proofs::AloneEdits::span_number, crate::proofs::AloneEdits::unnamed, gitconf_body::proofs::Puts::set_is))]
+    #[tactic(auto, using(crate::proofs::AloneEdits::alone_ok, crate::proofs::AloneEdits::alone_err, crate::proofs::AloneEdits::alone_unnamed, gitconf_body::proofs::Puts::set_is))]
     pub fn set_line(
         &mut self,
         editor: &Editor<'_>,
@@ -102,8 +100,8 @@ impl Section {
         requires given { IsGiven editor.now }
         requires puts { PutsAround editor.now }
         requires editor { IsEditor (given_editor editor.now) }
-        ensures done { IsEditedAlone (value_set (given_editor editor.now) value_name.now value.now) (is_value_name value_name.now)
-            (value_set_bytes (given_editor editor.now) value_name.now value.now self.old.section.items) value_number result self.old self.new }
+        ensures done { IsEditedAlone (value_set (given_editor editor.now) value_name.now value.now) value_name.now
+            (value_set_bytes (given_editor editor.now) value_name.now value.now self.old.section.items) result self.old self.new }
         ensures answer { IfOk result (λ o. option_map bstring_bytes o ≡ old_value value_name.now self.old.section.items) }
     {
         let key = value_name.as_bytes();

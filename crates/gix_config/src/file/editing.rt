@@ -1,11 +1,13 @@
 //! Edits of the section of a number, for editors.
+use crate::file::section::value;
 use crate::file::{File, SectionId, SectionRef};
 use gitconf_body::blanks::Blanks;
 use gitconf_body::editor::Editor;
 use gitconf_sources::source::Trust;
 use gitconf_text::NoMemory;
 use gitconf_text::line_end::LineEnd;
-use gitconf_text::parse::section::header;
+use gitconf_text::parse::section::bytes::is_value_name;
+use gitconf_text::parse::section::{ValueNameError, header};
 use gitconf_text::parse::span;
 
 impl File {
@@ -22,12 +24,14 @@ impl File {
     ghost use Rattle.gitconf_store.specs.NewSections.{HasNoPlace};
     ghost use Rattle.gitconf_store.specs.Renamings.{HeaderGrows};
     ghost use Rattle.gitconf_body.specs.Blanks.{PutsAround};
+    ghost use Rattle.gitconf_body.specs.Refusals.{span_refusal, value_refusal};
     ghost use Rattle.gitconf_store.specs.Editors.{given_editor, IsGiven};
     ghost use Rattle.gitconf_views.specs.Views.{shown};
-    ghost use Rattle.gix_config.specs.Edited.{has_number, IsEdited};
-    ghost use Rattle.gix_config.specs.Puts.{done};
+    ghost use Rattle.gix_config.specs.Edited.{has_number};
+    ghost use Rattle.gitconf_store.specs.Edited.{IsEdited};
+    ghost use Rattle.gitconf_store.specs.Edited.{done};
 
-    /// [`Store::push_entry`](gitconf_store::store::Store::push_entry).
+    /// [`Store::push_entry`](gitconf_store::store::Store::push_entry), if the name is valid.
     pub(crate) fn push_entry(
         &mut self,
         id: SectionId,
@@ -35,36 +39,42 @@ impl File {
         key: &[u8],
         value: Option<&[u8]>,
         comment: Option<&[u8]>,
-    ) -> Result<(), span::Error>
+    ) -> Result<(), value::Error>
         requires stands { has_number id self.old ≡ true }
         requires given { IsGiven editor.now }
         requires puts { PutsAround editor.now }
         requires editor { IsEditor (given_editor editor.now) }
-        requires key { is_value_name key.now ≡ true }
-        ensures done { IsEdited (Push id (given_editor editor.now) key.now (option_copied value.entry) (option_copied comment.entry)) (λ e. e) result
-            self.old self.new }
+        ensures done { IsEdited value_refusal (Push id (given_editor editor.now) key.now (option_copied value.entry) (option_copied comment.entry))
+            result self.old self.new }
         ensures stands { has_number id self.new ≡ true }
     {
-        self.store.push_entry(id, editor, key, value, comment)
+        if !is_value_name(key) {
+            return Err(value::Error::ValueName(ValueNameError::invalid()));
+        }
+        self.store.push_entry(id, editor, key, value, comment)?;
+        Ok(())
     }
 
-    /// [`Store::push_entry_after_last`](gitconf_store::store::Store::push_entry_after_last).
+    /// [`Store::push_entry_after_last`](gitconf_store::store::Store::push_entry_after_last), if the name is valid.
     pub(crate) fn push_entry_after_last(
         &mut self,
         id: SectionId,
         editor: &Editor<'_>,
         key: &[u8],
         value: Option<&[u8]>,
-    ) -> Result<(), span::Error>
+    ) -> Result<(), value::Error>
         requires stands { has_number id self.old ≡ true }
         requires given { IsGiven editor.now }
         requires puts { PutsAround editor.now }
         requires editor { IsEditor (given_editor editor.now) }
-        requires key { is_value_name key.now ≡ true }
-        ensures done { IsEdited (PushAfterLast id (given_editor editor.now) key.now (option_copied value.entry)) (λ e. e) result self.old self.new }
+        ensures done { IsEdited value_refusal (PushAfterLast id (given_editor editor.now) key.now (option_copied value.entry)) result self.old self.new }
         ensures stands { has_number id self.new ≡ true }
     {
-        self.store.push_entry_after_last(id, editor, key, value)
+        if !is_value_name(key) {
+            return Err(value::Error::ValueName(ValueNameError::invalid()));
+        }
+        self.store.push_entry_after_last(id, editor, key, value)?;
+        Ok(())
     }
 
     /// [`Store::push_newline`](gitconf_store::store::Store::push_newline).
@@ -75,30 +85,33 @@ impl File {
     ) -> Result<(), span::Error>
         requires stands { has_number id self.old ≡ true }
         requires editor { IsEditor (given_editor editor.now) }
-        ensures done { IsEdited (PushLineEnd id (given_editor editor.now)) (λ e. e) result self.old self.new }
+        ensures done { IsEdited span_refusal (PushLineEnd id (given_editor editor.now)) result self.old self.new }
         ensures stands { has_number id self.new ≡ true }
     {
         self.store.push_newline(id, editor)
     }
 
-    /// [`Store::set_entry`](gitconf_store::store::Store::set_entry).
+    /// [`Store::set_entry`](gitconf_store::store::Store::set_entry), if the name is valid.
     pub(crate) fn set_entry(
         &mut self,
         id: SectionId,
         editor: &Editor<'_>,
         key: &[u8],
         value: &[u8],
-    ) -> Result<Option<Vec<u8>>, span::Error>
+    ) -> Result<Option<Vec<u8>>, value::Error>
         requires stands { has_number id self.old ≡ true }
         requires given { IsGiven editor.now }
         requires puts { PutsAround editor.now }
         requires editor { IsEditor (given_editor editor.now) }
-        requires key { is_value_name key.now ≡ true }
-        ensures done { IsEdited (SetValue id (given_editor editor.now) key.now value.now) (λ e. e) result self.old self.new }
+        ensures done { IsEdited value_refusal (SetValue id (given_editor editor.now) key.now value.now) result self.old self.new }
         ensures answer { IfOk result (λ o. Raw (option_map (λ v. v.items) o) ≡ answer (SetValue id (given_editor editor.now) key.now value.now) self.old) }
         ensures stands { has_number id self.new ≡ true }
     {
-        self.store.set_entry(id, editor, key, value)
+        if !is_value_name(key) {
+            return Err(value::Error::ValueName(ValueNameError::invalid()));
+        }
+        let old = self.store.set_entry(id, editor, key, value)?;
+        Ok(old)
     }
 
     /// [`Store::remove_entry`](gitconf_store::store::Store::remove_entry).

@@ -15,8 +15,7 @@ use gitconf_sources::lists::bytes_of;
 use gitconf_sources::source::Trust;
 use gitconf_text::NoMemory;
 use gitconf_text::line_end::LineEnd;
-use gitconf_text::parse::section::bytes::is_value_name;
-use gitconf_text::parse::section::{ValueNameError, header};
+use gitconf_text::parse::section::header;
 use gitconf_text::parse::span;
 pub use making::Error;
 
@@ -64,7 +63,8 @@ impl<'a> SectionMut<'a> {
     ghost use Rattle.gitconf_state.specs.Edit.{with_used};
     ghost use Rattle.gitconf_store.specs.Renamings.{HeaderGrows};
     ghost use Rattle.gitconf_state.specs.Edits.{answer, apply, Count, Entry, Pop, Push, PushAfterLast, PushLineEnd, Raw, Remove, RemoveMarked, Rename, SetTrust, SetValue};
-    ghost use Rattle.gix_config.specs.Edited.{IsEdited, value_number};
+    ghost use Rattle.gitconf_store.specs.Edited.{IsEdited};
+    ghost use Rattle.gitconf_body.specs.Refusals.{header_refusal, span_refusal, value_refusal};
     ghost use Rattle.gix_config.specs.SectionEditors.{edited, editor, lent, number_of, with_leading};
 
     /// Pushes a line, with a comment or without one.
@@ -77,17 +77,12 @@ impl<'a> SectionMut<'a> {
         ensures same_file { lent self.new ≡ lent self.old }
         ensures same_section { number_of self.new ≡ number_of self.old }
         ensures same_editor { editor self.new ≡ editor self.old }
-        ensures invalid { IsErrAnd result (λ e. value_number e ≡ 6) ↔ (is_value_name value_name.now ≡ false) }
-        ensures done { IsEdited (Push (number_of self.old) (editor self.old) value_name.now (option_copied value.entry) (option_copied comment.entry))
-            value_number result (edited self.old) (edited self.new) }
+        ensures done { IsEdited value_refusal (Push (number_of self.old) (editor self.old) value_name.now (option_copied value.entry) (option_copied comment.entry))
+            result (edited self.old) (edited self.new) }
     {
-        let key = value_name.as_bytes();
-        if !is_value_name(key) {
-            return Err(value::Error::ValueName(ValueNameError::invalid()));
-        }
         let editor = self.blanks.editor(self.line_end, self.ends);
-        self.file.push_entry(self.id, &editor, key, value, comment)?;
-        Ok(())
+        self.file
+            .push_entry(self.id, &editor, value_name.as_bytes(), value, comment)
     }
 
     /// Pushes a line after the section's others: the blanks before a name, the name, and if a value is given `=` with the blanks
@@ -104,9 +99,8 @@ impl<'a> SectionMut<'a> {
         ensures same_file { lent self.new ≡ lent self.old }
         ensures same_section { number_of self.new ≡ number_of self.old }
         ensures same_editor { editor self.new ≡ editor self.old }
-        ensures invalid { IsErrAnd result (λ e. value_number e ≡ 6) ↔ (is_value_name value_name.now ≡ false) }
-        ensures done { IsEdited (Push (number_of self.old) (editor self.old) value_name.now (option_copied value.entry) None)
-            value_number result (edited self.old) (edited self.new) }
+        ensures done { IsEdited value_refusal (Push (number_of self.old) (editor self.old) value_name.now (option_copied value.entry) None) result (edited self.old)
+            (edited self.new) }
     {
         self.push_line(value_name, value, None)
     }
@@ -126,9 +120,8 @@ impl<'a> SectionMut<'a> {
         ensures same_file { lent self.new ≡ lent self.old }
         ensures same_section { number_of self.new ≡ number_of self.old }
         ensures same_editor { editor self.new ≡ editor self.old }
-        ensures invalid { IsErrAnd result (λ e. value_number e ≡ 6) ↔ (is_value_name value_name.now ≡ false) }
-        ensures done { IsEdited (Push (number_of self.old) (editor self.old) value_name.now (option_copied value.entry) (Some comment.now))
-            value_number result (edited self.old) (edited self.new) }
+        ensures done { IsEdited value_refusal (Push (number_of self.old) (editor self.old) value_name.now (option_copied value.entry) (Some comment.now)) result (edited self.old)
+            (edited self.new) }
     {
         self.push_line(value_name, value, Some(comment))
     }
@@ -153,18 +146,12 @@ impl<'a> SectionMut<'a> {
         ensures same_file { lent self.new ≡ lent self.old }
         ensures same_section { number_of self.new ≡ number_of self.old }
         ensures same_editor { editor self.new ≡ editor self.old }
-        ensures invalid { IsErrAnd result (λ e. value_number e ≡ 6) ↔ (is_value_name value_name.now ≡ false) }
-        ensures done { IsEdited (PushAfterLast (number_of self.old) (editor self.old) value_name.now (option_copied value.entry))
-            value_number result (edited self.old) (edited self.new) }
+        ensures done { IsEdited value_refusal (PushAfterLast (number_of self.old) (editor self.old) value_name.now (option_copied value.entry)) result (edited self.old)
+            (edited self.new) }
     {
-        let key = value_name.as_bytes();
-        if !is_value_name(key) {
-            return Err(value::Error::ValueName(ValueNameError::invalid()));
-        }
         let editor = self.blanks.editor(self.line_end, self.ends);
         self.file
-            .push_entry_after_last(self.id, &editor, key, value)?;
-        Ok(())
+            .push_entry_after_last(self.id, &editor, value_name.as_bytes(), value)
     }
 
     /// Pushes the line ending, even if it is switched off after lines.
@@ -176,7 +163,7 @@ impl<'a> SectionMut<'a> {
         ensures same_file { lent self.new ≡ lent self.old }
         ensures same_section { number_of self.new ≡ number_of self.old }
         ensures same_editor { editor self.new ≡ editor self.old }
-        ensures done { IsEdited (PushLineEnd (number_of self.old) (editor self.old)) (λ e. e) result (edited self.old) (edited self.new) }
+        ensures done { IsEdited span_refusal (PushLineEnd (number_of self.old) (editor self.old)) result (edited self.old) (edited self.new) }
     {
         let editor = self.blanks.editor(self.line_end, self.ends);
         self.file.push_newline(self.id, &editor)
@@ -196,21 +183,19 @@ impl<'a> SectionMut<'a> {
         ensures same_file { lent self.new ≡ lent self.old }
         ensures same_section { number_of self.new ≡ number_of self.old }
         ensures same_editor { editor self.new ≡ editor self.old }
-        ensures invalid { IsErrAnd result (λ e. value_number e ≡ 6) ↔ (is_value_name value_name.now ≡ false) }
-        ensures done { IsEdited (SetValue (number_of self.old) (editor self.old) value_name.now value.now) value_number result (edited self.old)
+        ensures done { IsEdited value_refusal (SetValue (number_of self.old) (editor self.old) value_name.now value.now) result (edited self.old)
             (edited self.new) }
         ensures answer { IfOk result (λ o. Raw (option_map bstring_bytes o)
             ≡ answer (SetValue (number_of self.old) (editor self.old) value_name.now value.now) (edited self.old)) }
     {
-        let key = value_name.as_bytes();
-        if !is_value_name(key) {
-            return Err(value::Error::ValueName(ValueNameError::invalid()));
-        }
         let editor = self.blanks.editor(self.line_end, self.ends);
-        match self.file.set_entry(self.id, &editor, key, value) {
+        match self
+            .file
+            .set_entry(self.id, &editor, value_name.as_bytes(), value)
+        {
             Ok(Some(old)) => Ok(Some(BString::new(old))),
             Ok(None) => Ok(None),
-            Err(refusal) => Err(refusal.into()),
+            Err(refusal) => Err(refusal),
         }
     }
 

@@ -58,7 +58,8 @@ impl<'a> ValueMut<'a> {
     ghost use Rattle.gitconf_state.specs.Lookup.{KeyMissing};
     ghost use Rattle.gitconf_lookups.specs.Misses.{IsExisting};
     ghost use Rattle.gitconf_views.specs.Views.{shown};
-    ghost use Rattle.gix_config.specs.Edited.{IsEdited};
+    ghost use Rattle.gitconf_body.specs.Refusals.{span_refusal};
+    ghost use Rattle.gitconf_store.specs.Edited.{IsEdited};
     ghost use Rattle.gix_config.specs.SectionEditors as sections;
     ghost use Rattle.gix_config.specs.ValueEditors.{edited, editor, key_of, lent, meaning_of, place_of, stands_there, without_entry, writing};
 
@@ -94,7 +95,7 @@ impl<'a> ValueMut<'a> {
         ensures same_place { place_of self.new ≡ place_of self.old }
         ensures same_key { key_of self.new ≡ key_of self.old }
         ensures same_editor { editor self.new ≡ editor self.old }
-        ensures done { IsEdited (writing self.old value.now) (λ e. e) result (edited self.old) (edited self.new) }
+        ensures done { IsEdited span_refusal (writing self.old value.now) result (edited self.old) (edited self.new) }
         ensures stands { OnOk result (stands_there self.new ≡ true) }
         ensures err { OnErr result (stands_there self.new ≡ stands_there self.old) }
     {
@@ -126,7 +127,7 @@ impl<'a> ValueMut<'a> {
         ensures same_place { place_of self.new ≡ place_of self.old }
         ensures same_key { key_of self.new ≡ key_of self.old }
         ensures same_editor { editor self.new ≡ editor self.old }
-        ensures done { IsEdited (writing self.old value.now) (λ e. e) result (edited self.old) (edited self.new) }
+        ensures done { IsEdited span_refusal (writing self.old value.now) result (edited self.old) (edited self.new) }
         ensures stands { OnOk result (stands_there self.new ≡ true) }
         ensures err { OnErr result (stands_there self.new ≡ stands_there self.old) }
     {

@@ -1,4 +1,4 @@
-use Rattle.std.proofs.Common.{rules, ◌≡◌, ◌+◌, [], ◌∷◌, ◌++◌, ap, arith}
+use Rattle.std.proofs.Common.{rules, ◌≡◌, [], ◌∷◌, ◌++◌, ap, arith}
 use Rattle.gitconf_items.specs.Items.{item_of, items_of}
 use Rattle.gitconf_items.specs.ItemsFit.{ItemFits}
 use Rattle.gitconf_body.specs.Copies.{items_size}

@@ -1,4 +1,4 @@
-use Rattle.std.proofs.Common.{rules, ◌≡◌, ◌+◌, [], ◌∷◌, ◌++◌, ap, arith, map}
+use Rattle.std.proofs.Common.{rules, ◌≡◌, [], ◌∷◌, ◌++◌, ap, arith, map}
 use Rattle.gitconf_items.specs.Items.{piece_of}
 use Rattle.gitconf_items.specs.ItemsFit.{PieceFits}
 use Rattle.gitconf_body.specs.Copies.{pieces_size}

@@ -71,7 +71,7 @@ impl File {
     ghost use Rattle.gitconf_lookups.specs.SomeSections.{Filtered};
     ghost use Rattle.gix_config.specs.contracts.file.File.{the_row};
     ghost use Rattle.gix_config.specs.Edited.{has_number};
-    ghost use Rattle.gix_config.specs.Puts.{done};
+    ghost use Rattle.gitconf_store.specs.Edited.{done};
     ghost use Rattle.gix_config.specs.SectionEditors.{blanks_at, edited, editor_at, lent, told, IsEditorOfKey, IsFoundOrMade, IsFoundOrMadeOf, IsNumbered, IsPassingEditorOfKey, IsPickedOf};
 
     /// The number and the blanks of the last section that has the name and subsection.

@@ -23,7 +23,9 @@ impl File {
     ghost use Rattle.gitconf_lookups.specs.Lookups.{IsFound};
     ghost use Rattle.gitconf_lookups.specs.SomeSections.{Filtered};
     ghost use Rattle.gitconf_lookups.specs.ValuePlaces.{meaning_at, value_place, IsPlace};
-    ghost use Rattle.gix_config.specs.Edited.{has_number, IsEdited};
+    ghost use Rattle.gix_config.specs.Edited.{has_number};
+    ghost use Rattle.gitconf_body.specs.Refusals.{span_refusal};
+    ghost use Rattle.gitconf_store.specs.Edited.{IsEdited};
 
     /// [`Store::value_place_filter`](gitconf_store::store::Store::value_place_filter).
     pub(crate) fn value_place<F: FnMut(&Metadata) -> bool>(
@@ -66,8 +68,8 @@ impl File {
         requires puts { PutsAround editor.now }
         requires editor { IsEditor (given_editor editor.now) }
         requires key { is_value_name key.now ≡ true }
-        ensures done { IsEdited (WriteAt id (given_editor editor.now) place (instead_of in_place_of) key.now value.now)
-            (λ e. e) result self.old self.new }
+        ensures done { IsEdited span_refusal (WriteAt id (given_editor editor.now) place (instead_of in_place_of) key.now value.now)
+            result self.old self.new }
         ensures stands { has_number id self.new ≡ true }
     {
         self.store
