@@ -56,7 +56,7 @@ bytes_at name subsection key keeps value state at l =
     found o is = rw is refl
 
 -- the causes, by whether a section passes
-tested : (keyed none named valid full used_up : Bool) → List (Bool × Cause)
+abbrev tested : (keyed none named valid full used_up : Bool) → List (Bool × Cause)
 tested keyed none named valid full used_up =
     (not keyed, InvalidKey) ∷ (none && not named, InvalidName) ∷ (none && not valid, InvalidSubsection) ∷ (full || (none && used_up), TooLarge) ∷ []
 
@@ -134,13 +134,13 @@ grown_at name subsection key keeps value old new at r l used =
 pub made_ok : (name : List ℕ) (subsection : Option (List ℕ)) (key : List ℕ) (keeps : Meta → Bool) (value : List ℕ) (old new : State) (o : Option BString) → is_value_name key ≡ true
     → list_any (is_target name subsection keeps) old.sections ≡ false → new ≡ with_used new.used (set_new name subsection key value old)
     → new.used ≡ old.used + new_section_bytes (file_line_end old) name subsection key value
-    → IsRefusedFor header_refusal (first_cause (made_causes name subsection (new_section_bytes (file_line_end old) name subsection key value) old)) (Ok tt)
+    → IsRefusedFor header_refusal (first_cause (made_causes name subsection (new_section_bytes (file_line_end old) name subsection key value) old)) (Ok (tt {0}))
     → IsEdited set_refusal (SetRawValue name subsection key keeps value) (Ok o) old new
 made_ok name subsection key keeps value old new o keyed none made put told = record {
   ok = made ∙ (λ i. with_used ((put ∙ ap (λ n. old.used + n) (sym (bytes_new name subsection key keeps value old none))) i) (sym (set_raw_value_new name subsection key keeps value old none) i));
   err = tt;
   told = of_tests name subsection key keeps value old (Ok o) false keyed none
-      (made_none (is_made_name name) (is_valid_or_none subsection) (is_full old.used (new_section_bytes (file_line_end old) name subsection key value)) (old.next == no_number) tt o _
+      (made_none (is_made_name name) (is_valid_or_none subsection) (is_full old.used (new_section_bytes (file_line_end old) name subsection key value)) (old.next == no_number) (tt {0}) o _
       (ap (is_full old.used) (bytes_new name subsection key keeps value old none)) told);
 }
 
@@ -198,10 +198,13 @@ found_err T name subsection key keeps value old new at e keyed l same used =
       err = same;
       told = of_tests name subsection key keeps value old (Err (of_span e)) true keyed (stood name subsection keeps old at l)
           (stood_told {T = T} (is_made_name name) (is_valid_or_none subsection) (old.next == no_number) old.used (set_raw_value_bytes name subsection key keeps value old) new.used (Err e) (Err (of_span e)) grows
-          (λ full. ap Err (ap of_span (let three = grows.refused full in cc)))
+          (λ full. ap Err (ap of_span (three (grows.refused full))))
           (λ fits. memory grows fits grows.known));
     }
   where
+    three : IsErrOf {T = T} (Err e) 3 → e ≡ 3
+    three is = cc
+
     memory : UsedGrows {T = T} (Err e) (set_raw_value_bytes name subsection key keeps value old) old.used new.used
         → (2 ^ 32 ≤ old.used + set_raw_value_bytes name subsection key keeps value old → ⊥) → ((e ≡ 3) ⊎ (e ≡ 27)) → of_span e ≡ Memory
     memory grows fits (inl three) = absurd (fits (grows.too_large (ap Err three)))

@@ -14,7 +14,7 @@ use Rattle.gitconf_body.specs.Refusals.{header_refusal}
 use Rattle.gitconf_store.specs.Edited.{header_causes, made_causes}
 
 -- The causes, by the three tests.
-tested : (named valid full : Bool) → List (Bool × Cause)
+abbrev tested : (named valid full : Bool) → List (Bool × Cause)
 tested named valid full = (not named, causes.InvalidName) ∷ (not valid, causes.InvalidSubsection) ∷ (full, TooLarge) ∷ []
 
 of_tests : {T : Type 0} (name : List ℕ) (subsection : Option (List ℕ)) (count : ℕ) (state : State) (r : Result T HeaderError) (named valid full : Bool) → is_made_name name ≡ named → is_valid_or_none subsection ≡ valid

@@ -1,4 +1,5 @@
-use Rattle.std.proofs.Common.{rules, ◌≡◌, true, false, None, Some, Err, Ok, refl, subst, sym}
+use Rattle.std.proofs.Common.{rules, ◌≡◌, true, false, Option, None, Some, Err, Ok, refl, subst, sym}
+use Rattle.bstr.specs.declared.bstring.BString.{BString}
 use Rattle.std.specs.List.{list_any}
 use Rattle.std.specs.Option.{option_copied, option_map}
 use Rattle.bstr.specs.Owned.{bstring_bytes}
@@ -18,8 +19,8 @@ returns-in_err-set_in_new-clause-exact g c = λ keeps h.
     let keyed : is_value_name key ≡ true = search rules in
     let none : list_any (is_target c.args.section_name.now (option_copied c.args.subsection_name) keeps) c.args.self.now.sections ≡ false = search rules in
     let fault : c.from_residual.result ≡ Err (of_header c.in_err-set_in_new.field-0.0) = search rules in
-    subst (λ r. IsEdited set_refusal (SetRawValue c.args.section_name.now (option_copied c.args.subsection_name) c.args.value_name.now keeps c.args.new_value.now) r c.args.self.now c.set_in_new.new.self) (sym fault)
-    (subst (λ k. IsEdited set_refusal (SetRawValue c.args.section_name.now (option_copied c.args.subsection_name) k keeps c.args.new_value.now) (Err (of_header c.in_err-set_in_new.field-0.0)) c.args.self.now c.set_in_new.new.self) c.as_bytes-key.ensures.value
+    subst (λ r. IsEdited {T = Option BString} set_refusal (SetRawValue c.args.section_name.now (option_copied c.args.subsection_name) c.args.value_name.now keeps c.args.new_value.now) r c.args.self.now c.set_in_new.new.self) (sym fault)
+    (subst (λ k. IsEdited {T = Option BString} set_refusal (SetRawValue c.args.section_name.now (option_copied c.args.subsection_name) k keeps c.args.new_value.now) (Err (of_header c.in_err-set_in_new.field-0.0)) c.args.self.now c.set_in_new.new.self) c.as_bytes-key.ensures.value
     (made_err c.args.section_name.now (option_copied c.args.subsection_name) key keeps c.args.new_value.now c.args.self.now c.set_in_new.new.self c.in_err-set_in_new.field-0.0 keyed none c.in_err-set_in_new.ensures.err c.in_err-set_in_new.ensures.told))
 
 pub returns-in_default-clause-exact : goal.returns-in_default-clause-exact
@@ -28,7 +29,7 @@ returns-in_default-clause-exact g c = λ keeps h.
     let key = c.as_bytes-key.result.now in
     let keyed : is_value_name key ≡ true = search rules in
     let none : list_any (is_target c.args.section_name.now (option_copied c.args.subsection_name) keeps) c.args.self.now.sections ≡ false = search rules in
-    subst (λ k. IsEdited set_refusal (SetRawValue c.args.section_name.now (option_copied c.args.subsection_name) k keeps c.args.new_value.now) (Ok None) c.args.self.now c.set_in_new.new.self) c.as_bytes-key.ensures.value
+    subst (λ k. IsEdited {T = Option BString} set_refusal (SetRawValue c.args.section_name.now (option_copied c.args.subsection_name) k keeps c.args.new_value.now) (Ok None) c.args.self.now c.set_in_new.new.self) c.as_bytes-key.ensures.value
     (made_ok c.args.section_name.now (option_copied c.args.subsection_name) key keeps c.args.new_value.now c.args.self.now c.set_in_new.new.self None keyed none c.in_ok-set_in_new.ensures.ok c.in_ok-set_in_new.ensures.put c.in_ok-set_in_new.ensures.told)
 
 pub returns-in_err-old-clause-exact : goal.returns-in_err-old-clause-exact
@@ -38,8 +39,8 @@ returns-in_err-old-clause-exact g c = λ keeps h.
     let keyed : is_value_name key ≡ true = search rules in
     let l : IsLastAt (is_target c.args.section_name.now (option_copied c.args.subsection_name) keeps) c.args.self.now.sections c.in-Some.at = search rules in
     let fault : c.from_residual-in_err-old.result ≡ Err (of_span c.in_err-old.field-0.0) = search rules in
-    subst (λ r. IsEdited set_refusal (SetRawValue c.args.section_name.now (option_copied c.args.subsection_name) c.args.value_name.now keeps c.args.new_value.now) r c.args.self.now c.set_at.new.self) (sym fault)
-    (subst (λ k. IsEdited set_refusal (SetRawValue c.args.section_name.now (option_copied c.args.subsection_name) k keeps c.args.new_value.now) (Err (of_span c.in_err-old.field-0.0)) c.args.self.now c.set_at.new.self) c.as_bytes-key.ensures.value
+    subst (λ r. IsEdited {T = Option BString} set_refusal (SetRawValue c.args.section_name.now (option_copied c.args.subsection_name) c.args.value_name.now keeps c.args.new_value.now) r c.args.self.now c.set_at.new.self) (sym fault)
+    (subst (λ k. IsEdited {T = Option BString} set_refusal (SetRawValue c.args.section_name.now (option_copied c.args.subsection_name) k keeps c.args.new_value.now) (Err (of_span c.in_err-old.field-0.0)) c.args.self.now c.set_at.new.self) c.as_bytes-key.ensures.value
     (found_err _ c.args.section_name.now (option_copied c.args.subsection_name) key keeps c.args.new_value.now c.args.self.now c.set_at.new.self c.in-Some.at c.in_err-old.field-0.0 keyed l c.in_err-old.ensures.err c.in_err-old.ensures.used))
 
 pub returns-in-Some-2-clause-exact : goal.returns-in-Some-2-clause-exact
@@ -48,7 +49,7 @@ returns-in-Some-2-clause-exact g c = λ keeps h.
     let key = c.as_bytes-key.result.now in
     let keyed : is_value_name key ≡ true = search rules in
     let l : IsLastAt (is_target c.args.section_name.now (option_copied c.args.subsection_name) keeps) c.args.self.now.sections c.in-Some.at = search rules in
-    subst (λ k. IsEdited set_refusal (SetRawValue c.args.section_name.now (option_copied c.args.subsection_name) k keeps c.args.new_value.now) (Ok (Some c.new.result)) c.args.self.now c.set_at.new.self) c.as_bytes-key.ensures.value
+    subst (λ k. IsEdited {T = Option BString} set_refusal (SetRawValue c.args.section_name.now (option_copied c.args.subsection_name) k keeps c.args.new_value.now) (Ok (Some c.new.result)) c.args.self.now c.set_at.new.self) c.as_bytes-key.ensures.value
     (found_ok c.args.section_name.now (option_copied c.args.subsection_name) key keeps c.args.new_value.now c.args.self.now c.set_at.new.self c.in-Some.at _ (Some c.new.result) keyed l c.in_ok-old.ensures.ok c.in_ok-old.ensures.used)
 
 pub returns-in-None-clause-exact : goal.returns-in-None-clause-exact
@@ -57,7 +58,7 @@ returns-in-None-clause-exact g c = λ keeps h.
     let key = c.as_bytes-key.result.now in
     let keyed : is_value_name key ≡ true = search rules in
     let l : IsLastAt (is_target c.args.section_name.now (option_copied c.args.subsection_name) keeps) c.args.self.now.sections c.in-Some.at = search rules in
-    subst (λ k. IsEdited set_refusal (SetRawValue c.args.section_name.now (option_copied c.args.subsection_name) k keeps c.args.new_value.now) (Ok None) c.args.self.now c.set_at.new.self) c.as_bytes-key.ensures.value
+    subst (λ k. IsEdited {T = Option BString} set_refusal (SetRawValue c.args.section_name.now (option_copied c.args.subsection_name) k keeps c.args.new_value.now) (Ok None) c.args.self.now c.set_at.new.self) c.as_bytes-key.ensures.value
     (found_ok c.args.section_name.now (option_copied c.args.subsection_name) key keeps c.args.new_value.now c.args.self.now c.set_at.new.self c.in-Some.at _ None keyed l c.in_ok-old.ensures.ok c.in_ok-old.ensures.used)
 
 pub returns-in_default-clause-answer : goal.returns-in_default-clause-answer
