@@ -41,6 +41,10 @@ header_causes is_made name subsection = (is_made && not (is_made_name name), Inv
 abbrev pub made_causes : (name : List ℕ) → (subsection : Option (List ℕ)) → (count : ℕ) → State → List (Bool × Cause)
 made_causes name subsection count state = header_causes true name subsection ++ ((is_full state.used count || (state.next == no_number), TooLarge) ∷ [])
 
+-- the causes for a header that is made, with its bytes after `used` others
+abbrev pub heading_causes : (name : List ℕ) → (subsection : Option (List ℕ)) → (used : ℕ) → List (Bool × Cause)
+heading_causes name subsection used = header_causes true name subsection ++ room_causes used (header_bytes name subsection)
+
 -- no section of the names passes
 abbrev pub has_no_target : (name : List ℕ) → (subsection : Option (List ℕ)) → (keeps : Meta → Bool) → State → Bool
 has_no_target name subsection keeps state = not (list_any (is_target name subsection keeps) state.sections)
@@ -57,10 +61,9 @@ causes (PushAfterLast number editor key value) state = key_causes key state.used
 causes (PushLineEnd number editor) state = room_causes state.used (length editor.line_end)
 causes (SetValue number editor key value) state = key_causes key state.used (put_bytes (SetValue number editor key value) state)
 causes (WriteAt number editor place instead key value) state = key_causes key state.used (put_bytes (WriteAt number editor place instead key value) state)
-causes (Rename number name subsection) state = header_causes true name subsection ++ room_causes state.used (header_bytes name subsection)
+causes (Rename number name subsection) state = heading_causes name subsection state.used
 causes (RenameAll name subsection keeps new_name new_subsection) state =
-    (has_no_target name subsection keeps state, Missing (miss_of name subsection (listed state)))
-    ∷ (header_causes true new_name new_subsection ++ room_causes state.used (header_bytes new_name new_subsection))
+    (has_no_target name subsection keeps state, Missing (miss_of name subsection (listed state))) ∷ heading_causes new_name new_subsection state.used
 causes (NewSection name subsection) state = made_causes name subsection (put_bytes (NewSection name subsection) state) state
 causes (PushSection detached) state = (is_full state.used detached.used || (state.next == no_number), TooLarge) ∷ []
 causes (Append other) state = (is_full state.used (appended_bytes other state) || ltb no_number (state.next + length other.sections), TooLarge) ∷ []

@@ -7,7 +7,9 @@ use Rattle.gitconf_lookups.specs.declared.existing.Error.{Error as LookupError}
 use Rattle.gitconf_lookups.specs.declared.existing.Error.TheVariants as lookups
 use Rattle.gitconf_store.specs.declared.rename_section.Error.{Error}
 use Rattle.gitconf_store.specs.declared.rename_section.Error.TheVariants.{Lookup, Section, Memory}
-use Rattle.gitconf_lookups.specs.Misses.{existing_number}
+use Rattle.gitconf_body.specs.Done.{Cause, Missing, OutOfMemory}
+use Rattle.gitconf_body.specs.Refusals.{header_refusal}
+use Rattle.gitconf_lookups.specs.Misses.{existing_number, missing}
 
 -- the number of each refusal
 abbrev pub rename_number : Error → ℕ
@@ -28,3 +30,9 @@ of_header e = Section e
 -- the refusal for a refused span
 abbrev pub of_span : (number : ℕ) → Error
 of_span number = if number == 27 then Memory else Section (headers.Span number)
+
+-- the refusal for each cause
+abbrev pub rename_refusal : Cause → Error
+rename_refusal (Missing miss) = Lookup (missing miss)
+rename_refusal OutOfMemory = Memory
+rename_refusal cause = Section (header_refusal cause)

@@ -7,12 +7,16 @@ ghost use Rattle.gitconf_text.specs.HeaderErrors.{header_number, header_numbers}
 ghost use Rattle.gitconf_text.specs.Names.{is_made_name, is_valid_or_none};
 ghost use Rattle.gitconf_sources.specs.Metadata.{Meta};
 ghost use Rattle.gitconf_state.specs.Edit.{header_bytes, is_target, with_used};
-ghost use Rattle.gitconf_state.specs.Edits.{Rename, apply, numbered};
+ghost use Rattle.gitconf_state.specs.Edits.{Rename, RenameAll, apply, numbered};
 ghost use Rattle.gitconf_state.specs.Lookup.{is_named, listing};
 ghost use Rattle.gitconf_store.specs.Edits.{UsedGrows};
 ghost use Rattle.gitconf_lookups.specs.declared.existing.Error.TheVariants.{KeyMissing};
 ghost use Rattle.gitconf_store.specs.declared.rename_section.Error.TheVariants.{Lookup};
-ghost use Rattle.gitconf_store.specs.Renamings.{marked_places, with_renamed, AreMarks, AreSomeRenamed, HeaderGrows, IsHeaderChecked, IsRenamed};
+ghost use Rattle.gitconf_store.specs.Renamings.{marked_places, with_renamed, AreMarks, AreSomeRenamed, IsToldOfSome};
+ghost use Rattle.gitconf_store.specs.RenameErrors.{rename_refusal};
+ghost use Rattle.gitconf_store.specs.Edited.{causes, header_causes, heading_causes, IsEdited};
+ghost use Rattle.gitconf_body.specs.Done.{checked, first_cause, IsRefusedFor};
+ghost use Rattle.gitconf_body.specs.Refusals.{header_refusal};
 
 use crate::headings::{passing_places, set_headers};
 use crate::rename_section;
@@ -74,14 +78,13 @@ impl Store {
         name: &str,
         subsection_name: Option<&[u8]>,
     ) -> Result<(), HeaderError>
-        ensures invalid_name { IsErrOf result HeaderError.InvalidName ↔ (is_made_name name.now ≡ false) }
-        ensures invalid_subsection { IsErrOf result HeaderError.InvalidSubSection
-            ↔ ((is_made_name name.now ≡ true) × (is_valid_or_none (option_copied subsection_name.entry) ≡ false)) }
         ensures ok { OnOk result (self.new ≡ with_used self.new.used (apply (Rename id name.now (option_copied subsection_name.entry)) self.old)) }
         ensures err { OnErr result (self.new ≡ self.old) }
-        ensures used { IfSome (numbered id self.old) (λ _. HeaderGrows name.now (option_copied subsection_name.entry) result self.old.used self.new.used) }
+        ensures put { IfSome (numbered id self.old) (λ _. OnOk result (self.new.used ≡ self.old.used + header_bytes name.now (option_copied subsection_name.entry))) }
+        ensures told { IfSome (numbered id self.old)
+            (λ _. IsRefusedFor header_refusal (first_cause (causes (Rename id name.now (option_copied subsection_name.entry)) self.old)) result) }
         ensures missing { numbered id self.old ≡ None → self.new ≡ self.old }
-        ensures known { IfErr result (λ e. list_any (λ number. number == header_number e) header_numbers ≡ true) }
+        ensures unnumbered { numbered id self.old ≡ None → result ≡ checked header_refusal (first_cause (header_causes true name.now (option_copied subsection_name.entry))) }
     {
         validate(name.as_bytes(), subsection_name)?;
         let Some(at) = self.sections.position(id) else {
@@ -93,7 +96,7 @@ impl Store {
 
     /// Checks whether a header may be made of a name and a subsection, and added to the buffer. Takes no memory.
     fn check_header(&self, name: &str, subsection_name: Option<&[u8]>) -> Result<(), HeaderError>
-        ensures { IsHeaderChecked name.now (option_copied subsection_name.entry) self.now.used result }
+        ensures { result ≡ checked header_refusal (first_cause (heading_causes name.now (option_copied subsection_name.entry) self.now.used)) }
     {
         validate(name.as_bytes(), subsection_name)?;
         check_header(&self.buffer, name.as_bytes(), subsection_name)?;
@@ -141,12 +144,14 @@ impl Store {
         requires { F.IsAlwaysCallable filter }
         // For a filter whose result depends only on what it is shown.
         ensures exact { (keeps : Meta → Bool) → ComputesKey F.FnMut keeps filter
-            → IsRenamed name.now (option_copied subsection_name.entry) keeps new_name.now (option_copied new_subsection_name.entry) result self.old self.new }
+            → IsEdited rename_refusal (RenameAll name.now (option_copied subsection_name.entry) keeps new_name.now (option_copied new_subsection_name.entry))
+            result self.old self.new }
         // For any filter.
         ensures some { OnOk result (AreSomeRenamed name.now (option_copied subsection_name.entry) new_name.now
             (option_copied new_subsection_name.entry) self.old self.new) }
         ensures err { OnErr result (self.new ≡ self.old) }
         ensures put { OnOk result (self.new.used ≡ self.old.used + header_bytes new_name.now (option_copied new_subsection_name.entry)) }
+        ensures told { IsToldOfSome name.now (option_copied subsection_name.entry) new_name.now (option_copied new_subsection_name.entry) result self.old }
     {
         self.check_named(name, subsection_name)?;
         if let Err(refusal) = self.check_header(new_name, new_subsection_name) {

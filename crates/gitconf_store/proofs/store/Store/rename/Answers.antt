@@ -16,12 +16,31 @@ returns-in_default-clause-ok c =
     let none : place_of c.args.id inside.sections ≡ None = search rules in
     unnumbered_stays inside.buffer.items inside.front.items inside.meta.value inside.sections c.args.self.now c.args.id (renamed c.args.name.now (option_copied c.args.subsection_name)) none c.self.view_is
 
-pub returns-in_default-clause-used : goal.returns-in_default-clause-used
-returns-in_default-clause-used c =
+pub returns-in_default-clause-put : goal.returns-in_default-clause-put
+returns-in_default-clause-put c =
     let inside = c.self.inside in
     let none : place_of c.args.id inside.sections ≡ None = search rules in
     let no : numbered c.args.id c.args.self.now ≡ None = unnumbered inside.buffer.items inside.front.items inside.meta.value inside.sections c.args.self.now c.args.id none c.self.view_is in
     rw no tt
+
+pub returns-in_default-clause-told : goal.returns-in_default-clause-told
+returns-in_default-clause-told c =
+    let inside = c.self.inside in
+    let none : place_of c.args.id inside.sections ≡ None = search rules in
+    let no : numbered c.args.id c.args.self.now ≡ None = unnumbered inside.buffer.items inside.front.items inside.meta.value inside.sections c.args.self.now c.args.id none c.self.view_is in
+    rw no tt
+
+pub returns-in_err-put_header-clause-unnumbered : goal.returns-in_err-put_header-clause-unnumbered
+returns-in_err-put_header-clause-unnumbered c = λ none.
+    let inside = c.self.inside in
+    let place : place_of c.args.id inside.sections ≡ Some c.in-Some.at = search rules in
+    absurd (is_numbered inside.buffer.items inside.front.items inside.meta.value inside.sections c.args.self.now c.args.id c.in-Some.at (number_at-place c.args.id inside.sections c.in-Some.at place) c.self.view_is none)
+
+pub returns-clause-unnumbered : goal.returns-clause-unnumbered
+returns-clause-unnumbered c = λ none.
+    let inside = c.self.inside in
+    let place : place_of c.args.id inside.sections ≡ Some c.in-Some.at = search rules in
+    absurd (is_numbered inside.buffer.items inside.front.items inside.meta.value inside.sections c.args.self.now c.args.id c.in-Some.at (number_at-place c.args.id inside.sections c.in-Some.at place) c.self.view_is none)
 
 pub put_header-requires-clause-marks : goal.put_header-requires-clause-marks
 put_header-requires-clause-marks c =
