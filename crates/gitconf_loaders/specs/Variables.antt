@@ -1,13 +1,12 @@
 -- Entries that variables of the environment set.
 -- Source: git-config's manual page, under "ENVIRONMENT". Keys and values that aren't UTF-8 are refused.
 use Rattle.std.specs.Prelude.{◌≡◌, ◌⊎◌, ◌==◌, ◌<◌, ◌^◌, ℕ, true, List, ◌++◌, codes, decimal, Option, Some, None, Result, Ok, Err, IfErr, string_bytes}
-use Rattle.std.specs.List.{list_any}
 use Rattle.std.specs.Result.{OkIff}
 use Rattle.std.specs.Str.Parse.{digits_value, IsNumeral, without_leading_plus}
 use Rattle.gitconf_sources.specs.Key.{parsed_key}
 use Rattle.gitconf_sources.specs.Reports.{HasText, May, NoText, NotSet, VariableReport}
-use Rattle.gitconf_text.specs.HeaderErrors.{header_number, header_numbers}
-use Rattle.gitconf_body.specs.ValueErrors.{edit_numbers, value_number}
+use Rattle.gitconf_body.specs.Done.{Cause}
+use Rattle.gitconf_body.specs.Refusals.{header_refusal, value_refusal}
 use Rattle.gitconf_loaders.specs.declared.from_env.Error.{Error}
 use Rattle.gitconf_loaders.specs.declared.from_env.Error.TheVariants as env
 
@@ -69,7 +68,7 @@ IsEntryCause index (env.IllformedUtf8 at kind) = (at ≡ index) × ((kind.now �
 IsEntryCause index (env.InvalidKeyId at) = at ≡ index
 IsEntryCause index (env.InvalidKeyValue at key) = (at ≡ index) × (parsed_key (string_bytes key) ≡ None)
 IsEntryCause index (env.InvalidValueId at) = at ≡ index
-IsEntryCause index (env.Section e) = list_any (λ number. number == header_number e) header_numbers ≡ true
-IsEntryCause index (env.SectionValue e) = list_any (λ number. number == value_number e) edit_numbers ≡ true
+IsEntryCause index (env.Section e) = (cause : Cause) × (e ≡ header_refusal cause)
+IsEntryCause index (env.SectionValue e) = (cause : Cause) × (e ≡ value_refusal cause)
 IsEntryCause index env.Memory = Unit {0}
 IsEntryCause index e = ⊥

@@ -3,4 +3,3 @@ pub mod Making
 pub mod Renaming
 pub mod RenamingAll
 pub mod HeaderBytes
-pub mod Made

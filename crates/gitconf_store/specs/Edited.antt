@@ -1,6 +1,6 @@
 -- What an edit of a file leaves, how many bytes it adds to the buffer, and why it is refused. A separator, the mark of a comment, and the brackets
 -- and quotes of a header are in no buffer.
-use Rattle.std.specs.Prelude.{◌==◌, ◌+◌, ◌||◌, ◌&&◌, ℕ, Bool, not, true, ltb, List, [], ◌∷◌, ◌++◌, length, Option, Some, Result}
+use Rattle.std.specs.Prelude.{◌==◌, ◌+◌, ◌||◌, ◌&&◌, ℕ, Bool, not, true, ltb, List, [], ◌∷◌, ◌++◌, length, Option, Some, Result, if◌then◌else◌}
 use Rattle.std.specs.List.{list_any}
 use Rattle.gitconf_text.specs.Names.{is_made_name, is_valid_or_none, is_value_name}
 use Rattle.gitconf_text.specs.Sections.{no_number}
@@ -14,6 +14,10 @@ use Rattle.gitconf_body.specs.Done.{Cause, InvalidKey, InvalidName, InvalidSubse
 use Rattle.gitconf_body.specs.Puts.{after_last_bytes, assigned_bytes, line_bytes, value_set_bytes}
 use Rattle.gitconf_store.specs.Appends.{appended_bytes}
 
+-- no section of the names passes
+abbrev pub has_no_target : (name : List ℕ) → (subsection : Option (List ℕ)) → (keeps : Meta → Bool) → State → Bool
+has_no_target name subsection keeps state = not (list_any (is_target name subsection keeps) state.sections)
+
 -- how many bytes an edit adds to the buffer, with all blanks that it writes
 abbrev pub put_bytes : Edit → State → ℕ
 put_bytes (SetRawValue name subsection key keeps value) state = set_raw_value_bytes name subsection key keeps value state
@@ -23,7 +27,7 @@ put_bytes (PushLineEnd number editor) state = length editor.line_end
 put_bytes (SetValue number editor key value) state = value_set_bytes editor key value (items_of_numbered number state)
 put_bytes (WriteAt number editor place instead key value) state = length key + assigned_bytes editor.spacing (Some value)
 put_bytes (Rename number name subsection) state = header_bytes name subsection
-put_bytes (RenameAll name subsection keeps new_name new_subsection) state = header_bytes new_name new_subsection
+put_bytes (RenameAll name subsection keeps new_name new_subsection) state = if has_no_target name subsection keeps state then 0 else header_bytes new_name new_subsection
 put_bytes (NewSection name subsection) state = length (file_line_end state) + header_bytes name subsection
 put_bytes (PushSection detached) state = detached.used
 put_bytes (Append other) state = appended_bytes other state
@@ -44,10 +48,6 @@ made_causes name subsection count state = header_causes true name subsection ++ 
 -- the causes for a header that is made, with its bytes after `used` others
 abbrev pub heading_causes : (name : List ℕ) → (subsection : Option (List ℕ)) → (used : ℕ) → List (Bool × Cause)
 heading_causes name subsection used = header_causes true name subsection ++ room_causes used (header_bytes name subsection)
-
--- no section of the names passes
-abbrev pub has_no_target : (name : List ℕ) → (subsection : Option (List ℕ)) → (keeps : Meta → Bool) → State → Bool
-has_no_target name subsection keeps state = not (list_any (is_target name subsection keeps) state.sections)
 
 -- Why an edit is refused: what keeps it from being done, in the order in which it is asked, each with whether it does.
 abbrev pub causes : Edit → State → List (Bool × Cause)

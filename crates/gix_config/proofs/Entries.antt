@@ -4,10 +4,13 @@ use Rattle.std.specs.Prelude.{IfErr, IsErrAnd, unwrap_or, ◌||◌}
 use Rattle.std.specs.List.{list_any}
 use Rattle.std.specs.Result.{result_map_both}
 use Rattle.std.proofs.lemmas.Bool.{eqb-true}
-use Rattle.gitconf_text.specs.HeaderErrors.{header_number, header_numbers as known_numbers}
+use Rattle.gitconf_text.specs.HeaderErrors.{header_number}
 use Rattle.gitconf_text.specs.declared.parse.section.header.Error.{Error as HeaderError}
 use Rattle.gitconf_text.specs.declared.parse.section.header.Error.TheVariants as header
-use Rattle.gitconf_body.specs.ValueErrors.{edit_numbers, value_number}
+use Rattle.gitconf_body.specs.Done as causes
+use Rattle.gitconf_body.specs.Done.{Cause, first_cause}
+use Rattle.gitconf_body.specs.Refusals.{header_refusal, value_refusal}
+use Rattle.gitconf_body.specs.ValueErrors.{value_number}
 use Rattle.gitconf_body.specs.declared.value.Error.{Error as ValueError}
 use Rattle.gitconf_body.specs.declared.value.Error.TheVariants as value
 use Rattle.gitconf_sources.specs.Key.{Key, parsed_key}
@@ -33,7 +36,9 @@ use Rattle.gitconf_loaders.specs.declared.from_env.Error.{Error}
 use Rattle.gitconf_loaders.specs.declared.from_env.Error.TheVariants as env
 use Rattle.gitconf_store.specs.Edited.{IsEdited}
 use Rattle.gix_config.specs.Environment.{ArePut, Edited, env_meta, IsEntryPut, IsEnvCause, IsFromEnv, IsMadeOfEntries, IsOverrides, IsSome, IsPushed, IsPut, IsPutUnder, IsSectionFor}
-use Rattle.gix_config.specs.SectionEditors.{IsFoundOrMade}
+use Rattle.gitconf_lookups.specs.Picks.{picked}
+use Rattle.gix_config.specs.SectionEditors.{making_causes, IsFoundOrMade}
+use Rattle.gix_config.proofs.Numbers.{told_err, told_ok}
 
 -- refusals keep their numbers
 pub value_numbers : (e : ValueError) → env_number (env_of_value e) ≡ value_number e
@@ -61,13 +66,8 @@ includes_numbers includes.Memory = refl
 
 -- a value that was pushed, or was refused
 pub is_pushed : (name value : List ℕ) (edited : Edited) (pushed : Result Unit ValueError) (new : State) (r : Result State ℕ)
-    → IsEdited (Push edited.1.0 edited.1.1 name (Some value) None) value_number pushed edited.0 new → r ≡ left_by value_number pushed new → IsPushed name (Some value) edited r
+    → IsEdited value_refusal (Push edited.1.0 edited.1.1 name (Some value) None) pushed edited.0 new → r ≡ left_by value_number pushed new → IsPushed name (Some value) edited r
 is_pushed name value edited pushed new r is left = (pushed, new, is, left)
-
--- the refusal of a result
-abbrev err_in : {T : Type 0} → Result T HeaderError → HeaderError
-err_in (Ok t) = header.Memory
-err_in (Err e) = e
 
 -- what was found or made, as it is shown
 pub shown_section : {T : Type 0} (after : T → State) (shown : T → ℕ × Editor) (give : SectionState → ℕ × Editor) (name : List ℕ) (subsection : Option (List ℕ)) (keeps : Meta → Bool) (old : State)
@@ -75,17 +75,11 @@ pub shown_section : {T : Type 0} (after : T → State) (shown : T → ℕ × Edi
     → IsFoundOrMade (λ (m : Edited). m.0) (λ m. m.1) give name subsection keeps old (result_map_both (λ t. (after t, shown t)) (λ e. e) result)
 shown_section after shown give name subsection keeps old (Ok t) is = record {
   ok = is.ok;
-  invalid_name = ((λ no. absurd (cc)), (λ why. let e = is.invalid_name.1 why in absurd (cc)));
-  invalid_subsection = ((λ no. absurd (cc)), (λ why. let e = is.invalid_subsection.1 why in absurd (cc)));
-  too_large = is.too_large;
-  known = is.known;
+  told = told_ok header_refusal (first_cause (making_causes name subsection (picked name subsection keeps old) old)) t (after t, shown t) is.told;
 }
 shown_section after shown give name subsection keeps old (Err e) is = record {
   ok = is.ok;
-  invalid_name = ((λ no. is.invalid_name.0 (ap Err (ap err_in no))), (λ why. ap Err (ap err_in (is.invalid_name.1 why))));
-  invalid_subsection = ((λ no. is.invalid_subsection.0 (ap Err (ap err_in no))), (λ why. ap Err (ap err_in (is.invalid_subsection.1 why))));
-  too_large = is.too_large;
-  known = is.known;
+  told = told_err Edited header_refusal (first_cause (making_causes name subsection (picked name subsection keeps old) old)) e is.told;
 }
 
 -- no section was found or made
@@ -210,36 +204,33 @@ includes_count e (Ok made) old new err counts = absurd err
 includes_count {T = T} e (Err r) old new err counts = renumbered T T (includes_number e) (env_number r) old new (ap env_number err ∙ includes_numbers e) (fault_load T (includes_number e) old new counts)
 
 -- what refusals of an entry say
-pub value_cause : (index : ℕ) (e : ValueError) → list_any (λ number. number == value_number e) edit_numbers ≡ true → IsEntryCause index (env_of_value e)
+pub value_cause : (index : ℕ) (e : ValueError) → (cause : Cause) × (e ≡ value_refusal cause) → IsEntryCause index (env_of_value e)
 value_cause index (value.ValueName n) is = is
 value_cause index (value.Span n) is = is
 value_cause index value.Memory is = tt
 
-pub header_cause : (index : ℕ) (e : HeaderError) → list_any (λ number. number == header_number e) known_numbers ≡ true → IsEntryCause index (env_of_header e)
+pub header_cause : (index : ℕ) (e : HeaderError) → (cause : Cause) × (e ≡ header_refusal cause) → IsEntryCause index (env_of_header e)
 header_cause index header.InvalidName is = is
 header_cause index header.InvalidSubSection is = is
 header_cause index (header.Span n) is = is
 header_cause index header.Memory is = tt
 
 -- none is of a file
-among_edits : (n : ℕ) → list_any (λ number. number == n) edit_numbers ≡ true → is_file_number n ≡ false
-among_edits n is = go (3 == n) refl (6 == n) refl (27 == n) refl is
-  where
-    go : (a : Bool) → (3 == n) ≡ a → (b : Bool) → (6 == n) ≡ b → (c : Bool) → (27 == n) ≡ c → (a || (b || (c || false))) ≡ true → is_file_number n ≡ false
-    go true e b f c g is = subst (λ m. is_file_number m ≡ false) (eqb-true 3 n e) refl
-    go false e true f c g is = subst (λ m. is_file_number m ≡ false) (eqb-true 6 n f) refl
-    go false e false f true g is = subst (λ m. is_file_number m ≡ false) (eqb-true 27 n g) refl
-    go false e false f false g is = absurd (cc)
+value_of_no_file : (cause : Cause) → is_file_number (value_number (value_refusal cause)) ≡ false
+value_of_no_file (causes.Missing miss) = refl
+value_of_no_file causes.InvalidKey = refl
+value_of_no_file causes.InvalidName = refl
+value_of_no_file causes.InvalidSubsection = refl
+value_of_no_file causes.TooLarge = refl
+value_of_no_file causes.OutOfMemory = refl
 
-among_headers : (n : ℕ) → list_any (λ number. number == n) known_numbers ≡ true → is_file_number n ≡ false
-among_headers n is = go (3 == n) refl (4 == n) refl (5 == n) refl (27 == n) refl is
-  where
-    go : (a : Bool) → (3 == n) ≡ a → (b : Bool) → (4 == n) ≡ b → (c : Bool) → (5 == n) ≡ c → (d : Bool) → (27 == n) ≡ d → (a || (b || (c || (d || false)))) ≡ true → is_file_number n ≡ false
-    go true e b f c g d h is = subst (λ m. is_file_number m ≡ false) (eqb-true 3 n e) refl
-    go false e true f c g d h is = subst (λ m. is_file_number m ≡ false) (eqb-true 4 n f) refl
-    go false e false f true g d h is = subst (λ m. is_file_number m ≡ false) (eqb-true 5 n g) refl
-    go false e false f false g true h is = subst (λ m. is_file_number m ≡ false) (eqb-true 27 n h) refl
-    go false e false f false g false h is = absurd (cc)
+header_of_no_file : (cause : Cause) → is_file_number (header_number (header_refusal cause)) ≡ false
+header_of_no_file (causes.Missing miss) = refl
+header_of_no_file causes.InvalidKey = refl
+header_of_no_file causes.InvalidName = refl
+header_of_no_file causes.InvalidSubsection = refl
+header_of_no_file causes.TooLarge = refl
+header_of_no_file causes.OutOfMemory = refl
 
 pub no_file : (index : ℕ) (e : Error) → IsEntryCause index e → is_file_number (env_number e) ≡ false
 no_file index (env.IllformedUtf8 at kind) is = refl
@@ -249,8 +240,8 @@ no_file index (env.InvalidKeyValue at key) is = refl
 no_file index (env.InvalidValueId at) is = refl
 no_file index (env.PathInterpolationError e) is = absurd is
 no_file index (env.Includes e) is = absurd is
-no_file index (env.Section e) is = among_headers (header_number e) is
-no_file index (env.SectionValue e) is = among_edits (value_number e) is
+no_file index (env.Section e) is = subst (λ f. is_file_number (header_number f) ≡ false) (sym is.1) (header_of_no_file is.0)
+no_file index (env.SectionValue e) is = subst (λ f. is_file_number (value_number f) ≡ false) (sym is.1) (value_of_no_file is.0)
 no_file index env.Memory is = refl
 
 -- so no file failed

@@ -1,17 +1,18 @@
 -- The section of a number follows each edit of it.
 use Rattle.std.proofs.Common.{◌≡◌, ℕ, ◌+◌, ◌==◌, ◌||◌, Bool, true, false, List, [], ◌∷◌, length, map, filter, Option, Some, None, Result, Ok, Err, refl, ap, sym, subst, ◌∙◌}
-use Rattle.std.specs.Prelude.{if◌then◌else◌, IfSome, OnErr, OnOk}
+use Rattle.std.specs.Prelude.{if◌then◌else◌, IfSome, IsErrOf, OnErr, OnOk}
 use Rattle.std.specs.List.{last_or, list_any}
 use Rattle.gitconf_text.specs.Names.{is_value_name}
 use Rattle.gitconf_text.specs.Part.{Item}
-use Rattle.gitconf_state.specs.Edit.{with_used}
-use Rattle.gitconf_state.specs.Edits.{Edit, PushLineEnd, SetValue, apply, change_items, change_numbered, numbered}
+use Rattle.gitconf_text.specs.declared.parse.section.header.Error.{Error as HeaderError}
+use Rattle.gitconf_state.specs.Edit.{header_bytes, with_used}
+use Rattle.gitconf_state.specs.Edits.{Edit, PushLineEnd, Rename, SetValue, apply, change_items, change_numbered, numbered}
 use Rattle.gitconf_state.specs.Editors.{Editor}
 use Rattle.gitconf_state.specs.State.{SectionState, State}
 use Rattle.gitconf_state.proofs.Edits.Lists.{last_at, last_passing}
 use Rattle.gitconf_body.specs.Done.{Cause, InvalidKey, IsRefusedFor, OutOfMemory, TooLarge, first_cause, key_causes}
 use Rattle.gitconf_body.specs.Growth.{UsedGrows}
-use Rattle.gitconf_body.specs.Refusals.{span_refusal}
+use Rattle.gitconf_body.specs.Refusals.{header_refusal, span_refusal}
 use Rattle.gitconf_body.proofs.Done.{key_err, key_ok, key_refused, room_err, room_ok}
 use Rattle.gitconf_store.specs.Edited.{IsEdited, causes, put_bytes}
 use Rattle.gitconf_store.specs.Editors.{PutsIn}
@@ -126,20 +127,45 @@ pub set_again : {T E : Type 0} (refusal : Cause → E) (id : ℕ) (value : List 
 set_again refusal id value result old new editor other key name same alike e =
     subst (λ k. IsEdited refusal (SetValue id other k value) result old new) alike (subst (λ d. IsEdited refusal (SetValue id d key value) result old new) same e)
 
--- with another answer, or for no answer
-pub answered : {T U E : Type 0} (refusal : Cause → E) (edit : Edit) (t : T) (u : U) (old new : State) → IsEdited refusal edit (Ok t) old new → IsEdited refusal edit (Ok u) old new
-answered {T} {U} {E} refusal edit t u old new e = record { ok = e.ok; err = tt; told = told_too (first_cause (causes edit old)) e.told }
+-- What is told of one answer is told of another, and of no answer.
+pub told_ok : {T U E : Type 0} (refusal : Cause → E) (o : Option Cause) (t : T) (u : U) → IsRefusedFor refusal o (Ok t) → IsRefusedFor refusal o (Ok u)
+told_ok refusal None t u told = tt
+told_ok refusal (Some cause) t u told = absurd (cc)
+
+pub told_err : {T E : Type 0} (U : Type 0) (refusal : Cause → E) (o : Option Cause) (e : E) → IsRefusedFor {T = T} refusal o (Err e) → IsRefusedFor {T = U} refusal o (Err e)
+told_err U refusal None e told = told
+told_err {T} U refusal (Some cause) e told = ap Err (same told)
   where
-    told_too : (o : Option Cause) → IsRefusedFor {T = T} {E = E} refusal o (Ok t) → IsRefusedFor {T = U} {E = E} refusal o (Ok u)
-    told_too None told = tt
-    told_too (Some cause) told = absurd (let no = told in cc)
+    same : IsErrOf {T = T} (Err e) (refusal cause) → e ≡ refusal cause
+    same is = cc
+
+-- a refusal has a cause
+pub told_cause : {T E : Type 0} (refusal : Cause → E) (o : Option Cause) (e : E) → IsRefusedFor {T = T} refusal o (Err e) → (cause : Cause) × (e ≡ refusal cause)
+told_cause refusal None e told = (OutOfMemory, told)
+told_cause {T} refusal (Some cause) e told = (cause, same told)
+  where
+    same : IsErrOf {T = T} (Err e) (refusal cause) → e ≡ refusal cause
+    same is = cc
+
+-- so of the same edit
+pub answered : {T U E : Type 0} (refusal : Cause → E) (edit : Edit) (t : T) (u : U) (old new : State) → IsEdited refusal edit (Ok t) old new → IsEdited refusal edit (Ok u) old new
+answered refusal edit t u old new e = record { ok = e.ok; err = tt; told = told_ok refusal (first_cause (causes edit old)) t u e.told }
 
 pub unanswered : {T E : Type 0} (U : Type 0) (refusal : Cause → E) (edit : Edit) (e : E) (old new : State) → IsEdited {T = T} refusal edit (Err e) old new → IsEdited {T = U} refusal edit (Err e) old new
-unanswered {T} {E} U refusal edit e old new is = record { ok = tt; err = is.err; told = told_too (first_cause (causes edit old)) is.told }
-  where
-    told_too : (o : Option Cause) → IsRefusedFor {T = T} {E = E} refusal o (Err e) → IsRefusedFor {T = U} {E = E} refusal o (Err e)
-    told_too None told = told
-    told_too (Some cause) told = ap Err (let same = told in cc)
+unanswered {T} U refusal edit e old new is = record { ok = tt; err = is.err; told = told_err {T = T} U refusal (first_cause (causes edit old)) e is.told }
+
+-- what a store says of a section that is renamed, and is there
+pub renamed_in : {T : Type 0} (id : ℕ) (name : List ℕ) (subsection : Option (List ℕ)) (result : Result T HeaderError) (old new : State) → has_number id old ≡ true
+    → OnOk result (new ≡ with_used new.used (apply (Rename id name subsection) old)) → OnErr result (new ≡ old)
+    → IfSome (numbered id old) (λ _. OnOk result (new.used ≡ old.used + header_bytes name subsection))
+    → IfSome (numbered id old) (λ _. IsRefusedFor header_refusal (first_cause (causes (Rename id name subsection) old)) result)
+    → IsEdited header_refusal (Rename id name subsection) result old new
+renamed_in id name subsection (Ok t) old new stands ok err put told = record {
+  ok = ok ∙ ap (λ n. with_used n (apply (Rename id name subsection) old)) (if_numbered id old stands put);
+  err = tt;
+  told = if_numbered id old stands told;
+}
+renamed_in id name subsection (Err e) old new stands ok err put told = record { ok = tt; err = err; told = if_numbered id old stands told }
 
 pub used_stands : {T E : Type 0} (result : Result T E) (old new after : State) (id : ℕ) → has_number id after ≡ has_number id old
     → has_number id old ≡ true → OnOk result (new ≡ with_used new.used after) → OnErr result (new ≡ old) → has_number id new ≡ true

@@ -1,19 +1,24 @@
 -- What editors put into the buffer is no more than the tokens that they make.
-use Rattle.std.proofs.Common.{◌≡◌, ℕ, ◌+◌, ◌≤◌, Bool, true, false, List, [], ◌∷◌, ◌++◌, length, filter, Option, Some, None, refl, arith}
+use Rattle.std.proofs.Common.{◌≡◌, ℕ, ◌+◌, ◌≤◌, Bool, true, false, List, [], ◌∷◌, ◌++◌, length, filter, not, Option, Some, None, refl, sym, subst, arith, zero-le}
 use Rattle.std.specs.Prelude.{flat_map, if◌then◌else◌}
-use Rattle.std.specs.List.{last_or}
+use Rattle.std.specs.List.{last_or, list_any}
 use Rattle.gitconf_text.specs.Part.{Assigned, Item, BlanksItem, LineEndsItem, CommentItem, EntryItem}
 use Rattle.gitconf_text.specs.Token.{WhitespaceToken, NewlineToken, ValueToken, NameToken, SeparatorToken, item_tokens, filled}
 use Rattle.gitconf_text.specs.Value.{escaped}
-use Rattle.gitconf_state.specs.Edit.{Spacing, is_entry_of, leading_item, token_bytes, value_tokens_of}
+use Rattle.gitconf_text.specs.Header.{spelled_header}
+use Rattle.gitconf_state.specs.Edit.{Spacing, header_bytes, is_entry_of, is_target, leading_item, made_header, token_bytes, value_tokens_of}
 use Rattle.gitconf_state.specs.Edits as edits
-use Rattle.gitconf_state.specs.Edits.{Edit, items_of_numbered, new_bytes, value_set_tokens}
+use Rattle.gitconf_state.specs.Edits.{Edit, between, items_of_numbered, new_bytes, value_set_tokens}
 use Rattle.gitconf_state.specs.Editors as states
 use Rattle.gitconf_state.specs.Editors.{comment_made, end_made, entry_made, line_made}
 use Rattle.gitconf_state.specs.State.{State}
 use Rattle.gitconf_body.specs.Puts as puts
 use Rattle.gitconf_body.specs.Puts.{assigned_bytes, changed_bytes, line_bytes, value_set_bytes}
-use Rattle.gitconf_store.proofs.Headers.HeaderBytes.{header_tokens}
+use Rattle.gitconf_body.proofs.Counts.{put_within}
+use Rattle.gitconf_state.specs.LineEnds.{file_line_end}
+use Rattle.gitconf_store.specs.Appends.{items_before}
+use Rattle.gitconf_store.proofs.Files.AppendedFiles.{line_bounded}
+use Rattle.gitconf_store.proofs.Headers.HeaderBytes.{header_tokens, headers_tokens}
 use Rattle.gitconf_views.proofs.LineBytes.{both_bytes, comment_within, items_bytes, made_bytes, one_bytes, run_bytes}
 use Rattle.gitconf_store.specs.Edited.{put_bytes}
 
@@ -71,7 +76,7 @@ set_fits e key value items = go (last_or None (filter (is_entry_of key) items)) 
 
 -- What an edit of an editor puts is no more than its tokens have.
 pub puts_within : (edit : Edit) (state : State) → put_bytes edit state ≤ new_bytes edit state
-puts_within (edits.SetRawValue name subsection key keeps value) state = omega arith
+puts_within (edits.SetRawValue name subsection key keeps value) state = put_within name subsection key keeps value state
 puts_within (edits.Push number editor key value comment) state = line_fits editor key value comment
 puts_within (edits.PushAfterLast number editor key value) state = let line = line_fits editor key value None in omega (arith, line)
 puts_within (edits.PushLineEnd number editor) state = omega arith
@@ -82,11 +87,20 @@ puts_within (edits.Pop number) state = omega arith
 puts_within (edits.WriteAt number editor place instead key value) state = entry_fits editor.spacing key (Some value)
 puts_within (edits.DeleteAt number place) state = omega arith
 puts_within (edits.Rename number name subsection) state = header_tokens name subsection
-puts_within (edits.RenameAll name subsection keeps new_name new_subsection) state = omega arith
+puts_within (edits.RenameAll name subsection keeps new_name new_subsection) state = go (list_any (is_target name subsection keeps) state.sections) refl
+  where
+    all = new_bytes (edits.RenameAll name subsection keeps new_name new_subsection) state
+
+    go : (b : Bool) → list_any (is_target name subsection keeps) state.sections ≡ b → put_bytes (edits.RenameAll name subsection keeps new_name new_subsection) state ≤ all
+    go true is = subst (λ b. (if not b then 0 else header_bytes new_name new_subsection) ≤ all) (sym is)
+        (headers_tokens (is_target name subsection keeps) state.sections (spelled_header (made_header new_name new_subsection)) (header_bytes new_name new_subsection) (header_tokens new_name new_subsection) is)
+    go false is = subst (λ b. (if not b then 0 else header_bytes new_name new_subsection) ≤ all) (sym is) (zero-le all)
 puts_within (edits.NewSection name subsection) state = let h = header_tokens name subsection in omega (arith, h)
 puts_within (edits.PushSection detached) state = omega arith
 puts_within (edits.RemoveSection name subsection keeps) state = omega arith
 puts_within (edits.RemoveNumbered number) state = omega arith
-puts_within (edits.Append other) state = omega arith
+puts_within (edits.Append other) state =
+    let put = line_bounded (file_line_end state) (between (file_line_end state) (items_before state) other.front) in
+    omega (arith, put)
 puts_within (edits.SetTrust number trust) state = omega arith
 puts_within (edits.SetMeta meta) state = omega arith

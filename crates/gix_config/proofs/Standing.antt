@@ -145,13 +145,8 @@ number_found id state s is =
     go (inl other) = absurd (cc)
     go (inr any) = any
 
--- out of memory is no refusal of a section that is made
-pub memory_refused : {T A : Type 0} (after : T → State) (shown : T → A) (give : SectionState → A) (name : List ℕ) (subsection : Option (List ℕ)) (found : Option SectionState) (old : State)
+-- where a section was found, it is refused for want of memory alone
+pub memory_refused : (T : Type 0) {A : Type 0} (after : T → State) (shown : T → A) (give : SectionState → A) (name : List ℕ) (subsection : Option (List ℕ)) (found : Option SectionState) (old : State)
     → found ≢ None → IsFoundOrMadeOf {T = T} after shown give name subsection found old (Err headers.Memory)
-memory_refused after shown give name subsection found old some = record {
-  ok = tt;
-  invalid_name = (λ is. absurd (cc), λ none. absurd (some none.0));
-  invalid_subsection = (λ is. absurd (cc), λ none. absurd (some none.0));
-  too_large = (λ is. absurd (omega (arith, is)), λ none. absurd (some none.0));
-  known = refl;
-}
+memory_refused T after shown give name subsection None old some = absurd (some refl)
+memory_refused T after shown give name subsection (Some s) old some = record { ok = tt; told = refl }

@@ -25,6 +25,7 @@ use Rattle.gitconf_loaders.specs.declared.from_env.Error.{Error}
 use Rattle.gitconf_loaders.specs.declared.from_env.Error.TheVariants as env
 use Rattle.gitconf_body.specs.ValueErrors.{value_number}
 use Rattle.gitconf_body.specs.declared.value.Error.{Error as ValueError}
+use Rattle.gitconf_body.specs.Refusals.{value_refusal}
 use Rattle.gitconf_store.specs.Edited.{IsEdited}
 use Rattle.gix_config.specs.SectionEditors.{editor_at, IsFoundOrMade}
 
@@ -36,7 +37,7 @@ Edited = State × (ℕ × Editor)
 abbrev pub IsPushed : (name : List ℕ) → (value : Option (List ℕ)) → Edited → Result State ℕ → Type 0
 IsPushed name None edited r = r ≡ Err 22
 IsPushed name (Some value) edited r =
-    (pushed : Result Unit ValueError) × (new : State) × IsEdited (Push edited.1.0 edited.1.1 name (Some value) None) value_number pushed edited.0 new × (r ≡ left_by value_number pushed new)
+    (pushed : Result Unit ValueError) × (new : State) × IsEdited value_refusal (Push edited.1.0 edited.1.1 name (Some value) None) pushed edited.0 new × (r ≡ left_by value_number pushed new)
 
 -- the last section of the name and subsection, or one that is made if there is none
 abbrev pub IsSectionFor : Key → (old : State) → Result Edited HeaderError → Type 0

@@ -1,14 +1,10 @@
 -- Editors of a section: the file, the section's number, and what they write besides names and values.
-use Rattle.std.specs.Prelude.{◌≡◌, ◌≢◌, ◌↔◌, ◌==◌, ℕ, Bool, true, false, List, IfErr, IfOk, IsErrAnd, IsErrOf, Option, Some, None, Result, Ok, Err}
-use Rattle.std.specs.List.{list_any}
+use Rattle.std.specs.Prelude.{◌≡◌, ◌≢◌, ℕ, Bool, true, List, [], IfOk, Option, Some, None, Result, Ok, Err}
 use Rattle.std.specs.Option.{option_map}
 use Rattle.std.specs.Borrow.{GName}
-use Rattle.gitconf_text.specs.HeaderErrors.{header_number, header_numbers}
 pub use Rattle.gitconf_text.specs.Bytes.{is_whitespace}
-use Rattle.gitconf_text.specs.Names.{is_made_name, is_valid_or_none}
 use Rattle.gitconf_text.specs.SectionKeys.{SectionKey}
 use Rattle.gitconf_text.specs.declared.parse.section.header.Error.{Error as HeaderError}
-use Rattle.gitconf_text.specs.declared.parse.section.header.Error.TheVariants.{InvalidName, InvalidSubSection}
 use Rattle.gitconf_sources.specs.Metadata.{Meta}
 use Rattle.gitconf_state.specs.Edit.{new_section, Spacing, spacing_of}
 use Rattle.gitconf_state.specs.Edits.{NewSection, numbered}
@@ -19,9 +15,10 @@ use Rattle.gitconf_body.specs.Blanks.{editor_with}
 use Rattle.gitconf_lookups.specs.declared.existing.Error.{Error as Existing}
 use Rattle.gitconf_lookups.specs.declared.existing.Error.TheVariants.{KeyMissing, Memory}
 use Rattle.gitconf_lookups.specs.Misses.{IsExisting}
-use Rattle.gitconf_store.specs.NewSections.{HasNoPlace}
 use Rattle.gitconf_lookups.specs.Picks.{picked, HasSection, IsMissing}
-use Rattle.gitconf_store.specs.Edited.{done}
+use Rattle.gitconf_body.specs.Done.{Cause, IsRefusedFor, first_cause}
+use Rattle.gitconf_body.specs.Refusals.{header_refusal}
+use Rattle.gitconf_store.specs.Edited.{causes, done}
 use Rattle.gix_config.specs.declared.file.section_mut.SectionMut.{SectionMut}
 use Rattle.gix_config.specs.declared.file.section_mut.making.Error.{Error}
 use Rattle.gix_config.specs.declared.file.section_mut.making.Error.TheVariants.{NonePasses, Lookup}
@@ -98,15 +95,15 @@ abbrev pub IsFoundOr : {A : Type 0} → (give : SectionState → A) → (name : 
 IsFoundOr give name subsection (Some s) old new told = (new ≡ old) × (told ≡ give s)
 IsFoundOr give name subsection None old new told = (new ≡ done (NewSection name subsection) old) × (told ≡ give (new_section name subsection old))
 
--- What was found of a section that is made if there is none. Refusals 4, 5 and 3 come only if a section has to be made, each with its
--- cause; any other is out of memory.
+-- why no section is found or made: that none may be made, if none was found
+abbrev pub making_causes : (name : List ℕ) → (subsection : Option (List ℕ)) → (found : Option SectionState) → State → List (Bool × Cause)
+making_causes name subsection (Some s) old = []
+making_causes name subsection None old = causes (NewSection name subsection) old
+
+-- What was found of a section that is made if there is none; or why it is refused.
 pub record IsFoundOrMadeOf {T A : Type 0} (after : T → State) (shown : T → A) (give : SectionState → A) (name : List ℕ) (subsection : Option (List ℕ)) (found : Option SectionState) (old : State) (result : Result T HeaderError) : Type 0 where
   pub ok : IfOk result (λ t. IsFoundOr give name subsection found old (after t) (shown t))
-  pub invalid_name : IsErrOf result InvalidName ↔ ((found ≡ None) × (is_made_name name ≡ false))
-  pub invalid_subsection : IsErrOf result InvalidSubSection ↔ ((found ≡ None) × (is_made_name name ≡ true) × (is_valid_or_none subsection ≡ false))
-  pub too_large : IsErrAnd result (λ e. header_number e ≡ 3)
-      ↔ ((found ≡ None) × (is_made_name name ≡ true) × (is_valid_or_none subsection ≡ true) × HasNoPlace name subsection old)
-  pub known : IfErr result (λ e. list_any (λ number. number == header_number e) header_numbers ≡ true)
+  pub told : IsRefusedFor header_refusal (first_cause (making_causes name subsection found old)) result
 
 -- the same, for the sections whose metadata passes the filter
 abbrev pub IsFoundOrMade : {T A : Type 0} → (after : T → State) → (shown : T → A) → (give : SectionState → A)

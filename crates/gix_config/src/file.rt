@@ -70,7 +70,7 @@ impl Model for File {
 impl File {
     ghost use Rattle.std.specs.Fn.{ComputesKey};
     ghost use Rattle.std.specs.Option.{option_copied};
-    ghost use Rattle.std.specs.Prelude.{◌≡◌, ◌-◌, ◌<◌, ◌^◌, ℕ, Bool, [], List, true, length, map, min, IfOk, IfErr, IfSome, ◌↔◌, false, IsNone, IsSome, OnErr, OnOk};
+    ghost use Rattle.std.specs.Prelude.{◌≡◌, ◌-◌, ◌<◌, ◌^◌, ℕ, Bool, [], List, true, length, map, min, option_map, IfOk, IfErr, IfSome, ◌↔◌, false, IsErrOf, IsNone, IsSome, OnErr, OnOk};
     ghost use Rattle.bstr.specs.Owned.{bstring_bytes};
     ghost use Rattle.gitconf_text.specs.Document.{IsText, Reads, unmarked};
     ghost use Rattle.gitconf_text.specs.Part.{Part};
@@ -90,13 +90,18 @@ impl File {
     ghost use Rattle.gitconf_state.specs.State.{IsState, SectionState, document_of, document_of_kept, entries_of};
     ghost use Rattle.gitconf_state.specs.Edit.{with_used};
     ghost use Rattle.gitconf_views.specs.Counts.{are_void, section_entries};
-    ghost use Rattle.gitconf_store.specs.Edits.{IsRefusal, IsSet, IsSetSomewhere};
+    ghost use Rattle.gitconf_store.specs.Edits.{IsSetSomewhere};
+    ghost use Rattle.gitconf_store.specs.Edited.{IsEdited};
+    ghost use Rattle.gitconf_store.specs.SetErrors.{set_refusal};
+    ghost use Rattle.gitconf_store.specs.declared.set_raw_value.Error.TheVariants.{ValueName};
+    ghost use Rattle.gitconf_state.specs.Edits as states;
+    ghost use Rattle.gitconf_state.specs.Edits.{Raw, SetRawValue};
     ghost use Rattle.gitconf_items.specs.ItemEvents.{events_left};
     ghost use Rattle.gitconf_state.specs.Made.{IsMade};
     ghost use Rattle.gitconf_views.specs.Texts.{IsTextOfSomeSections};
     ghost use Rattle.gitconf_views.specs.Views.{shown, sections_left};
     ghost use Rattle.gitconf_items.specs.Items.{tokens_in};
-    ghost use Rattle.gix_config.specs.Keys.{IsSetByKey};
+    ghost use Rattle.gix_config.specs.Keys.{set_by_key, IsSetByKey};
     ghost use Rattle.gix_config.specs.Made.{loaded_tokens};
 
     /// A file without front and sections. Takes no memory.
@@ -304,8 +309,8 @@ impl File {
         new_value: &[u8],
     ) -> Result<Option<BString>, set_raw_value::Error>
         requires { IsSome (K.key key) }
-        ensures value_name { IsRefusal result 6 ↔ (is_value_name (the_key (K.key key)).name ≡ false) }
         ensures exact { IsSetByKey (the_key (K.key key)) (λ _. true) new_value.now result self.old self.new }
+        ensures answer { IfOk result (λ o. Raw (option_map bstring_bytes o) ≡ states.answer (set_by_key (the_key (K.key key)) (λ _. true) new_value.now) self.old) }
         ensures err { OnErr result (self.new ≡ self.old) }
     {
         let key = key.as_key();
@@ -329,8 +334,10 @@ impl File {
         value_name: &str,
         new_value: &[u8],
     ) -> Result<Option<BString>, set_raw_value::Error>
-        ensures value_name { IsRefusal result 6 ↔ (is_value_name value_name.now ≡ false) }
-        ensures exact { IsSet section_name.now (option_copied subsection_name.entry) value_name.now (λ _. true) new_value.now result self.old self.new }
+        ensures exact { IsEdited set_refusal (SetRawValue section_name.now (option_copied subsection_name.entry) value_name.now (λ _. true) new_value.now)
+            result self.old self.new }
+        ensures answer { IfOk result (λ o. Raw (option_map bstring_bytes o)
+            ≡ states.answer (SetRawValue section_name.now (option_copied subsection_name.entry) value_name.now (λ _. true) new_value.now) self.old) }
         ensures err { OnErr result (self.new ≡ self.old) }
     {
         self.store
@@ -350,10 +357,12 @@ impl File {
     ) -> Result<Option<BString>, set_raw_value::Error>
         requires known { IsSome (K.key key) }
         requires callable { F.IsAlwaysCallable filter }
-        ensures value_name { IsRefusal result 6 ↔ (is_value_name (the_key (K.key key)).name ≡ false) }
+        ensures value_name { IsErrOf result (ValueName 6) ↔ (is_value_name (the_key (K.key key)).name ≡ false) }
         // For a filter whose result depends only on what it is shown.
         ensures exact { (keeps : Meta → Bool) → ComputesKey F.FnMut keeps filter
             → IsSetByKey (the_key (K.key key)) keeps new_value.now result self.old self.new }
+        ensures answer { (keeps : Meta → Bool) → ComputesKey F.FnMut keeps filter
+            → IfOk result (λ o. Raw (option_map bstring_bytes o) ≡ states.answer (set_by_key (the_key (K.key key)) keeps new_value.now) self.old) }
         // For any filter, even one that changes its mind.
         ensures somewhere { OnOk result (let k = the_key (K.key key) in IsSetSomewhere k.section k.subsection k.name new_value.now self.old self.new) }
         ensures err { OnErr result (self.new ≡ self.old) }
@@ -382,10 +391,14 @@ impl File {
         filter: F,
     ) -> Result<Option<BString>, set_raw_value::Error>
         requires { F.IsAlwaysCallable filter }
-        ensures value_name { IsRefusal result 6 ↔ (is_value_name value_name.now ≡ false) }
+        ensures value_name { IsErrOf result (ValueName 6) ↔ (is_value_name value_name.now ≡ false) }
         // For a filter whose result depends only on what it is shown.
         ensures exact { (keeps : Meta → Bool) → ComputesKey F.FnMut keeps filter
-            → IsSet section_name.now (option_copied subsection_name.entry) value_name.now keeps new_value.now result self.old self.new }
+            → IsEdited set_refusal (SetRawValue section_name.now (option_copied subsection_name.entry) value_name.now keeps new_value.now)
+            result self.old self.new }
+        ensures answer { (keeps : Meta → Bool) → ComputesKey F.FnMut keeps filter
+            → IfOk result (λ o. Raw (option_map bstring_bytes o)
+            ≡ states.answer (SetRawValue section_name.now (option_copied subsection_name.entry) value_name.now keeps new_value.now) self.old) }
         // For any filter, even one that changes its mind.
         ensures somewhere { OnOk result (IsSetSomewhere section_name.now (option_copied subsection_name.entry) value_name.now new_value.now self.old self.new) }
         ensures err { OnErr result (self.new ≡ self.old) }

@@ -1,12 +1,14 @@
 -- What edits answer, and what they leave.
-use Rattle.std.specs.Prelude.{◌≡◌, ℕ, Bool, true, false, List, Option, Some, None, Result, Ok, Err}
+use Rattle.std.specs.Prelude.{◌≡◌, ℕ, Bool, true, false, List, IfOk, Option, Some, None, Result, Ok, Err}
+use Rattle.std.specs.Option.{option_map}
 use Rattle.bstr.specs.declared.bstring.BString.{BString}
 use Rattle.bstr.specs.Owned.{bstring_bytes}
 use Rattle.gitconf_sources.specs.Key.{Key}
 use Rattle.gix_config_c.specs.Blocks.{Holds}
 use Rattle.gix_config_c.specs.declared.block.Block.{Block}
 use Rattle.gitconf_state.specs.State.{State}
-use Rattle.gitconf_store.specs.Edits.{IsSet}
+use Rattle.gitconf_state.specs.Edits.{Raw, answer}
+use Rattle.gix_config.specs.Keys.{set_by_key, IsSetByKey}
 use Rattle.gitconf_store.specs.SetErrors.{set_number}
 use Rattle.gitconf_store.specs.declared.set_raw_value.Error as set_raw_value
 
@@ -23,4 +25,5 @@ Tells (Err refusal) number had block = number ≡ set_number refusal
 -- the value was set, or refused
 abbrev pub IsSetTo : Key → (value : List ℕ) → (old new : State) → (number : ℕ) → (had : Bool) → Block → Type 0
 IsSetTo key value old new number had block = (number ≡ 27 → ⊥)
-    → (r : Result (Option BString) set_raw_value.Error) × IsSet key.section key.subsection key.name (λ _. true) value r old new × Tells r number had block
+    → (r : Result (Option BString) set_raw_value.Error) × IsSetByKey key (λ _. true) value r old new
+    × IfOk r (λ o. Raw (option_map bstring_bytes o) ≡ answer (set_by_key key (λ _. true) value) old) × Tells r number had block

@@ -10,6 +10,7 @@ use Rattle.gitconf_state.specs.Edits.{Push, Raw, Remove, answer, apply}
 use Rattle.gitconf_state.specs.Editors.{editor_of}
 use Rattle.gitconf_state.specs.Lookup.{listed, miss_of}
 use Rattle.gitconf_state.specs.State.{SectionState, State}
+use Rattle.gitconf_body.specs.Refusals.{value_refusal}
 use Rattle.gitconf_store.specs.Edited.{IsEdited}
 use Rattle.gitconf_body.specs.ValueErrors.{value_number}
 
@@ -30,7 +31,7 @@ answered (Err refusal) = value_number refusal
 pub record IsPushed (key : Key) (value : Option (List ℕ)) (old new : State) (number : ℕ) : Type 0 where
   pub nowhere : section_of key old ≡ None → number ≡ missing_number key old
   pub pushed : (s : SectionState) → section_of key old ≡ Some s → (number ≡ 27 → ⊥)
-      → (r : Result (Unit {0}) Error) × IsEdited (Push s.number (editor_of old s) key.name value None) value_number r old new × (number ≡ answered r)
+      → (r : Result (Unit {0}) Error) × IsEdited value_refusal (Push s.number (editor_of old s) key.name value None) r old new × (number ≡ answered r)
 
 -- Number 0 where the last entry of the name was removed from the section of a number, and the block holds the raw text of its value; 100
 -- where there was none to remove; else memory ran out, and nothing changed.

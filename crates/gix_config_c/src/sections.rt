@@ -7,7 +7,10 @@ ghost use Rattle.gix_config_c.specs.declared.object.Object.TheVariants as object
 ghost use Rattle.gitconf_state.specs.State.{State};
 ghost use Rattle.gix_config_c.specs.Answers.{OfFile, OfSection};
 ghost use Rattle.gix_config_c.specs.Edited.{IsEditedFile};
-ghost use Rattle.gix_config_c.specs.Sections.{IsMadeNew, IsNew, IsRemoved, IsRenamedTo};
+ghost use Rattle.gix_config_c.specs.Sections.{IsNew, IsRemoved, IsRenamedTo};
+ghost use Rattle.gitconf_body.specs.Refusals.{header_refusal};
+ghost use Rattle.gitconf_state.specs.Edits.{NewSection};
+ghost use Rattle.gitconf_store.specs.Edited.{IsEdited};
 
 use crate::key::{SectionKey, section_names};
 use crate::object::Object;
@@ -116,7 +119,7 @@ fn new_section(
     name: &str,
     subsection: Option<BString>,
 ) -> Result<(), header::Error>
-    ensures { IsMadeNew name.now (option_map bstring_bytes subsection) result file.old file.new }
+    ensures { IsEdited header_refusal (NewSection name.now (option_map bstring_bytes subsection)) result file.old file.new }
 {
     match file.new_section(name, subsection) {
         Ok(_section) => Ok(()),

@@ -1,11 +1,9 @@
 -- A value that is set by its names.
 use Rattle.std.proofs.Common.{◌≡◌, ◌⊎◌, ℕ, ◌+◌, ◌≤◌, ◌^◌, ◌||◌, ◌&&◌, Bool, true, false, not, List, [], ◌∷◌, ◌++◌, length, Option, Some, None, Result, Ok, Err, inl, inr, refl, ap, sym, subst, ◌∙◌}
 use Rattle.std.specs.List.{list_any, last_or, slice_get}
-use Rattle.std.specs.Option.{option_map}
-use Rattle.std.specs.Prelude.{◌==◌, if◌then◌else◌, filter, IfErr, IfOk, IfSome, IsErrOf, OnOk}
+use Rattle.std.specs.Prelude.{◌==◌, if◌then◌else◌, filter, IfSome, IsErrOf}
 use Rattle.std.proofs.lemmas.Bool.{eqb-true, leb-true, le-leb}
 use Rattle.bstr.specs.declared.bstring.BString.{BString}
-use Rattle.bstr.specs.Owned.{bstring_bytes}
 use Rattle.gitconf_text.specs.Names.{is_made_name, is_valid_or_none, is_value_name}
 use Rattle.gitconf_text.specs.declared.parse.section.header.Error.{Error as HeaderError}
 use Rattle.gitconf_sources.specs.Metadata.{Meta}
@@ -14,7 +12,7 @@ use Rattle.gitconf_body.specs.Done.{Cause, InvalidKey, InvalidName, InvalidSubse
 use Rattle.gitconf_body.specs.Growth.{UsedGrows}
 use Rattle.gitconf_body.specs.Places.{IsLastAt}
 use Rattle.gitconf_body.specs.Refusals.{header_refusal}
-use Rattle.gitconf_state.specs.Edit.{is_target, old_value, new_section_bytes, replaced_value, section_with, set_bytes, set_raw_value, set_raw_value_bytes, with_used}
+use Rattle.gitconf_state.specs.Edit.{is_target, old_value, new_section_bytes, section_with, set_bytes, set_raw_value, set_raw_value_bytes, with_used}
 use Rattle.gitconf_state.specs.Edits.{Raw, SetRawValue, answer}
 use Rattle.gitconf_state.specs.LineEnds.{file_line_end}
 use Rattle.gitconf_state.specs.State.{SectionState, State}
@@ -22,7 +20,7 @@ use Rattle.gitconf_state.proofs.Edits.Lists.{any_at, filter_none, last_passing}
 use Rattle.gitconf_state.proofs.Edits.Places.{set_raw_value_at, set_raw_value_new, replaced_value_at, replaced_value_none}
 use Rattle.gitconf_store.specs.declared.set_raw_value.Error.{Error}
 use Rattle.gitconf_store.specs.declared.set_raw_value.Error.TheVariants.{Memory, Span}
-use Rattle.gitconf_store.specs.Edited.{IsEdited, causes, header_causes, made_causes}
+use Rattle.gitconf_store.specs.Edited.{IsEdited, causes, made_causes}
 use Rattle.gitconf_store.specs.Edits.{update_at, set_at, set_new}
 use Rattle.gitconf_store.specs.SetErrors.{of_header, of_span, set_number, set_refusal}
 use Rattle.gitconf_store.proofs.Places.Targets.{stands_at}

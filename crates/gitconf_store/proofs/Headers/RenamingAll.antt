@@ -159,10 +159,13 @@ module _ (name : List ℕ) (s : Option (List ℕ)) (new_name : List ℕ) (new_s 
         → new ≡ with_used new.used (with_renamed (map (is_target name s keeps) old.sections) new_name new_s old) → new.used ≡ old.used + header_bytes new_name new_s
         → IsEdited rename_refusal (RenameAll name s keeps new_name new_s) (Ok (tt {0})) old new
     is_done new fine some made put = record {
-      ok = made ∙ (λ i. with_used (put i) (with_sections (all_changed (is_target name s keeps) (renamed new_name new_s) old.sections i) old));
+      ok = made ∙ (λ i. with_used (put_all i) (with_sections (all_changed (is_target name s keeps) (renamed new_name new_s) old.sections i) old));
       err = tt;
       told = by_target (Ok (tt {0})) true some (fine_told new_name new_s old.used (Ok (tt {0})) fine tt);
     }
+      where
+        put_all : new.used ≡ old.used + (if not (list_any (is_target name s keeps) old.sections) then 0 else header_bytes new_name new_s)
+        put_all = put ∙ ap (λ b. old.used + (if not b then 0 else header_bytes new_name new_s)) (sym some)
 
 -- a section that has the names is one of the file
 pub some_named : (name : List ℕ) (s : Option (List ℕ)) (marks : List Bool) (ss : List SectionState) → AreMarks (λ (t : SectionState). is_named name s (listing t)) marks ss → list_any (λ m. m) marks ≡ true

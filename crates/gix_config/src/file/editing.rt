@@ -14,22 +14,17 @@ impl File {
     ghost use Rattle.std.specs.List.{list_any};
     ghost use Rattle.std.specs.Option.{option_copied};
     ghost use Rattle.std.specs.Prelude.{◌≡◌, ◌↔◌, ◌==◌, ◌+◌, ◌≤◌, [], true, false, IfErr, IfOk, IsErrAnd, IsErrOf, IfSome, IsOk, None, Some, OnOk, OnErr, option_map};
-    ghost use Rattle.gitconf_text.specs.declared.parse.section.header.Error.TheVariants.{InvalidName, InvalidSubSection};
     ghost use Rattle.gitconf_text.specs.Names.{is_made_name, is_valid_or_none, is_value_name};
     ghost use Rattle.gitconf_state.specs.Edit.{spacing_of, with_used};
     ghost use Rattle.gitconf_state.specs.Edits.{answer, apply, numbered, Count, Entry, IsEditor, NewSection, Pop, Push, PushAfterLast, PushLineEnd, Raw, Remove, RemoveMarked, Rename, SetTrust, SetValue};
     ghost use Rattle.gitconf_state.specs.LineEnds.{file_line_end};
     ghost use Rattle.gitconf_text.specs.LineEnds.{bytes_of_line_end};
-    ghost use Rattle.gitconf_text.specs.HeaderErrors.{header_number, header_numbers};
-    ghost use Rattle.gitconf_store.specs.NewSections.{HasNoPlace};
-    ghost use Rattle.gitconf_store.specs.Renamings.{HeaderGrows};
     ghost use Rattle.gitconf_body.specs.Blanks.{PutsAround};
-    ghost use Rattle.gitconf_body.specs.Refusals.{span_refusal, value_refusal};
+    ghost use Rattle.gitconf_body.specs.Refusals.{header_refusal, span_refusal, value_refusal};
     ghost use Rattle.gitconf_store.specs.Editors.{given_editor, IsGiven};
     ghost use Rattle.gitconf_views.specs.Views.{shown};
     ghost use Rattle.gix_config.specs.Edited.{has_number};
     ghost use Rattle.gitconf_store.specs.Edited.{IsEdited};
-    ghost use Rattle.gitconf_store.specs.Edited.{done};
 
     /// [`Store::push_entry`](gitconf_store::store::Store::push_entry), if the name is valid.
     pub(crate) fn push_entry(
@@ -186,17 +181,9 @@ impl File {
         name: &str,
         subsection_name: Option<&[u8]>,
     ) -> Result<(SectionId, Blanks), header::Error>
-        ensures name { IsErrOf result InvalidName ↔ (is_made_name name.now ≡ false) }
-        ensures subsection { IsErrOf result InvalidSubSection
-            ↔ ((is_made_name name.now ≡ true) × (is_valid_or_none (option_copied subsection_name.entry) ≡ false)) }
-        ensures ok { OnOk result (self.new ≡ done (NewSection name.now (option_copied subsection_name.entry)) self.old) }
+        ensures done { IsEdited header_refusal (NewSection name.now (option_copied subsection_name.entry)) result self.old self.new }
         ensures made { IfOk result (λ f. f ≡ (self.old.next, spacing_of [])) }
         ensures stands { IfOk result (λ f. has_number f.0 self.new ≡ true) }
-        ensures err { OnErr result (self.new ≡ self.old) }
-        ensures too_large { IsErrAnd result (λ e. header_number e ≡ 3)
-            ↔ ((is_made_name name.now ≡ true) × (is_valid_or_none (option_copied subsection_name.entry) ≡ true)
-            × HasNoPlace name.now (option_copied subsection_name.entry) self.old) }
-        ensures known { IfErr result (λ e. list_any (λ number. number == header_number e) header_numbers ≡ true) }
     {
         self.store.check_new_section(name, subsection_name)?;
         let blanks = self.store.fresh_blanks()?;
@@ -212,12 +199,7 @@ impl File {
         subsection_name: Option<&[u8]>,
     ) -> Result<(), header::Error>
         requires stands { has_number id self.old ≡ true }
-        ensures invalid_name { IsErrOf result InvalidName ↔ (is_made_name name.now ≡ false) }
-        ensures invalid_subsection { IsErrOf result InvalidSubSection
-            ↔ ((is_made_name name.now ≡ true) × (is_valid_or_none (option_copied subsection_name.entry) ≡ false)) }
-        ensures ok { OnOk result (self.new ≡ with_used self.new.used (apply (Rename id name.now (option_copied subsection_name.entry)) self.old)) }
-        ensures err { OnErr result (self.new ≡ self.old) }
-        ensures used { HeaderGrows name.now (option_copied subsection_name.entry) result self.old.used self.new.used }
+        ensures done { IsEdited header_refusal (Rename id name.now (option_copied subsection_name.entry)) result self.old self.new }
         ensures stands { has_number id self.new ≡ true }
     {
         self.store.rename(id, name, subsection_name)

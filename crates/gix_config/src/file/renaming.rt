@@ -5,7 +5,10 @@ ghost use Rattle.std.specs.Prelude.{◌≡◌, ◌+◌, ◌≤◌, option_map, B
 ghost use Rattle.bstr.specs.Owned.{bstring_bytes};
 ghost use Rattle.gitconf_sources.specs.Metadata.{Meta};
 ghost use Rattle.gitconf_state.specs.Edit.{header_bytes, with_used};
-ghost use Rattle.gitconf_store.specs.Renamings.{AreSomeRenamed, IsRenamed};
+ghost use Rattle.gitconf_state.specs.Edits.{RenameAll};
+ghost use Rattle.gitconf_store.specs.Edited.{IsEdited};
+ghost use Rattle.gitconf_store.specs.RenameErrors.{rename_refusal};
+ghost use Rattle.gitconf_store.specs.Renamings.{AreSomeRenamed, IsToldOfSome};
 
 use crate::file::{File, Metadata, rename_section};
 use bstr::BString;
@@ -32,10 +35,8 @@ impl File {
         new_name: &str,
         new_subsection_name: Option<BString>,
     ) -> Result<(), rename_section::Error>
-        ensures exact { IsRenamed name.now (option_copied subsection_name.entry) (λ _. true) new_name.now
-            (option_map bstring_bytes new_subsection_name) result self.old self.new }
-        ensures err { OnErr result (self.new ≡ self.old) }
-        ensures put { OnOk result (self.new.used ≡ self.old.used + header_bytes new_name.now (option_map bstring_bytes new_subsection_name)) }
+        ensures exact { IsEdited rename_refusal (RenameAll name.now (option_copied subsection_name.entry) (λ _. true) new_name.now
+            (option_map bstring_bytes new_subsection_name)) result self.old self.new }
     {
         self.rename_section_filter(name, subsection_name, new_name, new_subsection_name, |_| {
             true
@@ -58,13 +59,15 @@ impl File {
         requires { F.IsAlwaysCallable filter }
         // For a filter whose result depends only on what it is shown.
         ensures exact { (keeps : Meta → Bool) → ComputesKey F.FnMut keeps filter
-            → IsRenamed name.now (option_copied subsection_name.entry) keeps new_name.now (option_map bstring_bytes new_subsection_name) result
-            self.old self.new }
+            → IsEdited rename_refusal (RenameAll name.now (option_copied subsection_name.entry) keeps new_name.now
+            (option_map bstring_bytes new_subsection_name)) result self.old self.new }
         // For any filter.
         ensures some { OnOk result (AreSomeRenamed name.now (option_copied subsection_name.entry) new_name.now
             (option_map bstring_bytes new_subsection_name) self.old self.new) }
         ensures err { OnErr result (self.new ≡ self.old) }
         ensures put { OnOk result (self.new.used ≡ self.old.used + header_bytes new_name.now (option_map bstring_bytes new_subsection_name)) }
+        ensures told { IsToldOfSome name.now (option_copied subsection_name.entry) new_name.now (option_map bstring_bytes new_subsection_name)
+            result self.old }
     {
         self.store.rename_section_filter(
             name,

@@ -59,9 +59,7 @@ impl<'a> SectionMut<'a> {
     ghost use Rattle.std.specs.Prelude.{◌≡◌, ◌↔◌, false, true, IfOk, IfSome, IsErrAnd, IsErrOf, IsOk, None, OnErr, OnOk, Some, option_map, string_bytes};
     ghost use Rattle.bstr.specs.Owned.{bstring_bytes};
     ghost use Rattle.gitconf_text.specs.Names.{is_made_name, is_valid_or_none, is_value_name};
-    ghost use Rattle.gitconf_text.specs.declared.parse.section.header.Error.TheVariants.{InvalidName, InvalidSubSection};
     ghost use Rattle.gitconf_state.specs.Edit.{with_used};
-    ghost use Rattle.gitconf_store.specs.Renamings.{HeaderGrows};
     ghost use Rattle.gitconf_state.specs.Edits.{answer, apply, Count, Entry, Pop, Push, PushAfterLast, PushLineEnd, Raw, Remove, RemoveMarked, Rename, SetTrust, SetValue};
     ghost use Rattle.gitconf_store.specs.Edited.{IsEdited};
     ghost use Rattle.gitconf_body.specs.Refusals.{header_refusal, span_refusal, value_refusal};
@@ -285,13 +283,8 @@ impl<'a> SectionMut<'a> {
         ensures same_file { lent self.new ≡ lent self.old }
         ensures same_section { number_of self.new ≡ number_of self.old }
         ensures same_editor { editor self.new ≡ editor self.old }
-        ensures invalid_name { IsErrOf result InvalidName ↔ (is_made_name name.now ≡ false) }
-        ensures invalid_subsection { IsErrOf result InvalidSubSection
-            ↔ ((is_made_name name.now ≡ true) × (is_valid_or_none (option_map bstring_bytes subsection_name) ≡ false)) }
-        ensures ok { OnOk result (edited self.new ≡ with_used (edited self.new).used
-            (apply (Rename (number_of self.old) name.now (option_map bstring_bytes subsection_name)) (edited self.old))) }
-        ensures err { OnErr result (edited self.new ≡ edited self.old) }
-        ensures used { HeaderGrows name.now (option_map bstring_bytes subsection_name) result (edited self.old).used (edited self.new).used }
+        ensures done { IsEdited header_refusal (Rename (number_of self.old) name.now (option_map bstring_bytes subsection_name)) result (edited self.old)
+            (edited self.new) }
     {
         self.file
             .rename_numbered(self.id, name, bytes_of(&subsection_name))

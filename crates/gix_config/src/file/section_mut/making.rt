@@ -55,7 +55,6 @@ impl File {
     ghost use Rattle.std.specs.Option.{option_copied, option_map};
     ghost use Rattle.std.specs.Prelude.{◌≡◌, ◌≢◌, ◌⊎◌, ◌↔◌, ◌==◌, ◌+◌, ◌≤◌, ◌^◌, Bool, false, true, IfErr, IfOk, IfSome, IsErrAnd, IsErrOf, MatchResult, None, OnErr};
     ghost use Rattle.gitconf_text.specs.declared.parse.section.header.Error.TheVariants.{InvalidName, InvalidSubSection};
-    ghost use Rattle.gitconf_text.specs.HeaderErrors.{header_number, header_numbers};
     ghost use Rattle.gitconf_text.specs.Names.{is_made_name, is_valid_or_none};
     ghost use Rattle.gitconf_text.specs.SectionKeys.{parsed_section_key};
     ghost use Rattle.gitconf_sources.specs.Metadata.{Meta};
@@ -66,12 +65,13 @@ impl File {
     ghost use Rattle.gitconf_text.specs.Sections.{no_number};
     ghost use Rattle.gitconf_state.specs.Lookup.{listed, miss_of};
     ghost use Rattle.gitconf_lookups.specs.Misses.{IsExisting};
-    ghost use Rattle.gitconf_store.specs.NewSections.{HasNoPlace};
     ghost use Rattle.gitconf_lookups.specs.Picks.{picked};
     ghost use Rattle.gitconf_lookups.specs.SomeSections.{Filtered};
     ghost use Rattle.gix_config.specs.contracts.file.File.{the_row};
     ghost use Rattle.gix_config.specs.Edited.{has_number};
-    ghost use Rattle.gitconf_store.specs.Edited.{done};
+    ghost use Rattle.gitconf_body.specs.Done.{first_cause, IsRefusedFor};
+    ghost use Rattle.gitconf_body.specs.Refusals.{header_refusal};
+    ghost use Rattle.gitconf_store.specs.Edited.{causes, done};
     ghost use Rattle.gix_config.specs.SectionEditors.{blanks_at, edited, editor_at, lent, told, IsEditorOfKey, IsFoundOrMade, IsFoundOrMadeOf, IsNumbered, IsPassingEditorOfKey, IsPickedOf};
 
     /// The number and the blanks of the last section that has the name and subsection.
@@ -325,13 +325,7 @@ impl File {
         ensures same_file { IfOk result (λ e. lent e ≡ self.entry.ghost_name) }
         ensures made { IfOk result (λ e. edited e ≡ done (NewSection name.now (option_map bstring_bytes subsection_name)) self.old) }
         ensures editor { IfOk result (λ e. told e ≡ editor_at self.old (new_section name.now (option_map bstring_bytes subsection_name) self.old)) }
-        ensures name { IsErrOf result InvalidName ↔ (is_made_name name.now ≡ false) }
-        ensures subsection { IsErrOf result InvalidSubSection
-            ↔ ((is_made_name name.now ≡ true) × (is_valid_or_none (option_map bstring_bytes subsection_name) ≡ false)) }
-        ensures too_large { IsErrAnd result (λ e. header_number e ≡ 3)
-            ↔ ((is_made_name name.now ≡ true) × (is_valid_or_none (option_map bstring_bytes subsection_name) ≡ true)
-            × HasNoPlace name.now (option_map bstring_bytes subsection_name) self.old) }
-        ensures known { IfErr result (λ e. list_any (λ number. number == header_number e) header_numbers ≡ true) }
+        ensures told { IsRefusedFor header_refusal (first_cause (causes (NewSection name.now (option_map bstring_bytes subsection_name)) self.old)) result }
         ensures* refused { sem 𝓛 (RestsIfErr the_row self.entry lent result (λ n. n ≡ self.old)) }
     {
         let line_end = self.line_end();

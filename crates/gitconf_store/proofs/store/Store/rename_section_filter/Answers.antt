@@ -1,10 +1,9 @@
-use Rattle.std.proofs.Common.{rules, ◌≡◌, true, Err, Ok, length, map, ap, sym, ◌∙◌, refl}
-use Rattle.std.specs.List.{list_any}
+use Rattle.std.proofs.Common.{rules, ◌≡◌, true, Err, Ok, length, map, ap, ◌∙◌, refl}
 use Rattle.std.specs.Option.{option_copied}
 use Rattle.gitconf_body.specs.Done.{checked, first_cause}
 use Rattle.gitconf_body.specs.Refusals.{header_refusal}
 use Rattle.gitconf_state.specs.Edit.{is_target}
-use Rattle.gitconf_state.specs.Lookup.{is_named, listed, listing}
+use Rattle.gitconf_state.specs.Lookup.{is_named, listing}
 use Rattle.gitconf_state.specs.State.{SectionState}
 use Rattle.gitconf_store.specs.Edited.{heading_causes}
 use Rattle.gitconf_store.specs.RenameErrors.{of_lookup, of_span}
