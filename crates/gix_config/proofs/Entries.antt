@@ -73,13 +73,13 @@ is_pushed name value edited pushed new r is left = (pushed, new, is, left)
 pub shown_section : {T : Type 0} (after : T → State) (shown : T → ℕ × Editor) (give : SectionState → ℕ × Editor) (name : List ℕ) (subsection : Option (List ℕ)) (keeps : Meta → Bool) (old : State)
     (result : Result T HeaderError) → IsFoundOrMade after shown give name subsection keeps old result
     → IsFoundOrMade (λ (m : Edited). m.0) (λ m. m.1) give name subsection keeps old (result_map_both (λ t. (after t, shown t)) (λ e. e) result)
-shown_section after shown give name subsection keeps old (Ok t) is = record {
+shown_section {T} after shown give name subsection keeps old (Ok t) is = record {
   ok = is.ok;
   told = told_ok header_refusal (first_cause (making_causes name subsection (picked name subsection keeps old) old)) t (after t, shown t) is.told;
 }
-shown_section after shown give name subsection keeps old (Err e) is = record {
+shown_section {T} after shown give name subsection keeps old (Err e) is = record {
   ok = is.ok;
-  told = told_err Edited header_refusal (first_cause (making_causes name subsection (picked name subsection keeps old) old)) e is.told;
+  told = told_err T Edited header_refusal (first_cause (making_causes name subsection (picked name subsection keeps old) old)) e is.told;
 }
 
 -- no section was found or made

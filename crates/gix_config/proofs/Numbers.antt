@@ -132,17 +132,17 @@ pub told_ok : {T U E : Type 0} (refusal : Cause → E) (o : Option Cause) (t : T
 told_ok refusal None t u told = tt
 told_ok refusal (Some cause) t u told = absurd (cc)
 
-pub told_err : {T E : Type 0} (U : Type 0) (refusal : Cause → E) (o : Option Cause) (e : E) → IsRefusedFor {T = T} refusal o (Err e) → IsRefusedFor {T = U} refusal o (Err e)
-told_err U refusal None e told = told
-told_err {T} U refusal (Some cause) e told = ap Err (same told)
+pub told_err : {E : Type 0} (T U : Type 0) (refusal : Cause → E) (o : Option Cause) (e : E) → IsRefusedFor {T = T} refusal o (Err e) → IsRefusedFor {T = U} refusal o (Err e)
+told_err T U refusal None e told = told
+told_err T U refusal (Some cause) e told = ap Err (same told)
   where
     same : IsErrOf {T = T} (Err e) (refusal cause) → e ≡ refusal cause
     same is = cc
 
 -- a refusal has a cause
-pub told_cause : {T E : Type 0} (refusal : Cause → E) (o : Option Cause) (e : E) → IsRefusedFor {T = T} refusal o (Err e) → (cause : Cause) × (e ≡ refusal cause)
-told_cause refusal None e told = (OutOfMemory, told)
-told_cause {T} refusal (Some cause) e told = (cause, same told)
+pub told_cause : {E : Type 0} (T : Type 0) (refusal : Cause → E) (o : Option Cause) (e : E) → IsRefusedFor {T = T} refusal o (Err e) → (cause : Cause) × (e ≡ refusal cause)
+told_cause T refusal None e told = (OutOfMemory, told)
+told_cause T refusal (Some cause) e told = (cause, same told)
   where
     same : IsErrOf {T = T} (Err e) (refusal cause) → e ≡ refusal cause
     same is = cc
@@ -151,8 +151,8 @@ told_cause {T} refusal (Some cause) e told = (cause, same told)
 pub answered : {T U E : Type 0} (refusal : Cause → E) (edit : Edit) (t : T) (u : U) (old new : State) → IsEdited refusal edit (Ok t) old new → IsEdited refusal edit (Ok u) old new
 answered refusal edit t u old new e = record { ok = e.ok; err = tt; told = told_ok refusal (first_cause (causes edit old)) t u e.told }
 
-pub unanswered : {T E : Type 0} (U : Type 0) (refusal : Cause → E) (edit : Edit) (e : E) (old new : State) → IsEdited {T = T} refusal edit (Err e) old new → IsEdited {T = U} refusal edit (Err e) old new
-unanswered {T} U refusal edit e old new is = record { ok = tt; err = is.err; told = told_err {T = T} U refusal (first_cause (causes edit old)) e is.told }
+pub unanswered : {E : Type 0} (T U : Type 0) (refusal : Cause → E) (edit : Edit) (e : E) (old new : State) → IsEdited {T = T} refusal edit (Err e) old new → IsEdited {T = U} refusal edit (Err e) old new
+unanswered T U refusal edit e old new is = record { ok = tt; err = is.err; told = told_err T U refusal (first_cause (causes edit old)) e is.told }
 
 -- what a store says of a section that is renamed, and is there
 pub renamed_in : {T : Type 0} (id : ℕ) (name : List ℕ) (subsection : Option (List ℕ)) (result : Result T HeaderError) (old new : State) → has_number id old ≡ true

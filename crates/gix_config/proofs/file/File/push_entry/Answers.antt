@@ -6,6 +6,7 @@ use Rattle.gitconf_state.specs.Editors.{pushed}
 use Rattle.gitconf_body.specs.Editors.{line_put}
 use Rattle.gitconf_body.specs.Refusals.{value_refusal}
 use Rattle.gitconf_body.specs.ValueErrors.{of_span}
+use Rattle.gitconf_body.specs.declared.value.Error.TheVariants.{ValueName}
 use Rattle.gitconf_body.proofs.Puts.{line_is}
 use Rattle.gitconf_store.specs.Editors.{given_editor}
 use Rattle.gitconf_store.specs.Edited.{IsEdited}
@@ -16,7 +17,7 @@ use Rattle.gix_config.proofs.file.File.push_entry.Goals as goal
 pub returns-then-not-is_value_name-clause-done : goal.returns-then-not-is_value_name-clause-done
 returns-then-not-is_value_name-clause-done c =
     let none : is_value_name c.args.key.now ≡ false = search rules in
-    entry_unnamed _ value_refusal (Push c.args.id (given_editor c.args.editor.now) c.args.key.now (option_copied c.args.value) (option_copied c.args.comment)) c.args.key.now _ c.args.self.now none refl refl
+    entry_unnamed _ value_refusal (Push c.args.id (given_editor c.args.editor.now) c.args.key.now (option_copied c.args.value) (option_copied c.args.comment)) c.args.key.now _ c.args.self.now none refl (ap ValueName c.invalid.ensures)
 
 pub returns-clause-done : goal.returns-clause-done
 returns-clause-done c =
@@ -41,4 +42,6 @@ returns-clause-stands c =
     (items_keep_numbers c.args.id c.args.id (pushed (given_editor c.args.editor.now) c.args.key.now (option_copied c.args.value) (option_copied c.args.comment)) c.args.self.now) c.requires.stands (returns-clause-done c)
 
 pub returns-in_err-push_entry-clause-stands : goal.returns-in_err-push_entry-clause-stands
-returns-in_err-push_entry-clause-stands c = ap (has_number c.args.id) (returns-in_err-push_entry-clause-done c).err ∙ c.requires.stands
+returns-in_err-push_entry-clause-stands c =
+    edited_stands value_refusal (Push c.args.id (given_editor c.args.editor.now) c.args.key.now (option_copied c.args.value) (option_copied c.args.comment)) _ c.args.self.now c.push_entry.new.self c.args.id
+    (items_keep_numbers c.args.id c.args.id (pushed (given_editor c.args.editor.now) c.args.key.now (option_copied c.args.value) (option_copied c.args.comment)) c.args.self.now) c.requires.stands (returns-in_err-push_entry-clause-done c)

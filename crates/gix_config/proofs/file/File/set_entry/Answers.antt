@@ -5,6 +5,7 @@ use Rattle.gitconf_state.specs.Editors.{value_set}
 use Rattle.gitconf_body.specs.Editors.{set_put}
 use Rattle.gitconf_body.specs.Refusals.{value_refusal}
 use Rattle.gitconf_body.specs.ValueErrors.{of_span}
+use Rattle.gitconf_body.specs.declared.value.Error.TheVariants.{ValueName}
 use Rattle.gitconf_body.proofs.Puts.{set_is}
 use Rattle.gitconf_store.specs.Editors.{given_editor}
 use Rattle.gitconf_store.specs.Edited.{IsEdited}
@@ -15,7 +16,7 @@ use Rattle.gix_config.proofs.file.File.set_entry.Goals as goal
 pub returns-then-not-is_value_name-clause-done : goal.returns-then-not-is_value_name-clause-done
 returns-then-not-is_value_name-clause-done c =
     let none : is_value_name c.args.key.now ≡ false = search rules in
-    entry_unnamed _ value_refusal (SetValue c.args.id (given_editor c.args.editor.now) c.args.key.now c.args.value.now) c.args.key.now _ c.args.self.now none refl refl
+    entry_unnamed _ value_refusal (SetValue c.args.id (given_editor c.args.editor.now) c.args.key.now c.args.value.now) c.args.key.now _ c.args.self.now none refl (ap ValueName c.invalid.ensures)
 
 pub returns-clause-done : goal.returns-clause-done
 returns-clause-done c =
@@ -40,4 +41,6 @@ returns-clause-stands c =
     (items_keep_numbers c.args.id c.args.id (value_set (given_editor c.args.editor.now) c.args.key.now c.args.value.now) c.args.self.now) c.requires.stands (returns-clause-done c)
 
 pub returns-in_err-old-clause-stands : goal.returns-in_err-old-clause-stands
-returns-in_err-old-clause-stands c = ap (has_number c.args.id) (returns-in_err-old-clause-done c).err ∙ c.requires.stands
+returns-in_err-old-clause-stands c =
+    edited_stands value_refusal (SetValue c.args.id (given_editor c.args.editor.now) c.args.key.now c.args.value.now) _ c.args.self.now c.set_entry.new.self c.args.id
+    (items_keep_numbers c.args.id c.args.id (value_set (given_editor c.args.editor.now) c.args.key.now c.args.value.now) c.args.self.now) c.requires.stands (returns-in_err-old-clause-done c)

@@ -1,4 +1,4 @@
-use Rattle.std.proofs.Common.{◌≡◌, Result, Ok, Err, Unit, refl, ap, ◌∙◌}
+use Rattle.std.proofs.Common.{refl, ap, ◌∙◌}
 use Rattle.gitconf_state.specs.Edits.{WriteAt}
 use Rattle.gitconf_state.specs.Editors.{written_at}
 use Rattle.gitconf_body.specs.Refusals.{span_refusal}
