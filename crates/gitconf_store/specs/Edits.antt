@@ -26,9 +26,3 @@ set_new name subsection key value state = with_last (section_with (file_line_end
 -- the result is a refusal with this number
 abbrev pub IsRefusal : {T : Type 0} → Result T Error → ℕ → Type 0
 IsRefusal result number = IsErrAnd result (λ e. set_number e ≡ number)
-
--- For any filter: the value is set in a section that has the name and subsection, or in a new one after all others.
-abbrev pub IsSetSomewhere : (name : List ℕ) → (subsection : Option (List ℕ)) → (key value : List ℕ) → (old new : State) → Type 0
-IsSetSomewhere name subsection key value old new =
-    ((at : ℕ) × (option_map (λ s. is_named name subsection (listing s)) (slice_get old.sections at) ≡ Some true) × (new ≡ with_used new.used (set_at at key value old)))
-    ⊎ (new ≡ with_used new.used (set_new name subsection key value old))

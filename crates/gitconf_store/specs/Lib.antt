@@ -9,5 +9,6 @@ pub mod Renamings
 pub mod NewSections
 pub mod Appends
 pub mod Edited
+pub mod SetSomewhere
 pub mod LeavingOut
 pub mod ItemsEdits

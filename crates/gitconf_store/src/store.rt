@@ -114,7 +114,8 @@ impl Store {
     ghost use Rattle.gitconf_text.specs.LineEnds.{bytes_of_line_end};
     ghost use Rattle.gitconf_views.specs.Counts.{are_void, section_entries};
     ghost use Rattle.gitconf_store.specs.Edits as edits;
-    ghost use Rattle.gitconf_store.specs.Edits.{IsSetSomewhere, UsedGrows};
+    ghost use Rattle.gitconf_store.specs.Edits.{UsedGrows};
+    ghost use Rattle.gitconf_store.specs.SetSomewhere.{IsSetSomewhere};
     ghost use Rattle.gitconf_store.specs.Edited.{IsEdited, made_causes};
     ghost use Rattle.gitconf_store.specs.SetErrors.{set_refusal};
     ghost use Rattle.gitconf_store.specs.declared.set_raw_value.Error.TheVariants.{ValueName};
@@ -575,7 +576,6 @@ impl Store {
         filter: F,
     ) -> Result<Option<BString>, set_raw_value::Error>
         requires { F.IsAlwaysCallable filter }
-        ensures value_name { IsErrOf result (ValueName 6) ↔ (is_value_name value_name.now ≡ false) }
         // For a filter whose result depends only on what it is shown.
         ensures exact { (keeps : Meta → Bool) → ComputesKey F.FnMut keeps filter
             → IsEdited set_refusal (SetRawValue section_name.now (option_copied subsection_name.entry) value_name.now keeps new_value.now)
@@ -584,8 +584,7 @@ impl Store {
             → IfOk result (λ o. Raw (option_map bstring_bytes o)
             ≡ states.answer (SetRawValue section_name.now (option_copied subsection_name.entry) value_name.now keeps new_value.now) self.old) }
         // For any filter, even one that changes its mind.
-        ensures somewhere { OnOk result (IsSetSomewhere section_name.now (option_copied subsection_name.entry) value_name.now new_value.now self.old self.new) }
-        ensures err { OnErr result (self.new ≡ self.old) }
+        ensures somewhere { IsSetSomewhere section_name.now (option_copied subsection_name.entry) value_name.now new_value.now result self.old self.new }
     {
         let key = value_name.as_bytes();
         if !is_value_name(key) {
@@ -618,7 +617,6 @@ impl Store {
             result self.old self.new }
         ensures answer { IfOk result (λ o. Raw (option_map bstring_bytes o)
             ≡ states.answer (SetRawValue section_name.now (option_copied subsection_name.entry) value_name.now (λ _. true) new_value.now) self.old) }
-        ensures err { OnErr result (self.new ≡ self.old) }
     {
         self.set_raw_value_filter_by(
             section_name,

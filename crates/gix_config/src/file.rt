@@ -90,7 +90,7 @@ impl File {
     ghost use Rattle.gitconf_state.specs.State.{IsState, SectionState, document_of, document_of_kept, entries_of};
     ghost use Rattle.gitconf_state.specs.Edit.{with_used};
     ghost use Rattle.gitconf_views.specs.Counts.{are_void, section_entries};
-    ghost use Rattle.gitconf_store.specs.Edits.{IsSetSomewhere};
+    ghost use Rattle.gitconf_store.specs.SetSomewhere.{IsSetSomewhere};
     ghost use Rattle.gitconf_store.specs.Edited.{IsEdited};
     ghost use Rattle.gitconf_store.specs.SetErrors.{set_refusal};
     ghost use Rattle.gitconf_store.specs.declared.set_raw_value.Error.TheVariants.{ValueName};
@@ -357,15 +357,13 @@ impl File {
     ) -> Result<Option<BString>, set_raw_value::Error>
         requires known { IsSome (K.key key) }
         requires callable { F.IsAlwaysCallable filter }
-        ensures value_name { IsErrOf result (ValueName 6) ↔ (is_value_name (the_key (K.key key)).name ≡ false) }
         // For a filter whose result depends only on what it is shown.
         ensures exact { (keeps : Meta → Bool) → ComputesKey F.FnMut keeps filter
             → IsSetByKey (the_key (K.key key)) keeps new_value.now result self.old self.new }
         ensures answer { (keeps : Meta → Bool) → ComputesKey F.FnMut keeps filter
             → IfOk result (λ o. Raw (option_map bstring_bytes o) ≡ states.answer (set_by_key (the_key (K.key key)) keeps new_value.now) self.old) }
         // For any filter, even one that changes its mind.
-        ensures somewhere { OnOk result (let k = the_key (K.key key) in IsSetSomewhere k.section k.subsection k.name new_value.now self.old self.new) }
-        ensures err { OnErr result (self.new ≡ self.old) }
+        ensures somewhere { let k = the_key (K.key key) in IsSetSomewhere k.section k.subsection k.name new_value.now result self.old self.new }
     {
         let key = key.as_key();
         self.set_raw_value_filter_by(
@@ -391,7 +389,6 @@ impl File {
         filter: F,
     ) -> Result<Option<BString>, set_raw_value::Error>
         requires { F.IsAlwaysCallable filter }
-        ensures value_name { IsErrOf result (ValueName 6) ↔ (is_value_name value_name.now ≡ false) }
         // For a filter whose result depends only on what it is shown.
         ensures exact { (keeps : Meta → Bool) → ComputesKey F.FnMut keeps filter
             → IsEdited set_refusal (SetRawValue section_name.now (option_copied subsection_name.entry) value_name.now keeps new_value.now)
@@ -400,8 +397,7 @@ impl File {
             → IfOk result (λ o. Raw (option_map bstring_bytes o)
             ≡ states.answer (SetRawValue section_name.now (option_copied subsection_name.entry) value_name.now keeps new_value.now) self.old) }
         // For any filter, even one that changes its mind.
-        ensures somewhere { OnOk result (IsSetSomewhere section_name.now (option_copied subsection_name.entry) value_name.now new_value.now self.old self.new) }
-        ensures err { OnErr result (self.new ≡ self.old) }
+        ensures somewhere { IsSetSomewhere section_name.now (option_copied subsection_name.entry) value_name.now new_value.now result self.old self.new }
     {
         self.store.set_raw_value_filter_by(
             section_name,

@@ -1,9 +1,11 @@
 -- A value that is set by its names.
 use Rattle.std.proofs.Common.{◌≡◌, ◌⊎◌, ℕ, ◌+◌, ◌≤◌, ◌^◌, ◌||◌, ◌&&◌, Bool, true, false, not, List, [], ◌∷◌, ◌++◌, length, Option, Some, None, Result, Ok, Err, inl, inr, refl, ap, sym, subst, ◌∙◌}
 use Rattle.std.specs.List.{list_any, last_or, slice_get}
+use Rattle.std.specs.Option.{option_map}
 use Rattle.std.specs.Prelude.{◌==◌, if◌then◌else◌, filter, IfSome, IsErrOf}
 use Rattle.std.proofs.lemmas.Bool.{eqb-true, leb-true, le-leb}
 use Rattle.bstr.specs.declared.bstring.BString.{BString}
+use Rattle.bstr.specs.Owned.{bstring_bytes}
 use Rattle.gitconf_text.specs.Names.{is_made_name, is_valid_or_none, is_value_name}
 use Rattle.gitconf_text.specs.declared.parse.section.header.Error.{Error as HeaderError}
 use Rattle.gitconf_sources.specs.Metadata.{Meta}
@@ -12,16 +14,19 @@ use Rattle.gitconf_body.specs.Done.{Cause, InvalidKey, InvalidName, InvalidSubse
 use Rattle.gitconf_body.specs.Growth.{UsedGrows}
 use Rattle.gitconf_body.specs.Places.{IsLastAt}
 use Rattle.gitconf_body.specs.Refusals.{header_refusal}
+use Rattle.gitconf_body.proofs.Done.{key_err, key_ok}
 use Rattle.gitconf_state.specs.Edit.{is_target, old_value, new_section_bytes, section_with, set_bytes, set_raw_value, set_raw_value_bytes, with_used}
 use Rattle.gitconf_state.specs.Edits.{Raw, SetRawValue, answer}
 use Rattle.gitconf_state.specs.LineEnds.{file_line_end}
+use Rattle.gitconf_state.specs.Lookup.{is_named, listing}
 use Rattle.gitconf_state.specs.State.{SectionState, State}
 use Rattle.gitconf_state.proofs.Edits.Lists.{any_at, filter_none, last_passing}
 use Rattle.gitconf_state.proofs.Edits.Places.{set_raw_value_at, set_raw_value_new, replaced_value_at, replaced_value_none}
 use Rattle.gitconf_store.specs.declared.set_raw_value.Error.{Error}
-use Rattle.gitconf_store.specs.declared.set_raw_value.Error.TheVariants.{Memory, Span}
+use Rattle.gitconf_store.specs.declared.set_raw_value.Error.TheVariants.{Memory, Span, ValueName}
 use Rattle.gitconf_store.specs.Edited.{IsEdited, causes, made_causes}
 use Rattle.gitconf_store.specs.Edits.{update_at, set_at, set_new}
+use Rattle.gitconf_store.specs.SetSomewhere.{IsSetSomewhere}
 use Rattle.gitconf_store.specs.SetErrors.{of_header, of_span, set_number, set_refusal}
 use Rattle.gitconf_store.proofs.Places.Targets.{stands_at}
 
@@ -219,3 +224,67 @@ pub answer_at : (name : List ℕ) (subsection : Option (List ℕ)) (key : List �
 answer_at name subsection key keeps value old at o bytes l was same =
     ap Raw (same ∙ subst (λ s. IfSome s (λ s. bytes ≡ old_value key s.items)) (at_last name subsection keeps old at l) was
     ∙ sym (replaced_value_at name subsection key keeps old l.before l.found l.behind l.is l.passes l.none))
+
+-- Whatever a filter answers, where no section was chosen: a name that is none, a section that can't be made, and one that is made.
+pub unnamed_somewhere : (name : List ℕ) (subsection : Option (List ℕ)) (key value : List ℕ) (old : State) (e : Error) → is_value_name key ≡ false → e ≡ ValueName 6
+    → IsSetSomewhere name subsection key value (Err e) old old
+unnamed_somewhere name subsection key value old e none six = (None, (record {
+    ok = tt;
+    err = refl;
+    told = subst (λ k. IsRefusedFor {T = Option BString} set_refusal (first_cause ((not k, InvalidKey) ∷ made_causes name subsection (new_section_bytes (file_line_end old) name subsection key value) old)) (Err e))
+        (sym none) (ap Err six);
+  }, tt))
+
+pub unmade_somewhere : (name : List ℕ) (subsection : Option (List ℕ)) (key value : List ℕ) (old new : State) (e : HeaderError) → is_value_name key ≡ true → new ≡ old
+    → IsRefusedFor {T = Unit {0}} header_refusal (first_cause (made_causes name subsection (new_section_bytes (file_line_end old) name subsection key value) old)) (Err e)
+    → IsSetSomewhere name subsection key value (Err (of_header e)) old new
+unmade_somewhere name subsection key value old new e keyed same told = (None, (record {
+    ok = tt;
+    err = same;
+    told = subst (λ k. IsRefusedFor {T = Option BString} set_refusal (first_cause ((not k, InvalidKey) ∷ made_causes name subsection (new_section_bytes (file_line_end old) name subsection key value) old)) (Err (of_header e)))
+        (sym keyed)
+        (made_refusal (Unit {0}) (Option BString) (is_made_name name) (is_valid_or_none subsection) (is_full old.used (new_section_bytes (file_line_end old) name subsection key value)) (old.next == no_number) e _ refl told);
+  }, tt))
+
+pub made_somewhere : (name : List ℕ) (subsection : Option (List ℕ)) (key value : List ℕ) (old new : State) → is_value_name key ≡ true → new ≡ with_used new.used (set_new name subsection key value old)
+    → new.used ≡ old.used + new_section_bytes (file_line_end old) name subsection key value
+    → IsRefusedFor header_refusal (first_cause (made_causes name subsection (new_section_bytes (file_line_end old) name subsection key value) old)) (Ok (tt {0}))
+    → IsSetSomewhere name subsection key value (Ok None) old new
+made_somewhere name subsection key value old new keyed made put told = (None, (record {
+    ok = made ∙ ap (λ n. with_used n (set_new name subsection key value old)) put;
+    err = tt;
+    told = subst (λ k. IsRefusedFor {T = Option BString} set_refusal (first_cause ((not k, InvalidKey) ∷ made_causes name subsection (new_section_bytes (file_line_end old) name subsection key value) old)) (Ok None))
+        (sym keyed)
+        (made_none (is_made_name name) (is_valid_or_none subsection) (is_full old.used (new_section_bytes (file_line_end old) name subsection key value)) (old.next == no_number) (tt {0}) None _ refl told);
+  }, refl))
+
+-- where one was chosen
+chosen : (test : SectionState → Bool) (o : Option SectionState) → option_map test o ≡ Some true → (s : SectionState) × (o ≡ Some s) × (test s ≡ true)
+chosen test None is = absurd (cc)
+chosen test (Some s) is = (s, refl, cc)
+
+pub found_somewhere : {T : Type 0} (name : List ℕ) (subsection : Option (List ℕ)) (key value : List ℕ) (old new : State) (at : ℕ) (t : T) (o : Option BString) (bytes : Option (List ℕ)) → is_value_name key ≡ true
+    → option_map (λ s. is_named name subsection (listing s)) (slice_get old.sections at) ≡ Some true → new ≡ with_used new.used (set_at at key value old)
+    → IfSome (slice_get old.sections at) (λ s. bytes ≡ old_value key s.items) → option_map bstring_bytes o ≡ bytes
+    → IfSome (slice_get old.sections at) (λ s. UsedGrows {T = T} (Ok t) (set_bytes (file_line_end old) key value s.items) old.used new.used)
+    → IsSetSomewhere name subsection key value (Ok o) old new
+found_somewhere {T} name subsection key value old new at t o bytes keyed has set was same used =
+    let s = chosen (λ s. is_named name subsection (listing s)) (slice_get old.sections at) has in
+    let grows = subst (λ o. IfSome o (λ s. UsedGrows {T = T} (Ok t) (set_bytes (file_line_end old) key value s.items) old.used new.used)) s.1 used in
+    let value_was = subst (λ o. IfSome o (λ s. bytes ≡ old_value key s.items)) s.1 was in (Some at, (s.0, s.1, s.2, record {
+        ok = set ∙ ap (λ n. with_used n (set_at at key value old)) grows.put;
+        err = tt;
+        told = key_ok set_refusal t o key old.used new.used (set_bytes (file_line_end old) key value s.0.items) keyed grows;
+      }, same ∙ value_was))
+
+pub unset_somewhere : (T : Type 0) (name : List ℕ) (subsection : Option (List ℕ)) (key value : List ℕ) (old new : State) (at : ℕ) (e : ℕ) → is_value_name key ≡ true
+    → option_map (λ s. is_named name subsection (listing s)) (slice_get old.sections at) ≡ Some true → new ≡ old
+    → IfSome (slice_get old.sections at) (λ s. UsedGrows {T = T} (Err e) (set_bytes (file_line_end old) key value s.items) old.used new.used)
+    → IsSetSomewhere name subsection key value (Err (of_span e)) old new
+unset_somewhere T name subsection key value old new at e keyed has same used =
+    let s = chosen (λ s. is_named name subsection (listing s)) (slice_get old.sections at) has in
+    let grows = subst (λ o. IfSome o (λ s. UsedGrows {T = T} (Err e) (set_bytes (file_line_end old) key value s.items) old.used new.used)) s.1 used in (Some at, (s.0, s.1, s.2, record {
+        ok = tt;
+        err = same;
+        told = key_err {T = T} (Option BString) set_refusal e (of_span e) key old.used new.used (set_bytes (file_line_end old) key value s.0.items) keyed grows (ap of_span) (ap of_span);
+      }, tt))
