@@ -1,9 +1,7 @@
 -- What edits of a store change, by a section's place.
-use Rattle.std.specs.Prelude.{◌≡◌, ◌⊎◌, ℕ, zero, suc, true, List, [], ◌∷◌, Option, Some, Result, slice_get, IsErrAnd}
-use Rattle.std.specs.Option.{option_map}
-use Rattle.gitconf_state.specs.Edit.{new_section, section_with, with_used}
+use Rattle.std.specs.Prelude.{◌≡◌, ℕ, zero, suc, List, [], ◌∷◌, Option, Result, IsErrAnd}
+use Rattle.gitconf_state.specs.Edit.{new_section, section_with}
 use Rattle.gitconf_state.specs.LineEnds.{file_line_end}
-use Rattle.gitconf_state.specs.Lookup.{is_named, listing}
 use Rattle.gitconf_state.specs.State.{State, with_last}
 use Rattle.gitconf_store.specs.declared.set_raw_value.Error.{Error}
 use Rattle.gitconf_store.specs.SetErrors.{set_number}
