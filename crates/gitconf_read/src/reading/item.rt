@@ -9,12 +9,13 @@ ghost use Rattle.gitconf_read.specs.ItemReading.{IsReadTo, IsRefusal, IsValueRea
 ghost use Rattle.gitconf_items.specs.Items.{entry_of, tokens_of_items, tokens_of_value};
 ghost use Rattle.gitconf_items.specs.ItemsFit.{AreItemsWithin, EntryFits, ValueFits};
 ghost use Rattle.gitconf_read.specs.Reading.{entry_at, part_at};
-ghost use Rattle.gitconf_read.specs.Stretches.{IsStretch, IsKeptStretch, IsBreak};
+ghost use Rattle.gitconf_read.specs.declared.reading.Expected.{Expected};
+ghost use Rattle.gitconf_read.specs.Stretches.{IsStretch, IsKeptStretch, IsGapRead, IsBreak};
 
 use super::entry::is_assignment;
 use super::header::header;
 use super::part::{Opening, part_opening};
-use super::run::{Run, run_end};
+use super::run::{Run, long_run_end, run_end};
 use super::value::{PieceEnd, piece_end};
 use super::{Expected, Fault, ReadError};
 use gitconf_items::entry::{Assigned, Entry, EntryParts, Piece, Value};
@@ -159,7 +160,7 @@ fn entry(alloc: Global, input: &[u8], at: usize) -> Result<(Entry, usize), ReadE
     ensures inside { IfOk result (λ r. r.1 ≤ length input.now) }
     ensures refused { IfErr result (IsRefusal (entry_at input.now at [])) }
 {
-    let name_end = run_end(input, at + 1, Run::NameBytes);
+    let name_end = long_run_end(input, at + 1, Run::NameBytes);
     let blanks_end = run_end(input, name_end, Run::Blanks);
     let name = Span::between(at, name_end);
     let blanks = Span::between(name_end, blanks_end);
@@ -210,7 +211,7 @@ fn push_item(
             Ok(end)
         }
         Opening::Comment => {
-            let end = run_end(input, at + 1, Run::CommentText);
+            let end = long_run_end(input, at + 1, Run::CommentText);
             let text = Span::between(at + 1, end);
             let tag = input[at];
             match keep {
@@ -229,6 +230,58 @@ fn push_item(
             expected: wanted,
         })),
     }
+}
+
+/// Adds the line endings at an offset, if there are any and they are kept, and returns the offset after them.
+#[inline(always)]
+fn push_line_ends(
+    input: &[u8],
+    at: usize,
+    keep: Keep,
+    items: &mut Vec<Item>,
+) -> Result<usize, ReadError>
+    requires within { at ≤ length input.now }
+    requires fits { length input.now < 2 ^ 32 }
+    ensures found { IfOk result (λ end. (wanted : Expected) → IsGapRead keep input.now at wanted items.old.items items.new.items end) }
+    ensures behind { IfOk result (λ end. at ≤ end) }
+    ensures inside { IfOk result (λ end. end ≤ length input.now) }
+    ensures memory { IsOkUnless result Memory }
+{
+    let end = run_end(input, at, Run::LineEnds);
+    if at == end {
+        return Ok(end);
+    }
+    match keep {
+        Keep::All => items.push(Item::LineEnds(Span::between(at, end)))?,
+        Keep::Meaning => {}
+    }
+    Ok(end)
+}
+
+/// Adds the blanks at an offset, if there are any and they are kept, and returns the offset after them.
+#[inline(always)]
+fn push_blanks(
+    input: &[u8],
+    at: usize,
+    keep: Keep,
+    items: &mut Vec<Item>,
+) -> Result<usize, ReadError>
+    requires within { at ≤ length input.now }
+    requires fits { length input.now < 2 ^ 32 }
+    ensures found { IfOk result (λ end. (wanted : Expected) → IsGapRead keep input.now at wanted items.old.items items.new.items end) }
+    ensures behind { IfOk result (λ end. at ≤ end) }
+    ensures inside { IfOk result (λ end. end ≤ length input.now) }
+    ensures memory { IsOkUnless result Memory }
+{
+    let end = run_end(input, at, Run::Blanks);
+    if at == end {
+        return Ok(end);
+    }
+    match keep {
+        Keep::All => items.push(Item::Blanks(Span::between(at, end)))?,
+        Keep::Meaning => {}
+    }
+    Ok(end)
 }
 
 /// Adds what is kept of the items from an offset on, up to a header or the end, and returns the offset after them.
@@ -251,7 +304,10 @@ pub fn push_items(
 {
     let mut at = start;
     while at < input.len() && input[at] != b'[' {
-        at = push_item(alloc, input, at, wanted, keep, items)?;
+        let end = push_item(alloc, input, at, wanted, keep, items)?;
+        // What follows an item is mostly the end of its line, and then blanks.
+        let line_end = push_line_ends(input, end, keep, items)?;
+        at = push_blanks(input, line_end, keep, items)?;
     }
     Ok(at)
 }
