@@ -47,7 +47,8 @@ impl Open {
         }
     }
 
-    fn after_blanks(self, run: &[u8]) -> Open
+    /// The same after blanks.
+    pub(crate) fn after_blanks(self, run: &[u8]) -> Open
         ensures { open_of result ≡ spec.after_blanks run.now (open_of self) }
     {
         match self {
