@@ -39,6 +39,7 @@ fn unquoted(input: &[u8], from: usize, end: usize) -> Option<(Header, usize)>
 }
 
 /// The offset of the quote that ends the subsection whose spelling begins at an offset.
+#[inline(always)]
 #[tactic(auto, unfolding(crate::specs::Reading::spelling_from))]
 fn spelling_end(input: &[u8], from: usize) -> Option<usize>
     requires within { from ≤ length input.now }
@@ -68,6 +69,7 @@ fn spelling_end(input: &[u8], from: usize) -> Option<usize>
 }
 
 /// The header with quotes whose name, from `from` on, ends at `end`, where blanks may be.
+#[inline(always)]
 #[tactic(auto, unfolding(crate::specs::Reading::quoted_header))]
 fn quoted(input: &[u8], from: usize, end: usize) -> Option<(Header, usize)>
     requires ordered { from ≤ end }
@@ -95,6 +97,7 @@ fn quoted(input: &[u8], from: usize, end: usize) -> Option<(Header, usize)>
 }
 
 /// The header whose bracket is at an offset, and the offset after it.
+#[inline(always)]
 #[tactic(auto, unfolding(crate::specs::Reading::header_at))]
 pub fn header(input: &[u8], at: usize) -> Option<(Header, usize)>
     requires within { at < length input.now }

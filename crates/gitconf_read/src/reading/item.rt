@@ -1,5 +1,5 @@
 //! Items, read as they are in a text.
-ghost use Rattle.std.specs.Prelude.{◌≡◌, ◌≤◌, ◌<◌, ◌^◌, ◌==◌, ◌∷◌, ◌++◌, [], false, None, length, get_or, IfOk, IfErr, OnOk, IsOkUnless};
+ghost use Rattle.std.specs.Prelude.{◌≡◌, ◌≤◌, ◌<◌, ◌+◌, ◌^◌, ◌==◌, ◌∷◌, ◌++◌, [], false, None, length, get_or, IfOk, IfErr, OnOk, IsOkUnless};
 ghost use Rattle.gitconf_text.specs.Token.{HeaderToken, item_tokens};
 ghost use Rattle.gitconf_text.specs.Part.{EntryItem};
 ghost use Rattle.gitconf_read.specs.declared.reading.Expected.TheVariants.{Name};
@@ -8,7 +8,7 @@ ghost use Rattle.gitconf_items.specs.Events.{bytes_of, header_of, SpanFits, Head
 ghost use Rattle.gitconf_read.specs.ItemReading.{IsReadTo, IsRefusal, IsValueRead, IsValueRefusal, IsEntryWith, IsKeptRead};
 ghost use Rattle.gitconf_items.specs.Items.{entry_of, tokens_of_items, tokens_of_value};
 ghost use Rattle.gitconf_items.specs.ItemsFit.{AreItemsWithin, EntryFits, ValueFits};
-ghost use Rattle.gitconf_read.specs.Reading.{entry_at, part_at};
+ghost use Rattle.gitconf_read.specs.Reading.{entry_at, part_at, span};
 ghost use Rattle.gitconf_read.specs.declared.reading.Expected.{Expected};
 ghost use Rattle.gitconf_read.specs.Stretches.{IsStretch, IsKeptStretch, IsGapRead, IsBreak};
 
@@ -103,31 +103,45 @@ fn long_entry(
     Ok((Entry::try_new(alloc, parts)?, end))
 }
 
-/// The entry with a name, the blanks after it and those after `=`, whose value begins at an offset, and the offset after it.
-#[inline(always)]
-fn assigned_entry(
-    alloc: Global,
-    input: &[u8],
-    name: Span,
-    blanks: Span,
-    behind: Span,
+/// An entry up to its value, by the offsets where the name begins and ends, where the blanks after it end, at `=`, and where the blanks
+/// after that end.
+#[derive(Clone, Copy)]
+struct Front {
+    start: usize,
+    name_end: usize,
+    sign: usize,
     first: usize,
-) -> Result<(Entry, usize), ReadError>
-    requires within { first ≤ length input.now }
+}
+
+/// The entry that begins like this, and the offset after it.
+#[inline(always)]
+fn assigned_entry(alloc: Global, input: &[u8], front: Front) -> Result<(Entry, usize), ReadError>
+    requires name { front.start ≤ front.name_end }
+    requires blanks { front.name_end ≤ front.sign }
+    requires sign { front.sign < front.first }
+    requires within { front.first ≤ length input.now }
     requires fits { length input.now < 2 ^ 32 }
-    requires spans { SpanFits (length input.now) name × SpanFits (length input.now) blanks × SpanFits (length input.now) behind }
-    ensures found { IfOk result (λ r. IsEntryWith input.now name blanks behind first r.0 r.1) }
+    ensures found { IfOk result (λ r. IsEntryWith input.now (span front.start front.name_end) (span front.name_end front.sign)
+        (span (front.sign + 1) front.first) front.first r.0 r.1) }
     ensures spans { IfOk result (λ r. EntryFits (length input.now) r.0) }
-    ensures behind { IfOk result (λ r. first ≤ r.1) }
+    ensures behind { IfOk result (λ r. front.first ≤ r.1) }
     ensures inside { IfOk result (λ r. r.1 ≤ length input.now) }
-    ensures refused { IfErr result (IsValueRefusal input.now first) }
+    ensures refused { IfErr result (IsValueRefusal input.now front.first) }
 {
+    let Front {
+        start,
+        name_end,
+        sign,
+        first,
+    } = front;
     if let PieceEnd::Last(end) = piece_end(input, first, false) {
-        let last = Span::between(first, end);
-        if let Some(entry) = Entry::of_line(name, blanks, behind, last) {
+        if let Some(entry) = Entry::of_line(start, name_end, sign, first, end) {
             return Ok((entry, end));
         }
     }
+    let name = Span::between(start, name_end);
+    let blanks = Span::between(name_end, sign);
+    let behind = Span::between(sign + 1, first);
     long_entry(alloc, input, name, blanks, behind, first)
 }
 
@@ -161,16 +175,20 @@ fn entry(alloc: Global, input: &[u8], at: usize) -> Result<(Entry, usize), ReadE
     ensures refused { IfErr result (IsRefusal (entry_at input.now at [])) }
 {
     let name_end = long_run_end(input, at + 1, Run::NameBytes);
-    let blanks_end = run_end(input, name_end, Run::Blanks);
-    let name = Span::between(at, name_end);
-    let blanks = Span::between(name_end, blanks_end);
-    if is_assignment(input, blanks_end) {
-        let first = run_end(input, blanks_end + 1, Run::Blanks);
-        let behind = Span::between(blanks_end + 1, first);
-        assigned_entry(alloc, input, name, blanks, behind, first)
+    let sign = run_end(input, name_end, Run::Blanks);
+    if is_assignment(input, sign) {
+        let front = Front {
+            start: at,
+            name_end,
+            sign,
+            first: run_end(input, sign + 1, Run::Blanks),
+        };
+        assigned_entry(alloc, input, front)
     } else {
+        let name = Span::between(at, name_end);
+        let blanks = Span::between(name_end, sign);
         let entry = bare_entry(alloc, input, name, blanks)?;
-        Ok((entry, blanks_end))
+        Ok((entry, sign))
     }
 }
 
@@ -313,6 +331,7 @@ pub fn push_items(
 }
 
 /// The header whose bracket is at an offset, and the offset after it; `wanted` is reported as looked for if no header is there.
+#[inline(always)]
 pub fn header_first(input: &[u8], at: usize, wanted: Expected) -> Result<(Header, usize), ReadError>
     requires within { at < length input.now }
     requires headed { get_or input.now at 0 ≡ 91 }
