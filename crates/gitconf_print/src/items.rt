@@ -253,7 +253,7 @@ fn write_next<W: Sink>(
     match item {
         Item::Blanks(blanks) => {
             let run = go_on(out, buffer, before.run, Run::of(*blanks))?;
-            let open = before.open.after_blanks(blanks.bytes_in(buffer));
+            let open = before.open.after_blanks(buffer, *blanks);
             Ok(Before { open, run })
         }
         Item::LineEnds(line_ends) => {
