@@ -1,5 +1,5 @@
 -- How entries are held.
-use Rattle.std.specs.Prelude.{ℕ, Bool, ◌+◌, ◌<◌, ◌^◌, ◌||◌, eqb}
+use Rattle.std.specs.Prelude.{ℕ, Bool, ◌+◌, ◌-◌, ◌<◌, ◌^◌, ◌||◌, eqb}
 use Rattle.gitconf_items.specs.declared.event.Span.{Span}
 use Rattle.gitconf_items.specs.declared.entry.Assigned.TheVariants as assigned
 use Rattle.gitconf_items.specs.declared.entry.EntryParts.{EntryParts}
@@ -24,6 +24,14 @@ parts_in (forms.Bare l) = record {
   assigned = assigned.Plain (record { start = 0; len = 0 }) (record { start = l.start + l.name + l.before + 1 + l.behind; len = l.value });
 }
 parts_in (forms.Apart parts) = parts.value
+
+-- the parts of an entry that a line has: its name between two offsets, `=` at a third, its value between two more, and blanks between these
+abbrev pub line_parts : (start name_end sign first end : ℕ) → EntryParts
+line_parts start name_end sign first end = record {
+  name = record { start = start; len = name_end - start };
+  blanks = record { start = name_end; len = sign - name_end };
+  assigned = assigned.Plain (record { start = sign + 1; len = first - (sign + 1) }) (record { start = first; len = end - first });
+}
 
 -- each offset of its parts is one that a buffer may have
 abbrev pub FormFits : Form → Type 0

@@ -2,11 +2,11 @@
 //!
 //! Nearly all entries are in a buffer as one line wrote them, and their parts are short; such an entry is the offset of its
 //! name and four lengths, even if its blanks were left out. Any other entry has its parts in a box.
-ghost use Rattle.std.specs.Prelude.{◌≡◌, ◌+◌, ℕ, List, Some, IfOk, IfSome};
+ghost use Rattle.std.specs.Prelude.{◌≡◌, ◌≤◌, ◌<◌, ◌+◌, ◌^◌, ℕ, List, Some, IfOk, IfSome};
 ghost use Rattle.gitconf_items.specs.Events.{bytes_of, SpanFits};
 ghost use Rattle.gitconf_items.specs.Items.{assigned_of, entry_of, lent, value_of};
 ghost use Rattle.gitconf_items.specs.ItemsFit.{AssignedFits, EntryFits, ValueFits};
-ghost use Rattle.gitconf_items.specs.Forms.{FormFits, parts_in, stands_at};
+ghost use Rattle.gitconf_items.specs.Forms.{FormFits, line_parts, parts_in, stands_at};
 ghost use Rattle.gitconf_items.specs.declared.entry.Assigned.TheVariants as assigned;
 ghost use Rattle.gitconf_items.specs.declared.entry.Form.TheVariants as forms;
 
@@ -158,17 +158,37 @@ impl Entry {
         })
     }
 
-    /// The entry of a name and a value, with the blanks before and after `=`; `None` if such an entry takes memory.
+    /// The entry of a name and a value, as a line has them: the offsets where the name begins and ends, where the blanks after it end, at
+    /// `=`, and where the value begins and ends; `None` if such an entry takes memory.
     #[inline(always)]
-    pub fn of_line(name: Span, before: Span, behind: Span, value: Span) -> Option<Entry>
-        ensures told { IfSome result (λ e. (buffer : List ℕ) → entry_of buffer e
-            ≡ entry_of buffer (record { name = name; blanks = before; assigned = assigned.Plain behind value })) }
-        ensures fits { IfSome result (λ e. (limit : ℕ) → SpanFits limit value → EntryFits limit e) }
+    pub fn of_line(
+        start: usize,
+        name_end: usize,
+        sign: usize,
+        first: usize,
+        end: usize,
+    ) -> Option<Entry>
+        requires name { start ≤ name_end }
+        requires blanks { name_end ≤ sign }
+        requires sign { sign < first }
+        requires value { first ≤ end }
+        requires fits { end < 2 ^ 32 }
+        ensures told { IfSome result (λ e. e ≡ line_parts start name_end sign first end) }
     {
-        match line_form(name, before, behind, value) {
-            Some(form) => Some(Entry { form }),
-            None => None,
+        let name = name_end - start;
+        let before = sign - name_end;
+        let behind = first - sign - 1;
+        if name > u16::MAX as usize || before > u8::MAX as usize || behind > u8::MAX as usize {
+            return None;
         }
+        let form = Form::Line(Line {
+            start: start as u32,
+            name: name as u16,
+            before: before as u8,
+            behind: behind as u8,
+            value: (end - first) as u32,
+        });
+        Some(Entry { form })
     }
 
     /// How its parts are held.
@@ -317,7 +337,6 @@ fn name_form(name: Span, blanks: Span) -> Option<Form>
 }
 
 /// A name and its value, if they are as a line has them, and short.
-#[inline(always)]
 fn line_form(name: Span, before: Span, behind: Span, value: Span) -> Option<Form>
     ensures told { IfSome result (λ f. (buffer : List ℕ) → entry_of buffer (parts_in f)
         ≡ entry_of buffer (record { name = name; blanks = before; assigned = assigned.Plain behind value })) }

@@ -75,6 +75,7 @@ impl Span {
     ghost use Rattle.gitconf_items.specs.Events.{bytes_of};
 
     /// Its bytes in the buffer, as far as the buffer has them.
+    #[inline(always)]
     #[tactic(auto, using(std::proofs::lemmas::List::take_min, std::proofs::lemmas::List::drop_all))]
     pub fn bytes_in(self, buffer: &[u8]) -> &[u8]
         ensures { result.now ≡ bytes_of buffer.now self }

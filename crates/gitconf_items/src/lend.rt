@@ -32,6 +32,7 @@ pub fn subsection_name<'a>(buffer: &'a [u8], copies: &'a [u8], header: &Header) 
     }
 }
 
+#[inline(never)]
 fn header_ref<'a>(buffer: &'a [u8], copies: &'a [u8], header: Header) -> EventRef<'a>
     requires fits { HeaderFits (length buffer.now) header }
     requires copy_fits { CopyFits (length copies.now) header.decoded }
@@ -50,6 +51,7 @@ fn header_ref<'a>(buffer: &'a [u8], copies: &'a [u8], header: Header) -> EventRe
 }
 
 /// An event with its bytes; `copies` has the decoded subsections.
+#[inline(always)]
 pub fn event_ref<'a>(buffer: &'a [u8], copies: &'a [u8], event: &Event) -> EventRef<'a>
     requires fits { EventFits (length buffer.now) event.now }
     requires copy_fits { EventCopyFits (length copies.now) event.now }

@@ -58,6 +58,18 @@ fn append(text: &mut Vec<u8>, bytes: &[u8]) -> Result<(), NoMemory>
     Ok(())
 }
 
+/// Writes a line ending, which is mostly one byte.
+#[inline(always)]
+fn append_line_end(text: &mut Vec<u8>, line_end: &[u8]) -> Result<(), NoMemory>
+    ensures { OnOk result (text.new.items ≡ text.old.items ++ line_end.now) }
+{
+    match line_end {
+        [byte] => text.push(*byte)?,
+        _ => text.extend_from_slice(line_end)?,
+    }
+    Ok(())
+}
+
 fn append_times(text: &mut Vec<u8>, count: usize, byte: u8) -> Result<(), NoMemory>
     ensures { OnOk result (text.new.items ≡ text.old.items ++ setting.replicate count byte) }
 {
@@ -252,7 +264,7 @@ fn end_lines(
     for b in run {
         if *b == b'\n' {
             if !place.is_dropped() {
-                append(text, line_end)?;
+                append_line_end(text, line_end)?;
             }
             place = place.on_next_line(options);
         }

@@ -1,9 +1,6 @@
 -- Gaps: line endings and blanks, which tell a walk nothing.
-use Rattle.std.proofs.Common.{◌≡◌, ℕ, ◌<◌, Bool, true, false, List, [], ◌∷◌, ◌++◌, length, drop, inl, inr, refl, ap, sym, subst, ◌∙◌, append-nil}
-use Rattle.std.specs.Prelude.{◌==◌, if◌then◌else◌}
-use Rattle.std.proofs.lemmas.Bool.{cases_lt, eqb-true}
+use Rattle.std.proofs.Common.{◌≡◌, ℕ, Bool, true, false, List, [], ◌∷◌, ◌++◌, drop, refl, ap, sym, subst, ◌∙◌, append-nil}
 use Rattle.std.proofs.lemmas.Grind.{flat_map-append}
-use Rattle.std.proofs.lemmas.List.{drop_all}
 use Rattle.gitconf_sources.specs.Key.{Key}
 use Rattle.gitconf_text.specs.Bytes.{is_blank}
 use Rattle.gitconf_text.specs.Part.{BlanksItem, LineEndsItem, Part, ItemPart}
@@ -13,14 +10,15 @@ use Rattle.gitconf_items.specs.Events.{bytes_of}
 use Rattle.gitconf_read.specs.declared.reading.Expected.{Expected}
 use Rattle.gitconf_read.specs.declared.reading.part.Opening.TheVariants as openings
 use Rattle.gitconf_read.specs.declared.reading.run.Run.TheVariants as runs
-use Rattle.gitconf_read.specs.Reading.{opening_of, run_end_at, span}
+use Rattle.gitconf_read.specs.Reading.{run_end_at, span}
 use Rattle.gitconf_read.specs.Stretches.{IsStretch}
 use Rattle.gitconf_read.proofs.ItemReading.{blanks_read, line_ends_read}
+use Rattle.gitconf_read.proofs.Openings.{blank_opens, line_end_opens, within_text}
 use Rattle.gitconf_read.proofs.Runs.{end_of_run_step}
 use Rattle.gitconf_read.proofs.Stretches.{both_stretches, no_stretch}
 use Rattle.gitconf_parse.specs.Met.{Standing, after_part, after_parts, met_at, met_in}
 use Rattle.gitconf_parse.specs.Walk.{IsGap}
-use Rattle.gitconf_parse.proofs.Fours.{empty_run}
+use Rattle.gitconf_read.proofs.Fours.{empty_run}
 use Rattle.gitconf_parse.proofs.Walks.{after_both, item_stretch, met_both}
 
 -- nothing is a gap
@@ -46,34 +44,6 @@ one_gap input a b wanted p stretch quiet = record {
   stretch = subst (λ t. IsStretch input a wanted b wanted t) (sym (append-nil (part_tokens p))) stretch;
   quiet = λ key s. (append-nil (met_at key s p) ∙ (quiet key s).0, (quiet key s).1);
 }
-
--- a byte that belongs to a run is no end of a text
-within_text : (test : List ℕ → Bool) (input : List ℕ) (n : ℕ) → test [] ≡ false → test (drop n input) ≡ true → n < length input
-within_text test input n none some = elim (cases_lt n (length input)) [
-  | inl within ↦ within
-  | inr behind ↦ absurd (let wrong = sym none ∙ ap test (sym (drop_all n input behind)) ∙ some in cc)
-]
-
-blank_opens : (text : List ℕ) → begins is_blank text ≡ true → opening_of text ≡ openings.Blanks
-blank_opens [] some = absurd (cc)
-blank_opens (b ∷ rest) some = rw some refl
-
-not_blank : (b : ℕ) (rest : List ℕ) → begins_line_end (b ∷ rest) ≡ true → is_blank b ≡ false
-not_blank b rest some = go (b == 10) (b == 13) refl refl
-  where
-    go : (t u : Bool) → (b == 10) ≡ t → (b == 13) ≡ u → is_blank b ≡ false
-    go true u e f = ap is_blank (eqb-true b 10 e)
-    go false true e f = ap is_blank (eqb-true b 13 f)
-    go false false e f = absurd (let wrong = rw (e, f) at some in cc)
-
-second : {A : Type 0} (x y : Bool) (p q r : A) → x ≡ false → y ≡ true → (if x then p else if y then q else r) ≡ q
-second false true p q r one other = refl
-second true y p q r one other = absurd (cc)
-second false false p q r one other = absurd (cc)
-
-line_end_opens : (text : List ℕ) → begins_line_end text ≡ true → opening_of text ≡ openings.LineEnds
-line_end_opens [] some = absurd (cc)
-line_end_opens (b ∷ rest) some = second (is_blank b) (begins_line_end (b ∷ rest)) _ _ _ (not_blank b rest some) some
 
 -- the blanks at an offset, if there are any
 pub blanks_gap : (input : List ℕ) (n : ℕ) (wanted : Expected) (end : ℕ) → end ≡ run_end_at input runs.Blanks n → IsGap input n wanted end

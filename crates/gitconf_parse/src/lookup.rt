@@ -24,13 +24,9 @@ use gitconf_read::reading::{Expected, ReadError, mark_len};
 use gitconf_sources::key::{AsKey, KeyRef};
 use std::alloc::Global;
 
-mod class;
 mod entry;
-mod header;
 mod meaning;
 mod named;
-mod part;
-mod run;
 mod value;
 mod walk;
 

@@ -205,9 +205,9 @@ fn end_before<W: Sink>(
     })
 }
 
-/// Writes what comes before and an item, with a line ending between if they would otherwise run together, and returns what
-/// comes before the next item, with the run that is still to be written.
-fn write_next<W: Sink>(
+/// Writes what comes before and a comment or an entry, with a line ending between if they would otherwise run together, and returns
+/// what comes before the next item, with the run that is still to be written.
+fn write_words<W: Sink>(
     out: &mut W,
     buffer: &[u8],
     before: Before,
@@ -228,6 +228,43 @@ fn write_next<W: Sink>(
         open: before.open.after(buffer, item),
         run,
     })
+}
+
+/// Writes what comes before and an item, with a line ending between if they would otherwise run together, and returns what
+/// comes before the next item, with the run that is still to be written.
+///
+/// Most items are blanks and line endings, which run together with nothing, so they are a short way of their own.
+#[inline(always)]
+fn write_next<W: Sink>(
+    out: &mut W,
+    buffer: &[u8],
+    before: Before,
+    item: &Item,
+    in_body: bool,
+    line_end: LineEnd,
+) -> Result<Before, SinkFault>
+    requires ordered { before.run.start ≤ before.run.end }
+    ensures written { WritesBut result (λ b. run_of buffer.now b.run) (run_of buffer.now before.run
+        ++ next_text in_body (bytes_of_line_end line_end) (open_of before.open) (item_of buffer.now item.now)) (W.told out.old) (W.told out.new) }
+    ensures counted { Counts result (W.faults out.old) (W.faults out.new) }
+    ensures behind { IfOk result (λ b. open_of b.open ≡ behind_next in_body (open_of before.open) (item_of buffer.now item.now)) }
+    ensures ordered { IfOk result (λ b. b.run.start ≤ b.run.end) }
+{
+    match item {
+        Item::Blanks(blanks) => {
+            let run = go_on(out, buffer, before.run, Run::of(*blanks))?;
+            let open = before.open.after_blanks(buffer, *blanks);
+            Ok(Before { open, run })
+        }
+        Item::LineEnds(line_ends) => {
+            let run = go_on(out, buffer, before.run, Run::of(*line_ends))?;
+            let open = Open::Closed;
+            Ok(Before { open, run })
+        }
+        Item::Comment { .. } | Item::Entry(_) => {
+            write_words(out, buffer, before, item, in_body, line_end)
+        }
+    }
 }
 
 /// Writes a run and items after it, as [`write_items`] does.

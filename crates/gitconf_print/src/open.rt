@@ -6,6 +6,7 @@ ghost use Rattle.gitconf_items.specs.Events.{bytes_of};
 ghost use Rattle.gitconf_print.specs.Open.{open_of};
 
 use gitconf_items::entry::{AssignedRef, Entry};
+use gitconf_items::event::Span;
 use gitconf_items::items::Item;
 
 /// What comes before in the same list, since the last line ending.
@@ -40,18 +41,20 @@ impl Open {
         ensures { open_of result ≡ spec.after (open_of self) (item_of buffer.now item.now) }
     {
         match item {
-            Item::Blanks(run) => self.after_blanks(run.bytes_in(buffer)),
+            Item::Blanks(run) => self.after_blanks(buffer, *run),
             Item::LineEnds(_) => Open::Closed,
             Item::Comment { .. } => Open::Comment,
             Item::Entry(entry) => self.after_entry(buffer, entry),
         }
     }
 
-    fn after_blanks(self, run: &[u8]) -> Open
-        ensures { open_of result ≡ spec.after_blanks run.now (open_of self) }
+    /// What comes before the next item, after blanks.
+    #[inline(always)]
+    pub(crate) fn after_blanks(self, buffer: &[u8], run: Span) -> Open
+        ensures { open_of result ≡ spec.after_blanks (bytes_of buffer.now run) (open_of self) }
     {
         match self {
-            Open::Key if !run.is_empty() => Open::KeyAndBlanks,
+            Open::Key if !run.bytes_in(buffer).is_empty() => Open::KeyAndBlanks,
             _ => self,
         }
     }
@@ -60,12 +63,24 @@ impl Open {
     fn after_entry(self, buffer: &[u8], entry: &Entry) -> Open
         ensures { open_of result ≡ spec.after_entry (open_of self) (bytes_of buffer.now entry.now.blanks) (assigned_of buffer.now entry.now.assigned) }
     {
-        match (self, entry.assigned()) {
-            (Open::Comment, AssignedRef::Nothing | AssignedRef::Plain { .. }) => Open::Comment,
-            (Open::Comment, AssignedRef::Continued(continued))
-                if continued.value.pieces.is_empty() => { Open::Comment }
-            (_, AssignedRef::Nothing) => Open::Key.after_blanks(entry.blanks().bytes_in(buffer)),
-            (_, AssignedRef::Plain { .. } | AssignedRef::Continued(_)) => Open::Value,
+        if matches!(self, Open::Comment) {
+            return after_comment(entry);
+        }
+        match entry.assigned() {
+            AssignedRef::Nothing => Open::Key.after_blanks(buffer, entry.blanks()),
+            AssignedRef::Plain { .. } | AssignedRef::Continued(_) => Open::Value,
+        }
+    }
+}
+
+/// What comes before the next item, after an entry after a comment.
+fn after_comment(entry: &Entry) -> Open
+    ensures { (buffer : List ℕ) → open_of result ≡ spec.after_entry spec.OpenComment (bytes_of buffer entry.now.blanks) (assigned_of buffer entry.now.assigned) }
+{
+    match entry.assigned() {
+        AssignedRef::Continued(continued) if !continued.value.pieces.is_empty() => Open::Value,
+        AssignedRef::Nothing | AssignedRef::Plain { .. } | AssignedRef::Continued(_) => {
+            Open::Comment
         }
     }
 }

@@ -32,7 +32,8 @@ impl Run {
     }
 
     /// The bytes of a span.
-    fn of(span: Span) -> Run
+    #[inline(always)]
+    pub(crate) fn of(span: Span) -> Run
         ensures value { (buffer : List ℕ) → run_of buffer result ≡ bytes_of buffer span }
         ensures ordered { result.start ≤ result.end }
     {

@@ -22,3 +22,7 @@ pub mod Pieces
 pub mod Stretches
 pub mod ItemReading
 pub mod KeptItems
+pub mod Fours
+pub mod Openings
+pub mod KeptGaps
+pub mod EventGaps

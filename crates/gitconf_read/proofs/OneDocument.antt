@@ -1,5 +1,5 @@
 -- A text has at most one document: the same text gives the same events, these the same tokens, and the tokens the document.
-use Rattle.std.proofs.Common.{◌≡◌, ℕ, ◌+◌, List, [], ◌∷◌, ◌++◌, length, drop, map, Ok, ap, sym, ◌∙◌, append-nil}
+use Rattle.std.proofs.Common.{◌≡◌, ℕ, ◌+◌, List, [], ◌++◌, length, drop, map, Ok, ap, sym, ◌∙◌, append-nil}
 use Rattle.gitconf_text.specs.Part.{Part, spelled, AreFit}
 use Rattle.gitconf_text.specs.Token.{tokens_of}
 use Rattle.gitconf_text.specs.Document.{gathered}

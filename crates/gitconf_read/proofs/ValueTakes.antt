@@ -1,8 +1,7 @@
 -- What is read as a value is one.
 use Rattle.std.proofs.Common.{◌≡◌, ◌≢◌, ◌≤◌, arith, ℕ, zero, suc, ◌+◌, Bool, true, false, not, List, [], ◌∷◌, ◌++◌, length, drop, refl, ap, subst, cond, append_assoc, Ok, inl, inr}
-use Rattle.std.specs.Prelude.{◌&&◌, ◌||◌, ◌==◌}
+use Rattle.std.specs.Prelude.{◌&&◌, ◌==◌}
 use Rattle.std.proofs.lemmas.Bool.{eqb-true}
-use Rattle.gitconf_text.specs.Bytes.{is_whitespace}
 use Rattle.gitconf_text.specs.Text.{begins, ends, is_line_end}
 use Rattle.gitconf_text.specs.Unit.{Class, LineFeed, Quote, Mark, Backslash, White, Other, class_of, is_white, TextUnit, Escape, Plain, units_of, units_behind}
 use Rattle.gitconf_text.specs.Value.{is_value_escape, are_paired, may_follow_value, Piece, IsEnded}

@@ -122,6 +122,10 @@ value_behind input first events joined from ends.Refused = Err (record { at = fi
 abbrev pub is_plain : ℕ → Bool
 is_plain b = elim (class_of b) [ Other ↦ true | _ ↦ false ]
 
+-- a byte that stands for itself in a quoted subsection
+abbrev pub is_spelled : ℕ → Bool
+is_spelled b = elim (class_of b) [ LineFeed ↦ false | Quote ↦ false | Backslash ↦ false | _ ↦ true ]
+
 -- what a run consists of: whether the text from a byte on goes on with it
 abbrev pub run_test : Run → List ℕ → Bool
 run_test runs.Blanks text = begins is_blank text
@@ -146,6 +150,10 @@ run_end_at input run n = end_of_run (run_test run) n (drop n input)
 -- the events and a blanks token, if there are blanks
 abbrev pub with_blanks : List Event → (from end : ℕ) → List Event
 with_blanks events from end = if nat_lt from end then events ++ kinds.Whitespace (span from end) ∷ [] else events
+
+-- the events and a newline token, if there are line endings
+abbrev pub with_line_ends : List Event → (from end : ℕ) → List Event
+with_line_ends events from end = if nat_lt from end then events ++ kinds.Newline (span from end) ∷ [] else events
 
 -- what is assigned, after a name and its blanks
 unfoldable pub assigned_at : (input : List ℕ) → (n : ℕ) → List Event → Read

@@ -5,7 +5,10 @@ use Rattle.gitconf_text.specs.Text.{begins}
 use Rattle.gitconf_text.specs.Part.{Part, ItemPart, HeaderPart, spelled, AreFit}
 use Rattle.gitconf_text.specs.Stuck.{IsAssignment, spelled_assignment, NoValue, NoPart}
 use Rattle.gitconf_text.specs.Token.{Token, tokens_of}
+use Rattle.gitconf_items.specs.declared.items.Item.{Item}
 use Rattle.gitconf_items.specs.declared.items.Keep.{Keep}
+use Rattle.gitconf_items.specs.Items.{tokens_of_items}
+use Rattle.gitconf_items.specs.ItemsFit.{AreItemsWithin}
 use Rattle.gitconf_items.specs.TokenDocument.{tokens_kept}
 use Rattle.gitconf_read.specs.declared.reading.Fault.{Fault}
 use Rattle.gitconf_read.specs.declared.reading.Expected.{Expected}
@@ -53,6 +56,11 @@ pub record IsKeptStretch (keep : Keep) (input : List ℕ) (from : ℕ) (first : 
   pub tokens : List Token
   pub stretch : IsStretch input from first to last tokens
   pub kept_are : kept ≡ tokens_kept keep tokens
+
+-- What is kept of the items up to an offset was read; then what is kept of the items up to `end` was, and spans are still within the text.
+pub record IsGapRead (keep : Keep) (input : List ℕ) (at : ℕ) (wanted : Expected) (old new : List Item) (end : ℕ) : Type 0 where
+  pub goes_on : (start : ℕ) → IsKeptStretch keep input start wanted at wanted (tokens_of_items input old) → IsKeptStretch keep input start wanted end wanted (tokens_of_items input new)
+  pub fit : AreItemsWithin (length input) old → AreItemsWithin (length input) new
 
 -- Between two offsets, of which a header is looked for at the first, are parts; to the tokens handed over before, those that are kept of
 -- these parts were added.

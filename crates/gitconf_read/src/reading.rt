@@ -51,12 +51,12 @@ impl<T: Drop> From<AllocFailed<T>> for ReadError {
 }
 
 mod class;
-mod entry;
+pub mod entry;
 mod header;
 pub mod item;
-mod part;
-mod run;
-mod value;
+pub mod part;
+pub mod run;
+pub mod value;
 
 /// How many bytes the mark EF BB BF takes at the front of a text.
 pub fn mark_len(input: &[u8]) -> usize

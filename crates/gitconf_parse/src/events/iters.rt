@@ -48,6 +48,7 @@ impl<'a> Iterator for EventIter<'a> {
 
     ghost remaining = { item_count events_left };
 
+    #[inline(always)]
     fn next(&mut self) -> Option<EventRef<'a>> {
         let (first, others) = self.events.split_first()?;
         self.events = others;

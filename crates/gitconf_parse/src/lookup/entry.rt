@@ -1,12 +1,12 @@
 //! Entries: where the name, the value and the entry end.
-ghost use Rattle.std.specs.Prelude.{◌≡◌, ◌≤◌, ◌<◌, ◌^◌, ◌==◌, [], length, drop, IfOk, IfErr};
-ghost use Rattle.gitconf_text.specs.Text.{begins};
+ghost use Rattle.std.specs.Prelude.{◌≤◌, ◌<◌, ◌^◌, [], length, IfOk, IfErr};
 ghost use Rattle.gitconf_read.specs.ItemReading.{IsRefusal};
 ghost use Rattle.gitconf_read.specs.Reading.{entry_at};
 ghost use Rattle.gitconf_parse.specs.Places.{IsEntryRead, ValueInside};
 
-use crate::lookup::run::{Run, long_run_end, run_end};
 use crate::lookup::value::value_end;
+use gitconf_read::reading::entry::is_assignment;
+use gitconf_read::reading::run::{Run, long_run_end, run_end};
 use gitconf_read::reading::{Expected, Fault, ReadError};
 
 /// The offsets of an entry's parts.
@@ -18,15 +18,6 @@ pub struct EntryPlace {
     pub value: Option<usize>,
     /// After the entry.
     pub end: usize,
-}
-
-/// Whether `=` is at an offset.
-#[inline(always)]
-fn is_assignment(input: &[u8], at: usize) -> bool
-    requires { at ≤ length input.now }
-    ensures { result ≡ begins (λ b. b == 61) (drop at input.now) }
-{
-    at < input.len() && input[at] == b'='
 }
 
 /// The entry whose name begins, with a letter, at an offset.

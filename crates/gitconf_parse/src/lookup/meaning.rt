@@ -6,9 +6,9 @@ ghost use Rattle.gitconf_text.specs.Value.{plain};
 ghost use Rattle.gitconf_parse.specs.Met.{raw_meaning};
 ghost use Rattle.gitconf_parse.specs.Places.{raw_at, ValueInside};
 
-use crate::lookup::value::{PieceEnd, piece_end};
 use bstr::BString;
 use gitconf_items::event::Span;
+use gitconf_read::reading::value::{PieceEnd, piece_end};
 use gitconf_text::NoMemory;
 use gitconf_text::value::normalize;
 use std::alloc::Global;

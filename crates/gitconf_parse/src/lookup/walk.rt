@@ -10,10 +10,10 @@ ghost use Rattle.gitconf_parse.specs.Places.{ValueInside};
 ghost use Rattle.gitconf_parse.specs.Walk.{IsGap, IsWalk, mets_of};
 
 use crate::lookup::entry::entry;
-use crate::lookup::header::header_first;
 use crate::lookup::named::{is_meant, is_named};
-use crate::lookup::part::{Opening, part_opening};
-use crate::lookup::run::{Run, long_run_end, run_end};
+use gitconf_read::reading::item::header_first;
+use gitconf_read::reading::part::{Opening, part_opening};
+use gitconf_read::reading::run::{Run, long_run_end, run_end};
 use gitconf_read::reading::{Expected, Fault, ReadError};
 use gitconf_sources::key::KeyRef;
 

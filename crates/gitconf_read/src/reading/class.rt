@@ -6,22 +6,32 @@ ghost use Rattle.gitconf_read.specs.Reading as spec;
 /// Letters, digits and the dash.
 const NAME: u8 = 1;
 
-/// Letters, digits, the dash and the dot.
-const HEADER: u8 = 2;
-
 /// Bytes that stand for themselves in a value, quotes or not: all but LF, `;`, `#`, a quote, a backslash and white space.
-const PLAIN: u8 = 4;
+const PLAIN: u8 = 2;
 
-// For each byte a digit, whose low three bits are the flags above.
-static CLASS: [u8; 256] = *b"\
-    44444444400400444444444444444444\
-    04004444444447647777777777404444\
-    47777777777777777777777777740444\
-    47777777777777777777777777744444\
-    44444444444444444444444444444444\
-    44444444444444444444444444444444\
-    44444444444444444444444444444444\
-    44444444444444444444444444444444";
+/// Space and tab.
+const BLANK: u8 = 4;
+
+/// Letters, digits, the dash and the dot.
+const HEADER: u8 = 8;
+
+/// Bytes that stand for themselves in a quoted subsection: all but LF, a quote and a backslash.
+const SPELLED: u8 = 16;
+
+// For each byte the sum of the flags above.
+static CLASS: [u8; 256] = [
+    18, 18, 18, 18, 18, 18, 18, 18, 18, 20, 0, 18, 16, 16, 18, 18, 18, 18, 18, 18, 18, 18, 18, 18,
+    18, 18, 18, 18, 18, 18, 18, 18, 20, 18, 0, 16, 18, 18, 18, 18, 18, 18, 18, 18, 18, 27, 26, 18,
+    27, 27, 27, 27, 27, 27, 27, 27, 27, 27, 18, 16, 18, 18, 18, 18, 18, 27, 27, 27, 27, 27, 27, 27,
+    27, 27, 27, 27, 27, 27, 27, 27, 27, 27, 27, 27, 27, 27, 27, 27, 27, 27, 27, 18, 0, 18, 18, 18,
+    18, 27, 27, 27, 27, 27, 27, 27, 27, 27, 27, 27, 27, 27, 27, 27, 27, 27, 27, 27, 27, 27, 27, 27,
+    27, 27, 27, 18, 18, 18, 18, 18, 18, 18, 18, 18, 18, 18, 18, 18, 18, 18, 18, 18, 18, 18, 18, 18,
+    18, 18, 18, 18, 18, 18, 18, 18, 18, 18, 18, 18, 18, 18, 18, 18, 18, 18, 18, 18, 18, 18, 18, 18,
+    18, 18, 18, 18, 18, 18, 18, 18, 18, 18, 18, 18, 18, 18, 18, 18, 18, 18, 18, 18, 18, 18, 18, 18,
+    18, 18, 18, 18, 18, 18, 18, 18, 18, 18, 18, 18, 18, 18, 18, 18, 18, 18, 18, 18, 18, 18, 18, 18,
+    18, 18, 18, 18, 18, 18, 18, 18, 18, 18, 18, 18, 18, 18, 18, 18, 18, 18, 18, 18, 18, 18, 18, 18,
+    18, 18, 18, 18, 18, 18, 18, 18, 18, 18, 18, 18, 18, 18, 18, 18,
+];
 
 /// Whether the byte is a letter, a digit or a dash.
 #[inline(always)]
@@ -31,12 +41,28 @@ pub fn is_name_byte(byte: u8) -> bool
     CLASS[byte as usize] & NAME != 0
 }
 
+/// Whether the byte is a space or a tab.
+#[inline(always)]
+pub fn is_blank(byte: u8) -> bool
+    ensures { result ≡ text_bytes.is_blank byte }
+{
+    CLASS[byte as usize] & BLANK != 0
+}
+
 /// Whether the byte is a letter, a digit, a dash or a dot.
 #[inline(always)]
 pub fn is_header_byte(byte: u8) -> bool
     ensures { result ≡ text_bytes.is_header_byte byte }
 {
     CLASS[byte as usize] & HEADER != 0
+}
+
+/// Whether the byte stands for itself between the quotes of a header.
+#[inline(always)]
+pub fn is_spelled(byte: u8) -> bool
+    ensures { result ≡ spec.is_spelled byte }
+{
+    CLASS[byte as usize] & SPELLED != 0
 }
 
 /// Whether the byte stands for itself in a value, quotes or not.

@@ -6,13 +6,14 @@ ghost use Rattle.gitconf_read.specs.declared.reading.run.Run.TheVariants.{Blanks
 ghost use Rattle.gitconf_read.specs.Reading.{Gives, with_blanks, run_end_at, assigned_at, entry_at};
 
 use super::ReadError;
-use super::run::{Run, run_end};
+use super::run::{Run, long_run_end, run_end};
 use super::value::value_events;
 use crate::compact::EventVec;
 use gitconf_items::event::{Event, Span};
 
 /// The blanks at an offset, if there are any.
-fn blanks(input: &[u8], at: usize, events: &mut EventVec) -> Result<usize, ReadError>
+#[inline(always)]
+pub fn blanks(input: &[u8], at: usize, events: &mut EventVec) -> Result<usize, ReadError>
     requires within { at ≤ length input.now }
     requires fits { length input.now < 2 ^ 32 }
     ensures events { IfOk result (λ end. events.new ≡ with_blanks events.old at end) }
@@ -66,7 +67,7 @@ pub fn entry(input: &[u8], at: usize, events: &mut EventVec) -> Result<usize, Re
     ensures behind { IfOk result (λ end. at < end) }
     ensures inside { IfOk result (λ end. end ≤ length input.now) }
 {
-    let name_end = run_end(input, at + 1, Run::NameBytes);
+    let name_end = long_run_end(input, at + 1, Run::NameBytes);
     events.push(Event::SectionValueName(Span::between(at, name_end)))?;
     let blanks_end = blanks(input, name_end, events)?;
     assigned(input, blanks_end, events)

@@ -3,7 +3,8 @@ ghost use Rattle.std.specs.Prelude.{◌≡◌, ◌≤◌, ◌<◌, ◌^◌, leng
 ghost use Rattle.std.specs.Option.{option_map};
 ghost use Rattle.gitconf_read.specs.Reading.{unquoted_header, quoted_header, header_at, spelling_from};
 
-use super::run::{Run, run_end};
+use super::class::is_spelled;
+use super::run::{Run, long_run_end, run_end};
 use gitconf_items::event::{Header, Span};
 
 /// The header without quotes whose name, from `from` on, ends with the bracket at `end`.
@@ -15,7 +16,7 @@ fn unquoted(input: &[u8], from: usize, end: usize) -> Option<(Header, usize)>
     ensures behind { IfSome result (λ found. from < found.1) }
     ensures inside { IfSome result (λ found. found.1 ≤ length input.now) }
 {
-    let dot = run_end(input, from, Run::NameBytes);
+    let dot = long_run_end(input, from, Run::NameBytes);
     if dot < end {
         let header = Header {
             name: Span::between(from, dot),
@@ -38,6 +39,7 @@ fn unquoted(input: &[u8], from: usize, end: usize) -> Option<(Header, usize)>
 }
 
 /// The offset of the quote that ends the subsection whose spelling begins at an offset.
+#[inline(always)]
 #[tactic(auto, unfolding(crate::specs::Reading::spelling_from))]
 fn spelling_end(input: &[u8], from: usize) -> Option<usize>
     requires within { from ≤ length input.now }
@@ -48,7 +50,12 @@ fn spelling_end(input: &[u8], from: usize) -> Option<usize>
 {
     let mut i = from;
     while i < input.len() {
-        match input[i] {
+        let byte = input[i];
+        if is_spelled(byte) {
+            i += 1;
+            continue;
+        }
+        match byte {
             b'"' => return Some(i),
             b'\n' => return None,
             b'\\' => match input.get(i + 1).copied() {
@@ -62,6 +69,7 @@ fn spelling_end(input: &[u8], from: usize) -> Option<usize>
 }
 
 /// The header with quotes whose name, from `from` on, ends at `end`, where blanks may be.
+#[inline(always)]
 #[tactic(auto, unfolding(crate::specs::Reading::quoted_header))]
 fn quoted(input: &[u8], from: usize, end: usize) -> Option<(Header, usize)>
     requires ordered { from ≤ end }
@@ -89,6 +97,7 @@ fn quoted(input: &[u8], from: usize, end: usize) -> Option<(Header, usize)>
 }
 
 /// The header whose bracket is at an offset, and the offset after it.
+#[inline(always)]
 #[tactic(auto, unfolding(crate::specs::Reading::header_at))]
 pub fn header(input: &[u8], at: usize) -> Option<(Header, usize)>
     requires within { at < length input.now }
@@ -97,7 +106,7 @@ pub fn header(input: &[u8], at: usize) -> Option<(Header, usize)>
     ensures behind { IfSome result (λ found. at < found.1) }
     ensures inside { IfSome result (λ found. found.1 ≤ length input.now) }
 {
-    let name_end = run_end(input, at + 1, Run::HeaderBytes);
+    let name_end = long_run_end(input, at + 1, Run::HeaderBytes);
     if input.get(name_end).copied() == Some(b']') {
         unquoted(input, at + 1, name_end)
     } else {

@@ -1,5 +1,5 @@
 //! Items, read as they are in a text.
-ghost use Rattle.std.specs.Prelude.{◌≡◌, ◌≤◌, ◌<◌, ◌^◌, ◌==◌, ◌∷◌, ◌++◌, [], false, None, length, get_or, IfOk, IfErr, OnOk, IsOkUnless};
+ghost use Rattle.std.specs.Prelude.{◌≡◌, ◌≤◌, ◌<◌, ◌+◌, ◌^◌, ◌==◌, ◌∷◌, ◌++◌, [], false, None, length, get_or, IfOk, IfErr, OnOk, IsOkUnless};
 ghost use Rattle.gitconf_text.specs.Token.{HeaderToken, item_tokens};
 ghost use Rattle.gitconf_text.specs.Part.{EntryItem};
 ghost use Rattle.gitconf_read.specs.declared.reading.Expected.TheVariants.{Name};
@@ -8,13 +8,14 @@ ghost use Rattle.gitconf_items.specs.Events.{bytes_of, header_of, SpanFits, Head
 ghost use Rattle.gitconf_read.specs.ItemReading.{IsReadTo, IsRefusal, IsValueRead, IsValueRefusal, IsEntryWith, IsKeptRead};
 ghost use Rattle.gitconf_items.specs.Items.{entry_of, tokens_of_items, tokens_of_value};
 ghost use Rattle.gitconf_items.specs.ItemsFit.{AreItemsWithin, EntryFits, ValueFits};
-ghost use Rattle.gitconf_read.specs.Reading.{entry_at, part_at};
-ghost use Rattle.gitconf_read.specs.Stretches.{IsStretch, IsKeptStretch, IsBreak};
+ghost use Rattle.gitconf_read.specs.Reading.{entry_at, part_at, span};
+ghost use Rattle.gitconf_read.specs.declared.reading.Expected.{Expected};
+ghost use Rattle.gitconf_read.specs.Stretches.{IsStretch, IsKeptStretch, IsGapRead, IsBreak};
 
 use super::entry::is_assignment;
 use super::header::header;
 use super::part::{Opening, part_opening};
-use super::run::{Run, run_end};
+use super::run::{Run, long_run_end, run_end};
 use super::value::{PieceEnd, piece_end};
 use super::{Expected, Fault, ReadError};
 use gitconf_items::entry::{Assigned, Entry, EntryParts, Piece, Value};
@@ -102,31 +103,45 @@ fn long_entry(
     Ok((Entry::try_new(alloc, parts)?, end))
 }
 
-/// The entry with a name, the blanks after it and those after `=`, whose value begins at an offset, and the offset after it.
-#[inline(always)]
-fn assigned_entry(
-    alloc: Global,
-    input: &[u8],
-    name: Span,
-    blanks: Span,
-    behind: Span,
+/// An entry up to its value, by the offsets where the name begins and ends, where the blanks after it end, at `=`, and where the blanks
+/// after that end.
+#[derive(Clone, Copy)]
+struct Front {
+    start: usize,
+    name_end: usize,
+    sign: usize,
     first: usize,
-) -> Result<(Entry, usize), ReadError>
-    requires within { first ≤ length input.now }
+}
+
+/// The entry that begins like this, and the offset after it.
+#[inline(always)]
+fn assigned_entry(alloc: Global, input: &[u8], front: Front) -> Result<(Entry, usize), ReadError>
+    requires name { front.start ≤ front.name_end }
+    requires blanks { front.name_end ≤ front.sign }
+    requires sign { front.sign < front.first }
+    requires within { front.first ≤ length input.now }
     requires fits { length input.now < 2 ^ 32 }
-    requires spans { SpanFits (length input.now) name × SpanFits (length input.now) blanks × SpanFits (length input.now) behind }
-    ensures found { IfOk result (λ r. IsEntryWith input.now name blanks behind first r.0 r.1) }
+    ensures found { IfOk result (λ r. IsEntryWith input.now (span front.start front.name_end) (span front.name_end front.sign)
+        (span (front.sign + 1) front.first) front.first r.0 r.1) }
     ensures spans { IfOk result (λ r. EntryFits (length input.now) r.0) }
-    ensures behind { IfOk result (λ r. first ≤ r.1) }
+    ensures behind { IfOk result (λ r. front.first ≤ r.1) }
     ensures inside { IfOk result (λ r. r.1 ≤ length input.now) }
-    ensures refused { IfErr result (IsValueRefusal input.now first) }
+    ensures refused { IfErr result (IsValueRefusal input.now front.first) }
 {
+    let Front {
+        start,
+        name_end,
+        sign,
+        first,
+    } = front;
     if let PieceEnd::Last(end) = piece_end(input, first, false) {
-        let last = Span::between(first, end);
-        if let Some(entry) = Entry::of_line(name, blanks, behind, last) {
+        if let Some(entry) = Entry::of_line(start, name_end, sign, first, end) {
             return Ok((entry, end));
         }
     }
+    let name = Span::between(start, name_end);
+    let blanks = Span::between(name_end, sign);
+    let behind = Span::between(sign + 1, first);
     long_entry(alloc, input, name, blanks, behind, first)
 }
 
@@ -159,17 +174,21 @@ fn entry(alloc: Global, input: &[u8], at: usize) -> Result<(Entry, usize), ReadE
     ensures inside { IfOk result (λ r. r.1 ≤ length input.now) }
     ensures refused { IfErr result (IsRefusal (entry_at input.now at [])) }
 {
-    let name_end = run_end(input, at + 1, Run::NameBytes);
-    let blanks_end = run_end(input, name_end, Run::Blanks);
-    let name = Span::between(at, name_end);
-    let blanks = Span::between(name_end, blanks_end);
-    if is_assignment(input, blanks_end) {
-        let first = run_end(input, blanks_end + 1, Run::Blanks);
-        let behind = Span::between(blanks_end + 1, first);
-        assigned_entry(alloc, input, name, blanks, behind, first)
+    let name_end = long_run_end(input, at + 1, Run::NameBytes);
+    let sign = run_end(input, name_end, Run::Blanks);
+    if is_assignment(input, sign) {
+        let front = Front {
+            start: at,
+            name_end,
+            sign,
+            first: run_end(input, sign + 1, Run::Blanks),
+        };
+        assigned_entry(alloc, input, front)
     } else {
+        let name = Span::between(at, name_end);
+        let blanks = Span::between(name_end, sign);
         let entry = bare_entry(alloc, input, name, blanks)?;
-        Ok((entry, blanks_end))
+        Ok((entry, sign))
     }
 }
 
@@ -210,7 +229,7 @@ fn push_item(
             Ok(end)
         }
         Opening::Comment => {
-            let end = run_end(input, at + 1, Run::CommentText);
+            let end = long_run_end(input, at + 1, Run::CommentText);
             let text = Span::between(at + 1, end);
             let tag = input[at];
             match keep {
@@ -229,6 +248,58 @@ fn push_item(
             expected: wanted,
         })),
     }
+}
+
+/// Adds the line endings at an offset, if there are any and they are kept, and returns the offset after them.
+#[inline(always)]
+fn push_line_ends(
+    input: &[u8],
+    at: usize,
+    keep: Keep,
+    items: &mut Vec<Item>,
+) -> Result<usize, ReadError>
+    requires within { at ≤ length input.now }
+    requires fits { length input.now < 2 ^ 32 }
+    ensures found { IfOk result (λ end. (wanted : Expected) → IsGapRead keep input.now at wanted items.old.items items.new.items end) }
+    ensures behind { IfOk result (λ end. at ≤ end) }
+    ensures inside { IfOk result (λ end. end ≤ length input.now) }
+    ensures memory { IsOkUnless result Memory }
+{
+    let end = run_end(input, at, Run::LineEnds);
+    if at == end {
+        return Ok(end);
+    }
+    match keep {
+        Keep::All => items.push(Item::LineEnds(Span::between(at, end)))?,
+        Keep::Meaning => {}
+    }
+    Ok(end)
+}
+
+/// Adds the blanks at an offset, if there are any and they are kept, and returns the offset after them.
+#[inline(always)]
+fn push_blanks(
+    input: &[u8],
+    at: usize,
+    keep: Keep,
+    items: &mut Vec<Item>,
+) -> Result<usize, ReadError>
+    requires within { at ≤ length input.now }
+    requires fits { length input.now < 2 ^ 32 }
+    ensures found { IfOk result (λ end. (wanted : Expected) → IsGapRead keep input.now at wanted items.old.items items.new.items end) }
+    ensures behind { IfOk result (λ end. at ≤ end) }
+    ensures inside { IfOk result (λ end. end ≤ length input.now) }
+    ensures memory { IsOkUnless result Memory }
+{
+    let end = run_end(input, at, Run::Blanks);
+    if at == end {
+        return Ok(end);
+    }
+    match keep {
+        Keep::All => items.push(Item::Blanks(Span::between(at, end)))?,
+        Keep::Meaning => {}
+    }
+    Ok(end)
 }
 
 /// Adds what is kept of the items from an offset on, up to a header or the end, and returns the offset after them.
@@ -251,12 +322,16 @@ pub fn push_items(
 {
     let mut at = start;
     while at < input.len() && input[at] != b'[' {
-        at = push_item(alloc, input, at, wanted, keep, items)?;
+        let end = push_item(alloc, input, at, wanted, keep, items)?;
+        // What follows an item is mostly the end of its line, and then blanks.
+        let line_end = push_line_ends(input, end, keep, items)?;
+        at = push_blanks(input, line_end, keep, items)?;
     }
     Ok(at)
 }
 
 /// The header whose bracket is at an offset, and the offset after it; `wanted` is reported as looked for if no header is there.
+#[inline(always)]
 pub fn header_first(input: &[u8], at: usize, wanted: Expected) -> Result<(Header, usize), ReadError>
     requires within { at < length input.now }
     requires headed { get_or input.now at 0 ≡ 91 }

@@ -1,11 +1,14 @@
 //! The parts of a text, one after the other.
-ghost use Rattle.std.specs.Prelude.{◌≡◌, ◌≤◌, ◌<◌, ◌^◌, length, drop, IfOk};
+ghost use Rattle.std.specs.Prelude.{◌≡◌, ◌≤◌, ◌<◌, ◌^◌, length, drop, IfOk, IsOkUnless};
+ghost use Rattle.std.specs.Char.{is_ascii_alphabetic};
 ghost use Rattle.gitconf_read.specs.declared.reading.Expected.TheVariants.{SectionHeader};
-ghost use Rattle.gitconf_read.specs.Reading.{Gives, GivesAll, opening_of, part_at, text_from};
+ghost use Rattle.gitconf_read.specs.declared.reading.ReadError.TheVariants.{Memory};
+ghost use Rattle.gitconf_read.specs.declared.reading.run.Run.TheVariants.{LineEnds};
+ghost use Rattle.gitconf_read.specs.Reading.{Gives, GivesAll, opening_of, part_at, run_end_at, text_from, with_line_ends};
 
-use super::entry::entry;
+use super::entry::{blanks, entry};
 use super::header::header;
-use super::run::{Run, is_line_end, run_end};
+use super::run::{Run, is_line_end, long_run_end, run_end};
 use super::{Expected, Fault, ReadError};
 use crate::compact::EventVec;
 use gitconf_items::event::{Event, Span};
@@ -21,6 +24,14 @@ pub enum Opening {
     Nothing,
 }
 
+/// Whether the byte is a letter.
+#[inline(always)]
+fn is_letter(byte: u8) -> bool
+    ensures { result ≡ is_ascii_alphabetic byte }
+{
+    byte.is_ascii_alphabetic()
+}
+
 /// Which part may begin at an offset, by its first byte.
 #[inline(always)]
 pub fn part_opening(input: &[u8], at: usize) -> Opening
@@ -28,6 +39,10 @@ pub fn part_opening(input: &[u8], at: usize) -> Opening
     ensures { result ≡ opening_of (drop at input.now) }
 {
     let first = input[at];
+    // Most parts at which this is asked are entries.
+    if is_letter(first) {
+        return Opening::Entry;
+    }
     if first == b' ' || first == b'\t' {
         return Opening::Blanks;
     }
@@ -37,7 +52,6 @@ pub fn part_opening(input: &[u8], at: usize) -> Opening
     match first {
         b';' | b'#' => Opening::Comment,
         b'[' => Opening::Header,
-        b'a'..=b'z' | b'A'..=b'Z' => Opening::Entry,
         _ => Opening::Nothing,
     }
 }
@@ -73,7 +87,7 @@ fn part(
             Ok(end)
         }
         Opening::Comment => {
-            let end = run_end(input, at + 1, Run::CommentText);
+            let end = long_run_end(input, at + 1, Run::CommentText);
             let text = Span::between(at + 1, end);
             events.push(Event::Comment {
                 tag: input[at],
@@ -93,6 +107,24 @@ fn part(
     }
 }
 
+/// The line endings at an offset, if there are any.
+#[inline(always)]
+fn line_ends(input: &[u8], at: usize, events: &mut EventVec) -> Result<usize, ReadError>
+    requires within { at ≤ length input.now }
+    requires fits { length input.now < 2 ^ 32 }
+    ensures events { IfOk result (λ end. events.new ≡ with_line_ends events.old at end) }
+    ensures end { IfOk result (λ end. end ≡ run_end_at input.now LineEnds at) }
+    ensures behind { IfOk result (λ end. at ≤ end) }
+    ensures inside { IfOk result (λ end. end ≤ length input.now) }
+    ensures memory { IsOkUnless result Memory }
+{
+    let end = run_end(input, at, Run::LineEnds);
+    if at < end {
+        events.push(Event::Newline(Span::between(at, end)))?;
+    }
+    Ok(end)
+}
+
 /// All parts from an offset on.
 #[tactic(auto, unfolding(crate::specs::Reading::text_from))]
 pub fn parts(input: &[u8], start: usize, events: &mut EventVec) -> Result<(), ReadError>
@@ -104,10 +136,13 @@ pub fn parts(input: &[u8], start: usize, events: &mut EventVec) -> Result<(), Re
     let mut at = start;
     while at < input.len() {
         let end = part(input, at, wanted, events)?;
+        // What follows a part is mostly the end of its line, and then blanks.
+        let line_end = line_ends(input, end, events)?;
+        let next = blanks(input, line_end, events)?;
         if input[at] == b'[' {
             wanted = Expected::Name;
         }
-        at = end;
+        at = next;
     }
     Ok(())
 }

@@ -1,9 +1,9 @@
-//! Runs: blanks, line endings, and the bytes of comments and names.
+//! Runs: blanks, line endings, and the bytes of comments, names and values.
 ghost use Rattle.std.specs.Prelude.{◌≡◌, ◌≤◌, ◌<◌, length, drop};
 ghost use Rattle.gitconf_text.specs.Text.{begins_line_end};
 ghost use Rattle.gitconf_read.specs.Reading.{run_test, run_end_at};
 
-use super::class::{is_header_byte, is_name_byte, is_plain};
+use super::class::{is_blank, is_header_byte, is_name_byte, is_plain};
 
 /// What a run consists of.
 #[derive(Clone, Copy)]
@@ -41,7 +41,7 @@ impl Run {
     {
         let byte = input[at];
         match self {
-            Run::Blanks => byte == b' ' || byte == b'\t',
+            Run::Blanks => is_blank(byte),
             Run::LineEnds => is_line_end(input, at),
             Run::CommentText => !is_line_end(input, at),
             Run::NameBytes => is_name_byte(byte),
@@ -65,4 +65,31 @@ pub fn run_end(input: &[u8], from: usize, run: Run) -> usize
         i += 1;
     }
     i
+}
+
+/// The offset after the run that begins at an offset, faster for a run that is mostly long.
+#[inline(always)]
+pub fn long_run_end(input: &[u8], from: usize, run: Run) -> usize
+    requires { from ≤ length input.now }
+    ensures end { result ≡ run_end_at input.now run from }
+    ensures behind { from ≤ result }
+    ensures inside { result ≤ length input.now }
+{
+    let mut i = from;
+    while i + 3 < input.len() {
+        if !run.goes_on(input, i) {
+            return i;
+        }
+        if !run.goes_on(input, i + 1) {
+            return i + 1;
+        }
+        if !run.goes_on(input, i + 2) {
+            return i + 2;
+        }
+        if !run.goes_on(input, i + 3) {
+            return i + 3;
+        }
+        i += 4;
+    }
+    run_end(input, i, run)
 }

@@ -6,7 +6,8 @@ ghost use Rattle.gitconf_read.specs.declared.reading.ReadError.TheVariants.{Memo
 ghost use Rattle.gitconf_read.specs.Reading.{Gives, span, value_at, piece_from};
 ghost use Rattle.gitconf_read.specs.ItemReading.{EndsWithin};
 
-use super::run::{Run, run_end};
+use super::class::is_plain;
+use super::run::{Run, long_run_end};
 use super::{Expected, Fault, ReadError};
 use crate::compact::EventVec;
 use gitconf_items::event::{Event, Span};
@@ -37,7 +38,7 @@ fn plain_end(input: &[u8], at: usize) -> usize
     ensures behind { at < result }
     ensures inside { result ≤ length input.now }
 {
-    run_end(input, at + 1, Run::PlainBytes)
+    long_run_end(input, at + 1, Run::PlainBytes)
 }
 
 /// How the piece ends that begins at an offset, between quotes or not.
@@ -53,7 +54,17 @@ pub fn piece_end(input: &[u8], from: usize, quoted: bool) -> PieceEnd
     let mut kept = from;
     let mut i = from;
     while i < input.len() {
-        match input[i] {
+        let byte = input[i];
+        if is_plain(byte) {
+            i = plain_end(input, i);
+            kept = i;
+            // Most values end here.
+            if i < input.len() && input[i] == b'\n' {
+                break;
+            }
+            continue;
+        }
+        match byte {
             b'\n' => break,
             b';' | b'#' if !quoted => break,
             b'"' => {
@@ -85,12 +96,8 @@ pub fn piece_end(input: &[u8], from: usize, quoted: bool) -> PieceEnd
                 Some(_) => return PieceEnd::Refused,
             },
             b' ' | b'\t' | b'\r' | b'\x0c' => i += 1,
-            b';' | b'#' => {
-                i += 1;
-                kept = i;
-            }
             _ => {
-                i = plain_end(input, i);
+                i += 1;
                 kept = i;
             }
         }

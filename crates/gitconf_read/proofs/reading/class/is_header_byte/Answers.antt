@@ -6,4 +6,4 @@ use Rattle.gitconf_read.proofs.reading.class.is_header_byte.Goals as goal
 
 pub returns : goal.returns
 unfolding agree_below
-returns c = from_table CLASS 2 is_header_byte c.args.byte (omega arith) refl
+returns c = from_table CLASS 8 is_header_byte c.args.byte (omega arith) refl

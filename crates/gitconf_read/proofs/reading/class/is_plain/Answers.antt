@@ -6,4 +6,4 @@ use Rattle.gitconf_read.proofs.reading.class.is_plain.Goals as goal
 
 pub returns : goal.returns
 unfolding agree_below
-returns c = from_table CLASS 4 is_plain c.args.byte (omega arith) refl
+returns c = from_table CLASS 2 is_plain c.args.byte (omega arith) refl

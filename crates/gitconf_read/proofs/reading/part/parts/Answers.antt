@@ -1,6 +1,7 @@
 use Rattle.std.proofs.Common.{sym, ◌∙◌, eq-eqb}
 use Rattle.std.proofs.lemmas.Bool.{ne_eqb}
 use Rattle.std.proofs.lemmas.Result.{err_from_is_err_and}
+use Rattle.gitconf_read.proofs.EventGaps.{gap_go}
 use Rattle.gitconf_read.proofs.Skips.{text_from-part, text_from-fault, gives_all}
 use Rattle.gitconf_read.proofs.reading.part.parts.Goals as goal
 
@@ -12,9 +13,11 @@ returns-in_err-end c =
 pub loop-at-preserved-then-input-at-eq91 : goal.loop-at-preserved-then-input-at-eq91
 loop-at-preserved-then-input-at-eq91 c =
     let goes_on = text_from-part _ _ _ _ _ _ c.loop-at-test.true c.in_ok-end.ensures.behind c.in_ok-end.ensures.gives in
-    (c.in_ok-end.ensures.inside, sym (rw (eq-eqb _ 91 c.if-input-at-eq91.true) at goes_on) ∙ c.loop-at.invariant.1)
+    let gap = gap_go _ _ _ _ _ _ _ _ c.in_ok-line_end.ensures.end c.in_ok-line_end.ensures.events c.in_ok-next.ensures.end c.in_ok-next.ensures.events in
+    (c.in_ok-next.ensures.inside, sym (rw (eq-eqb _ 91 c.if-input-at-eq91.true) at (goes_on ∙ gap)) ∙ c.loop-at.invariant.1)
 
 pub loop-at-preserved : goal.loop-at-preserved
 loop-at-preserved c =
     let goes_on = text_from-part _ _ _ _ _ _ c.loop-at-test.true c.in_ok-end.ensures.behind c.in_ok-end.ensures.gives in
-    (c.in_ok-end.ensures.inside, sym (rw (ne_eqb _ 91 c.if-input-at-eq91.false) at goes_on) ∙ c.loop-at.invariant.1)
+    let gap = gap_go _ _ _ _ _ _ _ _ c.in_ok-line_end.ensures.end c.in_ok-line_end.ensures.events c.in_ok-next.ensures.end c.in_ok-next.ensures.events in
+    (c.in_ok-next.ensures.inside, sym (rw (ne_eqb _ 91 c.if-input-at-eq91.false) at (goes_on ∙ gap)) ∙ c.loop-at.invariant.1)

@@ -1,11 +1,10 @@
 use Rattle.std.proofs.Common.{◌≡◌, ◌-◌, ◌≤◌, length}
 use Rattle.gitconf_read.specs.Reading.{run_end_at}
-use Rattle.gitconf_parse.specs.Places.{reader_run}
-use Rattle.gitconf_parse.proofs.lookup.run.long_run_end.Given as goal
+use Rattle.gitconf_read.proofs.reading.run.long_run_end.Given as goal
 
 -- what is left ends where the whole run ends
 abbrev pub invariant-loop-i : goal.invariant-loop-i
-invariant-loop-i l = (l.from ≤ l.i) × (l.i ≤ length l.input) × (run_end_at l.input (reader_run l.run) l.i ≡ run_end_at l.input (reader_run l.run) l.from)
+invariant-loop-i l = (l.from ≤ l.i) × (l.i ≤ length l.input) × (run_end_at l.input l.run l.i ≡ run_end_at l.input l.run l.from)
 
 abbrev pub decreases-loop-i : goal.decreases-loop-i
 decreases-loop-i l = length l.input - l.i

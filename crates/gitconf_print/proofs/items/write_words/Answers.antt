@@ -3,7 +3,7 @@ use Rattle.gitconf_text.specs.LineEnds.{bytes_of_line_end}
 use Rattle.gitconf_print.specs.Open.{open_of}
 use Rattle.gitconf_print.specs.Runs.{run_of}
 use Rattle.gitconf_print.proofs.RunLemmas.{next_begun, next_err, next_written, but_fault}
-use Rattle.gitconf_print.proofs.items.write_next.Goals as goal
+use Rattle.gitconf_print.proofs.items.write_words.Goals as goal
 
 pub returns-in_err-before-clause-written : goal.returns-in_err-before-clause-written
 returns-in_err-before-clause-written g c =

@@ -1,8 +1,8 @@
 use Rattle.std.proofs.Common.{refl, arith}
-use Rattle.gitconf_parse.specs.Places.{is_spelled}
+use Rattle.gitconf_read.specs.Reading.{is_spelled}
 use Rattle.gitconf_read.proofs.Classes.{agree_below, from_table}
-use Rattle.gitconf_parse.specs.declared.lookup.class.TheConstants.{CLASS}
-use Rattle.gitconf_parse.proofs.lookup.class.is_spelled.Goals as goal
+use Rattle.gitconf_read.specs.declared.reading.class.TheConstants.{CLASS}
+use Rattle.gitconf_read.proofs.reading.class.is_spelled.Goals as goal
 
 pub returns : goal.returns
 unfolding agree_below

@@ -1,6 +1,6 @@
 use Rattle.std.proofs.Common.{◌∙◌, arith, sym}
-use Rattle.gitconf_parse.proofs.Fours.{empty_run, four_on, one_on, three_on, two_on}
-use Rattle.gitconf_parse.proofs.lookup.run.long_run_end.Goals as goal
+use Rattle.gitconf_read.proofs.Fours.{empty_run, four_on, one_on, three_on, two_on}
+use Rattle.gitconf_read.proofs.reading.run.long_run_end.Goals as goal
 
 pub returns-then-not-goes_on-clause-end : goal.returns-then-not-goes_on-clause-end
 returns-then-not-goes_on-clause-end c = sym (empty_run _ _ _ (sym c.goes_on.ensures ∙ c.if-not-goes_on.true)) ∙ c.loop-i.invariant.2

@@ -1,9 +1,0 @@
-use Rattle.std.proofs.Common.{refl, arith}
-use Rattle.gitconf_text.specs.Bytes.{is_name_byte}
-use Rattle.gitconf_read.proofs.Classes.{agree_below, from_table}
-use Rattle.gitconf_parse.specs.declared.lookup.class.TheConstants.{CLASS}
-use Rattle.gitconf_parse.proofs.lookup.class.is_name_byte.Goals as goal
-
-pub returns : goal.returns
-unfolding agree_below
-returns c = from_table CLASS 1 is_name_byte c.args.byte (omega arith) refl
