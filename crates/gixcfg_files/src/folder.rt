@@ -1,4 +1,5 @@
 //! The folder of a file that is edited, on the disk.
+ghost use Rattle.std.specs.Prelude.{None};
 
 use crate::disk::{make, put_in, remove, rename, sync_folder};
 use crate::draft::{Draft, Owner};
@@ -93,6 +94,8 @@ fn no_draft() -> io::Error {
 }
 
 impl<R: Files + AllocGlobal> FolderCalls for DiskFolder<'_, R> {
+    ghost told = { λ _. None };
+
     fn read(&mut self, name: &str) -> io::Result<Option<Vec<u8>>> {
         text_at(self.files, name)
     }
