@@ -1,10 +1,12 @@
 //! `check`: the faults of each file.
-ghost use Rattle.std.specs.Prelude.{◌≤◌};
+ghost use Rattle.std.specs.Prelude.{◌≡◌, ◌≤◌, ◌++◌, ℕ, [], ◌∷◌, List, IfOk, map, string_bytes};
+ghost use Rattle.gixcfg_commands.specs.Checks.{AreMessages};
+ghost use Rattle.gixcfg_core.specs.declared.trouble.Trouble.TheVariants.{Text as ATextOf};
 
 use crate::beside_git::{message_if_git_reads, messages_of_git};
 use crate::named::text_at;
 use gix_config::File;
-use gixcfg_core::outside::{Inputs, refused};
+use gixcfg_core::outside::{Inputs, Outside, refused};
 use gixcfg_core::trouble::{MEMORY, Trouble, tell};
 use gixcfg_words::command::Check;
 use std::alloc::{AllocGlobal, Global};
@@ -99,48 +101,64 @@ fn messages_of<R: Files + AllocGlobal, I: Read + Drop>(
     is_lenient: bool,
 ) -> Result<Vec<String>, Trouble> {
     let text = text_at(inputs, word)?;
-    let alloc = inputs.rt.alloc();
-    match File::try_from_bytes(alloc, &text) {
+    messages_in(inputs.rt.alloc(), word, &text, is_lenient, inputs.outside)
+}
+
+/// The messages of the faults of a text of this name.
+fn messages_in(
+    alloc: Global,
+    word: &str,
+    text: &[u8],
+    is_lenient: bool,
+    outside: Outside<'_>,
+) -> Result<Vec<String>, Trouble>
+    ensures { IfOk result (λ messages. AreMessages text.now outside.entry.is_colored is_lenient (map string_bytes messages.items)) }
+{
+    match File::try_from_bytes(alloc, text) {
         Ok(file) => {
             if is_lenient {
                 Ok(Vec::new(alloc))
             } else {
-                Ok(messages_of_git(alloc, word, &text, &file)?)
+                Ok(messages_of_git(alloc, word, text, &file)?)
             }
         }
         Err(refusal) => {
-            let trouble = refused(alloc, word, &text, &refusal, inputs.outside);
-            let mut messages = one(alloc, message_of(trouble)?)?;
-            if !is_lenient {
-                let left = refusal.remaining_data().len();
-                add_some(
-                    &mut messages,
-                    message_if_git_reads(alloc, word, &text, left)?,
-                )?;
+            let trouble = refused(alloc, word, text, &refusal, outside);
+            let messages = one(alloc, message_of(trouble)?)?;
+            if is_lenient {
+                return Ok(messages);
             }
-            Ok(messages)
+            let left = refusal.remaining_data().len();
+            with_more(messages, message_if_git_reads(alloc, word, text, left)?)
         }
     }
 }
 
 /// The message of a refused text; or another trouble.
-fn message_of(trouble: Trouble) -> Result<String, Trouble> {
+fn message_of(trouble: Trouble) -> Result<String, Trouble>
+    ensures { IfOk result (λ message. trouble ≡ ATextOf message) }
+{
     match trouble {
         Trouble::Text(message) => Ok(message),
         trouble => Err(trouble),
     }
 }
 
-/// Adds a message, if there is one.
-fn add_some(messages: &mut Vec<String>, more: Option<String>) -> Result<(), Trouble> {
-    match more {
-        Some(message) => Ok(messages.push(message)?),
-        None => Ok(()),
+/// Messages, and one more, if there is one.
+fn with_more(messages: Vec<String>, more: Option<String>) -> Result<Vec<String>, Trouble>
+    ensures { IfOk result (λ all. (behind : List (List ℕ)) × (map string_bytes all.items ≡ map string_bytes messages.items ++ behind)) }
+{
+    let mut all = messages;
+    if let Some(message) = more {
+        all.push(message)?;
     }
+    Ok(all)
 }
 
 /// One message alone.
-fn one(alloc: Global, message: String) -> Result<Vec<String>, Trouble> {
+fn one(alloc: Global, message: String) -> Result<Vec<String>, Trouble>
+    ensures { IfOk result (λ messages. map string_bytes messages.items ≡ string_bytes message ∷ []) }
+{
     let mut messages = Vec::new(alloc);
     messages.push(message)?;
     Ok(messages)

@@ -1,8 +1,23 @@
 //! Edits with options: `set`, `unset`, `rename-section`, `remove-section` and `fmt`.
+ghost use Rattle.std.specs.Prelude.{◌≡◌, List, length, option_map, true, IfErr, IfOk, Ok};
+ghost use Rattle.std.specs.Option.{option_copied};
+ghost use Rattle.bstr.specs.Owned.{bstring_bytes};
+ghost use Rattle.gitconf_text.specs.Document.{IsText};
+ghost use Rattle.gitconf_text.specs.Part.{Part};
+ghost use Rattle.gitconf_text.specs.Token.{tokens_of};
+ghost use Rattle.gitconf_sources.specs.Metadata.{api_meta};
+ghost use Rattle.gitconf_state.specs.Made.{IsMade};
+ghost use Rattle.gitconf_state.specs.Edits.{RenameAll, apply};
+ghost use Rattle.gitconf_state.specs.Printing.{printed};
+ghost use Rattle.gixcfg_core.specs.Answers.{Answers, IsRefusedText};
+ghost use Rattle.gixcfg_commands.specs.Edits as spec;
+ghost use Rattle.gixcfg_commands.specs.Edits.{EditsTo, IsDone, marked_answer, removal_of, renaming_of, trouble_of_renaming, unrenamed};
+ghost use Rattle.gitconf_store.specs.declared.rename_section.Error.TheVariants.{Section};
 
 use crate::layouts::laid_out;
 use crate::meant::{Meant, entries_meant, remove_meant};
 use bstr::BString;
+use gitconf_text::parse::section::header;
 use gix_config::file::rename_section;
 use gix_config::lookup::existing;
 use gix_config::refusals::Refusal;
@@ -17,7 +32,7 @@ use gixcfg_core::typed::stored;
 use gixcfg_files::{Fault, Place, Replaced, Replacement};
 use gixcfg_words::command::{Fmt, Placing, Removal, Renaming, Set, Unset};
 use gixcfg_words::keys::Names;
-use std::alloc::{AllocGlobal, Global};
+use std::alloc::{AllocError, AllocGlobal, Global};
 use std::io::{Read, Write};
 use std::rt::Files;
 
@@ -137,7 +152,9 @@ fn edited(
     name: &str,
     text: &[u8],
     outside: Outside<'_>,
-) -> Result<BString, Trouble> {
+) -> Result<BString, Trouble>
+    ensures { EditsTo edit.entry text.now outside.entry.is_colored result }
+{
     match edit {
         Edit::Set(set) => with_value(alloc, text, parsed(alloc, name, text, outside)?, set),
         Edit::Unset(unset) => {
@@ -147,15 +164,17 @@ fn edited(
             renamed(alloc, text, parsed(alloc, name, text, outside)?, renaming)
         }
         Edit::RemoveSection(removal) => {
-            let file = parsed(alloc, name, text, outside)?;
-            marked(alloc, text, text_without(alloc, &file, &removal.names)?)
+            removed(alloc, text, &parsed(alloc, name, text, outside)?, removal)
         }
         Edit::Fmt(fmt) => laid_out(alloc, name, text, fmt, outside),
     }
 }
 
 /// A text of this name as a file. It is copied, since the message of a refusal shows a line of it, and the edited text is compared with it.
-fn parsed(alloc: Global, name: &str, text: &[u8], outside: Outside<'_>) -> Result<File, Trouble> {
+fn parsed(alloc: Global, name: &str, text: &[u8], outside: Outside<'_>) -> Result<File, Trouble>
+    ensures made { IfOk result (λ f. (parts : List Part) × IsText text.now parts × IsMade (tokens_of parts) api_meta (length text.now) f) }
+    ensures refused { IfErr result (IsRefusedText text.now outside.entry.is_colored) }
+{
     accepted(
         alloc,
         name,
@@ -194,20 +213,39 @@ fn without_entries(
     written(alloc, text, &file)
 }
 
+/// The text of a file without the sections of a name.
+fn removed(
+    alloc: Global,
+    text: &[u8],
+    file: &File,
+    removal: &Removal<'_>,
+) -> Result<BString, Trouble>
+    ensures { let names = removal.now.names in
+        Answers bstring_bytes result (marked_answer text.now (removal_of names.name.now (option_copied names.subsection_name) file.now)) }
+{
+    marked(alloc, text, text_without(alloc, file, &removal.names)?)
+}
+
 /// The text of a file, in which the sections of a name have got another one.
 fn renamed(
     alloc: Global,
     text: &[u8],
     file: File,
     renaming: &Renaming<'_>,
-) -> Result<BString, Trouble> {
+) -> Result<BString, Trouble>
+    ensures { let (old, new) = (renaming.now.old, renaming.now.new) in
+        Answers bstring_bytes result (marked_answer text.now
+        (renaming_of old.name.now (option_copied old.subsection_name) new.name.now (option_copied new.subsection_name) file)) }
+{
     let mut file = file;
     rename(alloc, &mut file, renaming)?;
     written(alloc, text, &file)
 }
 
 /// The text of a file that was read from another one.
-fn written(alloc: Global, before: &[u8], file: &File) -> Result<BString, Trouble> {
+fn written(alloc: Global, before: &[u8], file: &File) -> Result<BString, Trouble>
+    ensures { Answers bstring_bytes result (Ok (spec.marked before.now (printed file.now))) }
+{
     marked(alloc, before, file.to_bstring()?)
 }
 
@@ -215,7 +253,9 @@ fn written(alloc: Global, before: &[u8], file: &File) -> Result<BString, Trouble
 static MARK: [u8; 3] = *b"\xef\xbb\xbf";
 
 /// An edited text behind the mark that the text before began with, which the library drops and git keeps.
-fn marked(alloc: Global, before: &[u8], edited: BString) -> Result<BString, Trouble> {
+fn marked(alloc: Global, before: &[u8], edited: BString) -> Result<BString, Trouble>
+    ensures { Answers bstring_bytes result (Ok (spec.marked before.now (bstring_bytes edited))) }
+{
     if !before.starts_with(&MARK) {
         return Ok(edited);
     }
@@ -364,7 +404,9 @@ fn check_count(count: usize, is_all: bool) -> Result<(), Trouble> {
 /// # Errors
 ///
 /// There is no such section; out of memory.
-fn text_without(alloc: Global, file: &File, names: &Names<'_>) -> Result<BString, Trouble> {
+fn text_without(alloc: Global, file: &File, names: &Names<'_>) -> Result<BString, Trouble>
+    ensures { Answers bstring_bytes result (removal_of names.now.name.now (option_copied names.now.subsection_name) file.now) }
+{
     if file.section(names.name, names.subsection_name).is_err() {
         return Err(Trouble::NoSection);
     }
@@ -379,15 +421,49 @@ fn text_without(alloc: Global, file: &File, names: &Names<'_>) -> Result<BString
 }
 
 /// Gives the sections of a name another one.
-fn rename(alloc: Global, file: &mut File, renaming: &Renaming<'_>) -> Result<(), Trouble> {
+fn rename(alloc: Global, file: &mut File, renaming: &Renaming<'_>) -> Result<(), Trouble>
+    ensures { let (old, new) = (renaming.now.old, renaming.now.new) in
+        IsDone (unrenamed old.name.now (option_copied old.subsection_name) new.name.now (option_copied new.subsection_name) file.old)
+        (apply (RenameAll old.name.now (option_copied old.subsection_name) (λ _. true) new.name.now (option_copied new.subsection_name)))
+        result file.old file.new }
+{
     let (old, new) = (&renaming.old, &renaming.new);
-    let new_subsection_name = match new.subsection_name {
-        Some(bytes) => Some(BString::new(bytes.to_vec(alloc)?)),
-        None => None,
-    };
-    match file.rename_section(old.name, old.subsection_name, new.name, new_subsection_name) {
+    let subsection_name = owned(alloc, new.subsection_name)?;
+    match file.rename_section(old.name, old.subsection_name, new.name, subsection_name) {
         Ok(()) => Ok(()),
-        Err(rename_section::Error::Lookup(_)) => Err(Trouble::NoSection),
-        Err(refusal) => Err(of_number(refusal.number())),
+        Err(refusal) => Err(trouble_of(refusal)),
+    }
+}
+
+/// A copy of a text, if there is one.
+fn owned(alloc: Global, text: Option<&[u8]>) -> Result<Option<BString>, AllocError>
+    ensures { IfOk result (λ copy. option_map bstring_bytes copy ≡ option_copied text.entry) }
+{
+    match text {
+        Some(bytes) => Ok(Some(BString::new(bytes.to_vec(alloc)?))),
+        None => Ok(None),
+    }
+}
+
+/// The trouble that a refusal to rename is.
+fn trouble_of(refusal: rename_section::Error) -> Trouble
+    ensures { result ≡ trouble_of_renaming refusal }
+{
+    match refusal {
+        rename_section::Error::Lookup(_) => Trouble::NoSection,
+        rename_section::Error::Section(refusal) => trouble_of_header(refusal),
+        rename_section::Error::Memory => Trouble::Memory,
+    }
+}
+
+/// The trouble that a refused header is.
+fn trouble_of_header(refusal: header::Error) -> Trouble
+    ensures { result ≡ trouble_of_renaming (Section refusal) }
+{
+    match refusal {
+        header::Error::InvalidName => Trouble::BadName(4),
+        header::Error::InvalidSubSection => Trouble::BadName(5),
+        header::Error::Span(refusal) if refusal.number() == 3 => Trouble::Refused(3),
+        header::Error::Span(_) | header::Error::Memory => Trouble::Memory,
     }
 }
