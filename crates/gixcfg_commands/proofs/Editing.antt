@@ -1,6 +1,6 @@
 -- Why an edit is refused, by what the library's refusal says.
 use Rattle.std.proofs.Common.{◌≡◌, ◌≤◌, ◌<◌, ◌+◌, ◌^◌, inl, inr, ⊎_elim, ℕ, Bool, true, false, List, Option, Some, None, Result, Ok, Err, refl, sym, ◌∙◌, ap, subst, arith}
-use Rattle.std.specs.Prelude.{ltb, ◌==◌, IsErrOf}
+use Rattle.std.specs.Prelude.{unwrap_or, ltb, ◌==◌, IsErrOf}
 use Rattle.std.specs.List.{list_any}
 use Rattle.std.proofs.lemmas.Bool.{eqb-true, le-ltb, ltb-false}
 use Rattle.gitconf_text.specs.Names.{is_made_name, is_valid_or_none}
@@ -22,7 +22,10 @@ use Rattle.bstr.specs.declared.bstring.BString.{BString}
 use Rattle.gixcfg_core.specs.Answers.{Answers}
 use Rattle.gixcfg_core.specs.declared.trouble.Trouble.{Trouble}
 use Rattle.gixcfg_core.specs.declared.trouble.Trouble.TheVariants.{BadName, NoSection, Refused}
-use Rattle.gixcfg_commands.specs.Edits.{IsDone, edited_text, marked, marked_answer, trouble_of_renaming, unrenamed}
+use Rattle.gixcfg_commands.specs.Edits.{IsDone, edited_text, marked, marked_answer, others_of, removal_of, trouble_of_renaming, unrenamed}
+
+pub some_same : {A : Type 0} (x y : A) → Some x ≡ Some y → x ≡ y
+some_same x y same = ap (λ o. unwrap_or o x) same
 
 -- a section of the names that is found is there
 pub named_found : (name : List ℕ) (subsection : Option (List ℕ)) (file : State) (s : SectionState) → picked name subsection (λ _. true) file ≡ Some s → list_any (is_named name subsection) (listed file) ≡ true
@@ -80,6 +83,11 @@ module _ (name : List ℕ) (subsection : Option (List ℕ)) (new_name : List ℕ
       → IsDone (unrenamed name subsection new_name new_subsection old) (apply (RenameAll name subsection (λ _. true) new_name new_subsection)) (Err (trouble_of_renaming refusal)) old new
   refused_so result refusal is err = why_so refusal (subst (λ r. IsRenamed name subsection (λ _. true) new_name new_subsection r old new) err is)
 
+-- the text without sections that are there
+pub removal_done : (name : List ℕ) (subsection : Option (List ℕ)) (file : State) (text : List ℕ) → list_any (is_named name subsection) (listed file) ≡ true → text ≡ others_of name subsection file
+    → removal_of name subsection file ≡ Ok text
+removal_done name subsection file text there is = rw (there) (ap Ok (sym is))
+
 -- the text of an edit that was done
 pub answer_done : (refusal : Option Trouble) (done : State → State) (before : List ℕ) (old new : State) (result : Result BString Trouble) → IsDone refusal done (Ok tt) old new
     → Answers bstring_bytes result (Ok (marked before (printed new))) → Answers bstring_bytes result (marked_answer before (edited_text refusal done old))
@@ -88,5 +96,5 @@ answer_done refusal done before old new result is answers =
 
 -- why there is none
 pub answer_refused : (refusal : Option Trouble) (done : State → State) (before : List ℕ) (old new : State) (trouble : Trouble) → IsDone refusal done (Err trouble) old new
-    → Answers {BString} bstring_bytes (Err trouble) (marked_answer before (edited_text refusal done old))
+    → Answers {A = BString} bstring_bytes (Err trouble) (marked_answer before (edited_text refusal done old))
 answer_refused refusal done before old new trouble = ⊎_elim (λ memory. inl memory) (λ why. inr (ap (λ w. marked_answer before (edited_text w done old)) why))

@@ -10,10 +10,14 @@ use Rattle.gixcfg_core.specs.Answers.{IsMessageOf}
 abbrev pub IsPassed : (text : List ℕ) (is_lenient : Bool) (messages : List (List ℕ)) → Type 0
 IsPassed text is_lenient messages = (d : Document) × Reads text d × (is_lenient ≡ true → messages ≡ [])
 
--- a text that has none: the first message is of the place from which it can't be read on, and others only of git
+-- a refused text: the first message is of the place from which it can't be read on, and others only of git
+abbrev pub IsFaultTold : (text : List ℕ) (is_colored is_lenient : Bool) → Refusal → (messages : List (List ℕ)) → Type 0
+IsFaultTold text is_colored is_lenient refusal messages =
+    (message : List ℕ) × (more : List (List ℕ)) × (refusal.number ≡ 1) × (IsMessageOf text is_colored refusal message) × (messages ≡ message ∷ more) × (is_lenient ≡ true → more ≡ [])
+
+-- a text that has no document
 abbrev pub IsFaulty : (text : List ℕ) (is_colored is_lenient : Bool) (messages : List (List ℕ)) → Type 0
-IsFaulty text is_colored is_lenient messages = (refusal : Refusal) × IsRefused text refusal × (refusal.number ≡ 1)
-    × (message : List ℕ) × (more : List (List ℕ)) × IsMessageOf text is_colored refusal message × (messages ≡ message ∷ more) × (is_lenient ≡ true → more ≡ [])
+IsFaulty text is_colored is_lenient messages = (refusal : Refusal) × IsRefused text refusal × IsFaultTold text is_colored is_lenient refusal messages
 
 abbrev pub AreMessages : (text : List ℕ) (is_colored is_lenient : Bool) (messages : List (List ℕ)) → Type 0
 AreMessages text is_colored is_lenient messages = IsPassed text is_lenient messages ⊎ IsFaulty text is_colored is_lenient messages

@@ -39,10 +39,14 @@ abbrev pub marked_answer : (before : List ℕ) → Result (List ℕ) Trouble →
 marked_answer before (Ok text) = Ok (marked before text)
 marked_answer before (Err trouble) = Err trouble
 
+-- the file without the sections of these names
+abbrev pub others_of : (name : List ℕ) (subsection : Option (List ℕ)) → State → List ℕ
+others_of name subsection file = printed_kept (λ s. not (is_named name subsection (listing s))) file
+
 -- `remove-section`: the file without the sections of these names, of which there has to be one
 abbrev pub removal_of : (name : List ℕ) (subsection : Option (List ℕ)) → State → Result (List ℕ) Trouble
 removal_of name subsection file =
-    if list_any (is_named name subsection) (listed file) then Ok (printed_kept (λ s. not (is_named name subsection (listing s))) file) else Err NoSection
+    if list_any (is_named name subsection) (listed file) then Ok (others_of name subsection file) else Err NoSection
 
 -- why sections of these names don't get those names: there is none; a section can't have them; there is no room for them
 abbrev pub unrenamed : (name : List ℕ) (subsection : Option (List ℕ)) (new_name : List ℕ) (new_subsection : Option (List ℕ)) → State → Option Trouble
@@ -53,12 +57,16 @@ unrenamed name subsection new_name new_subsection file =
     else if ltb (file.used + header_bytes new_name new_subsection) (2 ^ 32) then None
     else Some (Refused 3)
 
+-- the trouble where there is no room, by the number of the refusal: 3 for a text that would be too long
+abbrev pub no_room : (number : ℕ) → Trouble
+no_room number = if number == 3 then Refused 3 else Memory
+
 -- the trouble that a refusal to rename is
 abbrev pub trouble_of_renaming : Error → Trouble
 trouble_of_renaming (Lookup refusal) = NoSection
 trouble_of_renaming (Section InvalidName) = BadName 4
 trouble_of_renaming (Section InvalidSubSection) = BadName 5
-trouble_of_renaming (Section (Span number)) = if number == 3 then Refused 3 else Memory
+trouble_of_renaming (Section (Span number)) = no_room number
 trouble_of_renaming (Section headers.Memory) = Memory
 trouble_of_renaming renamings.Memory = Memory
 

@@ -6,6 +6,7 @@ ghost use Rattle.gitconf_sources.specs.Key.{key_of};
 ghost use Rattle.gixcfg_core.specs.Answers.{Answers, AnswersOf};
 ghost use Rattle.gixcfg_commands.specs.Entries.{got_line, value_line};
 
+use crate::named::Text;
 use bstr::BString;
 use gitconf_parse::lookup::values_in;
 use gix_config::KeyRef;
@@ -65,13 +66,6 @@ pub fn last_line<R: Files + AllocGlobal, I: Read + Drop>(
         text: &text,
     };
     line_in(inputs.rt.alloc(), &named, key, form, inputs.outside)
-}
-
-/// A text, and what it is called in messages.
-#[derive(Clone, Copy)]
-struct Text<'a> {
-    name: &'a str,
-    text: &'a [u8],
 }
 
 /// The line of the last value of a key in a text.

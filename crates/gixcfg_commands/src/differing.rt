@@ -1,5 +1,5 @@
 //! `diff`: what two files mean differently.
-ghost use Rattle.std.specs.Prelude.{◌≡◌, ◌≤◌, ◌++◌, IfErr, IfOk, option_map};
+ghost use Rattle.std.specs.Prelude.{◌≡◌, ◌≤◌, ◌++◌, IfErr, IfOk, flat_map, map, option_map};
 ghost use Rattle.std.specs.Option.{option_copied};
 ghost use Rattle.bstr.specs.Owned.{bstring_bytes};
 ghost use Rattle.gitconf_diff.specs.Differences.{different_of};
@@ -112,8 +112,15 @@ fn lines_between(
     ensures { IfOk result (λ lines. AreDifferenceLines is_null one.now other.now lines.items) }
 {
     let found = differences(alloc, one, other)?;
+    all_lines(alloc, &found, is_null)
+}
+
+/// Differences, a line each.
+fn all_lines(alloc: Global, found: &[Difference], is_null: bool) -> Result<Vec<u8>, NoMemory>
+    ensures { IfOk result (λ lines. lines.items ≡ flat_map (difference_line is_null) (map different_of found.now)) }
+{
     let mut lines = Vec::new(alloc);
-    for difference in &found {
+    for difference in found {
         add_difference(alloc, &mut lines, is_null, difference)?;
     }
     Ok(lines)

@@ -11,11 +11,12 @@ ghost use Rattle.gitconf_state.specs.Edits.{RenameAll, apply};
 ghost use Rattle.gitconf_state.specs.Printing.{printed};
 ghost use Rattle.gixcfg_core.specs.Answers.{Answers, IsRefusedText};
 ghost use Rattle.gixcfg_commands.specs.Edits as spec;
-ghost use Rattle.gixcfg_commands.specs.Edits.{EditsTo, IsDone, marked_answer, removal_of, renaming_of, trouble_of_renaming, unrenamed};
+ghost use Rattle.gixcfg_commands.specs.Edits.{EditsTo, IsDone, IsOfText, marked_answer, no_room, others_of, removal_of, renaming_of, trouble_of_renaming, unrenamed};
 ghost use Rattle.gitconf_store.specs.declared.rename_section.Error.TheVariants.{Section};
 
 use crate::layouts::laid_out;
 use crate::meant::{Meant, entries_meant, remove_meant};
+use crate::named::Text;
 use bstr::BString;
 use gitconf_text::parse::section::header;
 use gix_config::file::rename_section;
@@ -155,17 +156,14 @@ fn edited(
 ) -> Result<BString, Trouble>
     ensures { EditsTo edit.entry text.now outside.entry.is_colored result }
 {
+    let read = Text { name, text };
     match edit {
         Edit::Set(set) => with_value(alloc, text, parsed(alloc, name, text, outside)?, set),
         Edit::Unset(unset) => {
             without_entries(alloc, text, parsed(alloc, name, text, outside)?, unset)
         }
-        Edit::RenameSection(renaming) => {
-            renamed(alloc, text, parsed(alloc, name, text, outside)?, renaming)
-        }
-        Edit::RemoveSection(removal) => {
-            removed(alloc, text, &parsed(alloc, name, text, outside)?, removal)
-        }
+        Edit::RenameSection(renaming) => renamed_in(alloc, &read, renaming, outside),
+        Edit::RemoveSection(removal) => removed_in(alloc, &read, removal, outside),
         Edit::Fmt(fmt) => laid_out(alloc, name, text, fmt, outside),
     }
 }
@@ -223,23 +221,64 @@ fn removed(
     ensures { let names = removal.now.names in
         Answers bstring_bytes result (marked_answer text.now (removal_of names.name.now (option_copied names.subsection_name) file.now)) }
 {
-    marked(alloc, text, text_without(alloc, file, &removal.names)?)
+    match text_without(alloc, file, &removal.names) {
+        Ok(edited) => marked(alloc, text, edited),
+        Err(trouble) => Err(trouble),
+    }
+}
+
+/// The text of what is read without the sections of a name.
+fn removed_in(
+    alloc: Global,
+    read: &Text<'_>,
+    removal: &Removal<'_>,
+    outside: Outside<'_>,
+) -> Result<BString, Trouble>
+    ensures { let names = removal.now.names in
+        IsOfText read.now.text.now outside.entry.is_colored (λ file. Answers bstring_bytes result
+        (marked_answer read.now.text.now (removal_of names.name.now (option_copied names.subsection_name) file))) result }
+{
+    match parsed(alloc, read.name, read.text, outside) {
+        Ok(file) => removed(alloc, read.text, &file, removal),
+        Err(trouble) => Err(trouble),
+    }
 }
 
 /// The text of a file, in which the sections of a name have got another one.
 fn renamed(
     alloc: Global,
     text: &[u8],
-    file: File,
+    file: &mut File,
     renaming: &Renaming<'_>,
 ) -> Result<BString, Trouble>
-    ensures { let (old, new) = (renaming.now.old, renaming.now.new) in
+    ensures { let old = renaming.now.old in let new = renaming.now.new in
         Answers bstring_bytes result (marked_answer text.now
-        (renaming_of old.name.now (option_copied old.subsection_name) new.name.now (option_copied new.subsection_name) file)) }
+        (renaming_of old.name.now (option_copied old.subsection_name) new.name.now (option_copied new.subsection_name) file.old)) }
 {
-    let mut file = file;
-    rename(alloc, &mut file, renaming)?;
-    written(alloc, text, &file)
+    match rename(alloc, file, renaming) {
+        Ok(()) => written(alloc, text, file),
+        Err(trouble) => Err(trouble),
+    }
+}
+
+/// The text of what is read, in which the sections of a name have got another one.
+fn renamed_in(
+    alloc: Global,
+    read: &Text<'_>,
+    renaming: &Renaming<'_>,
+    outside: Outside<'_>,
+) -> Result<BString, Trouble>
+    ensures { let old = renaming.now.old in let new = renaming.now.new in
+        IsOfText read.now.text.now outside.entry.is_colored (λ file. Answers bstring_bytes result (marked_answer read.now.text.now
+        (renaming_of old.name.now (option_copied old.subsection_name) new.name.now (option_copied new.subsection_name) file))) result }
+{
+    match parsed(alloc, read.name, read.text, outside) {
+        Ok(file) => {
+            let mut file = file;
+            renamed(alloc, read.text, &mut file, renaming)
+        }
+        Err(trouble) => Err(trouble),
+    }
 }
 
 /// The text of a file that was read from another one.
@@ -407,22 +446,29 @@ fn check_count(count: usize, is_all: bool) -> Result<(), Trouble> {
 fn text_without(alloc: Global, file: &File, names: &Names<'_>) -> Result<BString, Trouble>
     ensures { Answers bstring_bytes result (removal_of names.now.name.now (option_copied names.now.subsection_name) file.now) }
 {
-    if file.section(names.name, names.subsection_name).is_err() {
-        return Err(Trouble::NoSection);
+    match file.section(names.name, names.subsection_name) {
+        Ok(_) => Ok(BString::new(text_of_others(alloc, file, names)?)),
+        Err(_) => Err(Trouble::NoSection),
     }
+}
+
+/// The text of a file without the sections of these names, if there are some.
+fn text_of_others(alloc: Global, file: &File, names: &Names<'_>) -> Result<Vec<u8>, AllocError>
+    ensures { IfOk result (λ text. text.items ≡ others_of names.now.name.now (option_copied names.now.subsection_name) file.now) }
+{
     let mut text = Vec::new(alloc);
     match file.write_to_filter(
         &mut text,
         |section| !has_names(section, names.name, names.subsection_name),
     ) {
-        Ok(()) => Ok(BString::new(text)),
-        Err(_) => Err(Trouble::Memory),
+        Ok(()) => Ok(text),
+        Err(_) => Err(AllocError),
     }
 }
 
 /// Gives the sections of a name another one.
 fn rename(alloc: Global, file: &mut File, renaming: &Renaming<'_>) -> Result<(), Trouble>
-    ensures { let (old, new) = (renaming.now.old, renaming.now.new) in
+    ensures { let old = renaming.now.old in let new = renaming.now.new in
         IsDone (unrenamed old.name.now (option_copied old.subsection_name) new.name.now (option_copied new.subsection_name) file.old)
         (apply (RenameAll old.name.now (option_copied old.subsection_name) (λ _. true) new.name.now (option_copied new.subsection_name)))
         result file.old file.new }
@@ -451,19 +497,29 @@ fn trouble_of(refusal: rename_section::Error) -> Trouble
 {
     match refusal {
         rename_section::Error::Lookup(_) => Trouble::NoSection,
-        rename_section::Error::Section(refusal) => trouble_of_header(refusal),
+        rename_section::Error::Section(refusal) => trouble_of_header(&refusal),
         rename_section::Error::Memory => Trouble::Memory,
     }
 }
 
 /// The trouble that a refused header is.
-fn trouble_of_header(refusal: header::Error) -> Trouble
-    ensures { result ≡ trouble_of_renaming (Section refusal) }
+fn trouble_of_header(refusal: &header::Error) -> Trouble
+    ensures { result ≡ trouble_of_renaming (Section refusal.now) }
 {
     match refusal {
         header::Error::InvalidName => Trouble::BadName(4),
         header::Error::InvalidSubSection => Trouble::BadName(5),
-        header::Error::Span(refusal) if refusal.number() == 3 => Trouble::Refused(3),
-        header::Error::Span(_) | header::Error::Memory => Trouble::Memory,
+        header::Error::Span(_) | header::Error::Memory => no_room(refusal.number()),
+    }
+}
+
+/// The trouble of a refusal of this number, where only 3, too large, and 27, out of memory, come.
+fn no_room(number: u8) -> Trouble
+    ensures { result ≡ no_room number }
+{
+    if number == 3 {
+        Trouble::Refused(3)
+    } else {
+        Trouble::Memory
     }
 }
