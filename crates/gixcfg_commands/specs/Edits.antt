@@ -70,7 +70,7 @@ trouble_of_renaming (Section (Span number)) = no_room number
 trouble_of_renaming (Section headers.Memory) = Memory
 trouble_of_renaming renamings.Memory = Memory
 
--- An edit of a file is done, and makes this of it, or it is refused for that reason, and the file is as it was; else memory ran out.
+-- An edit of a file is done, and what is printed of it then is what this makes of it; or it is refused for that reason; else memory ran out.
 abbrev pub IsDone : (refusal : Option Trouble) (done : State → State) → Result (Unit {0}) Trouble → (old new : State) → Type 0
 IsDone refusal done (Ok _) old new = (refusal ≡ None) × (printed new ≡ printed (done old))
 IsDone refusal done (Err trouble) old new = (trouble ≡ Memory) ⊎ (refusal ≡ Some trouble)
