@@ -1,0 +1,2 @@
+mod Editing
+mod Checking

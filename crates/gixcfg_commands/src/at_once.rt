@@ -1,11 +1,18 @@
 //! `get` of the last value of a key in one text, which is looked up without a file: one pass over the bytes.
+ghost use Rattle.std.specs.Prelude.{◌-◌, length, map, option_map};
+ghost use Rattle.std.specs.List.{slice_get};
+ghost use Rattle.bstr.specs.Owned.{bstring_bytes};
+ghost use Rattle.gitconf_sources.specs.Key.{key_of};
+ghost use Rattle.gixcfg_core.specs.Answers.{Answers, AnswersOf};
+ghost use Rattle.gixcfg_commands.specs.Entries.{got_line, value_line};
 
+use crate::named::Text;
 use bstr::BString;
 use gitconf_parse::lookup::values_in;
 use gix_config::KeyRef;
 use gixcfg_core::lines::{Line, add_entry};
 use gixcfg_core::origins::Located;
-use gixcfg_core::outside::{Inputs, accepted};
+use gixcfg_core::outside::{Inputs, Outside, accepted};
 use gixcfg_core::trouble::Trouble;
 use gixcfg_words::command::{Choice, Form, Get, Values, Wanted};
 use std::alloc::{AllocGlobal, Global};
@@ -54,16 +61,35 @@ pub fn last_line<R: Files + AllocGlobal, I: Read + Drop>(
     let Some(text) = inputs.text_of(read.path())? else {
         return Err(Trouble::Missing);
     };
-    let (alloc, outside) = (inputs.rt.alloc(), inputs.outside);
-    let made = values_in(alloc, &text, key);
-    match accepted(alloc, read.name(), &text, made, outside)? {
+    let named = Text {
+        name: read.name(),
+        text: &text,
+    };
+    line_in(inputs.rt.alloc(), &named, key, form, inputs.outside)
+}
+
+/// The line of the last value of a key in a text.
+fn line_in(
+    alloc: Global,
+    read: &Text<'_>,
+    key: KeyRef<'_>,
+    form: &Form,
+    outside: Outside<'_>,
+) -> Result<Vec<u8>, Trouble>
+    ensures { AnswersOf (λ line. line.items) read.now.text.now outside.entry.is_colored (got_line form.now (key_of key.entry)) result }
+{
+    let made = values_in(alloc, read.text, key);
+    match accepted(alloc, read.name, read.text, made, outside)? {
         Some(values) => line_of_last(alloc, &values, form),
         None => Err(Trouble::Missing),
     }
 }
 
 /// The line of the last of some values.
-fn line_of_last(alloc: Global, values: &[BString], form: &Form) -> Result<Vec<u8>, Trouble> {
+fn line_of_last(alloc: Global, values: &[BString], form: &Form) -> Result<Vec<u8>, Trouble>
+    ensures { Answers (λ line. line.items) result
+        (value_line form.now (option_map bstring_bytes (slice_get values.now (length values.now - 1)))) }
+{
     let Some(value) = values.last() else {
         return Err(Trouble::Missing);
     };

@@ -1,10 +1,14 @@
 //! `check`: the faults of each file.
-ghost use Rattle.std.specs.Prelude.{◌≤◌};
+ghost use Rattle.std.specs.Prelude.{◌≡◌, ◌≤◌, ◌++◌, ℕ, [], ◌∷◌, List, IfOk, map, string_bytes, true};
+ghost use Rattle.gixcfg_commands.specs.Checks.{AreMessages, IsFaultTold};
+ghost use Rattle.gixcfg_core.specs.Answers.{IsTold};
+ghost use Rattle.gixcfg_core.specs.declared.trouble.Trouble.TheVariants.{Text as ATextOf};
 
 use crate::beside_git::{message_if_git_reads, messages_of_git};
-use crate::named::text_at;
+use crate::named::{Text, text_at};
 use gix_config::File;
-use gixcfg_core::outside::{Inputs, refused};
+use gix_config::parse::Error;
+use gixcfg_core::outside::{Inputs, Outside, refused};
 use gixcfg_core::trouble::{MEMORY, Trouble, tell};
 use gixcfg_words::command::Check;
 use std::alloc::{AllocGlobal, Global};
@@ -99,48 +103,105 @@ fn messages_of<R: Files + AllocGlobal, I: Read + Drop>(
     is_lenient: bool,
 ) -> Result<Vec<String>, Trouble> {
     let text = text_at(inputs, word)?;
-    let alloc = inputs.rt.alloc();
-    match File::try_from_bytes(alloc, &text) {
-        Ok(file) => {
-            if is_lenient {
-                Ok(Vec::new(alloc))
-            } else {
-                Ok(messages_of_git(alloc, word, &text, &file)?)
-            }
-        }
-        Err(refusal) => {
-            let trouble = refused(alloc, word, &text, &refusal, inputs.outside);
-            let mut messages = one(alloc, message_of(trouble)?)?;
-            if !is_lenient {
-                let left = refusal.remaining_data().len();
-                add_some(
-                    &mut messages,
-                    message_if_git_reads(alloc, word, &text, left)?,
-                )?;
-            }
-            Ok(messages)
-        }
+    let read = Text {
+        name: word,
+        text: &text,
+    };
+    messages_in(inputs.rt.alloc(), &read, is_lenient, inputs.outside)
+}
+
+/// The messages of the faults of a text.
+fn messages_in(
+    alloc: Global,
+    read: &Text<'_>,
+    is_lenient: bool,
+    outside: Outside<'_>,
+) -> Result<Vec<String>, Trouble>
+    ensures { IfOk result (λ messages. AreMessages read.now.text.now outside.entry.is_colored is_lenient (map string_bytes messages.items)) }
+{
+    match File::try_from_bytes(alloc, read.text) {
+        Ok(file) => messages_of_file(alloc, read, &file, is_lenient),
+        Err(refusal) => messages_of_refused(alloc, read, &refusal, is_lenient, outside),
     }
 }
 
+/// The messages of a text that is read: of what git makes of it, unless the check is lenient.
+fn messages_of_file(
+    alloc: Global,
+    read: &Text<'_>,
+    file: &File,
+    is_lenient: bool,
+) -> Result<Vec<String>, Trouble>
+    ensures { is_lenient ≡ true → IfOk result (λ messages. map string_bytes messages.items ≡ []) }
+{
+    if is_lenient {
+        return Ok(Vec::new(alloc));
+    }
+    Ok(messages_of_git(alloc, read.name, read.text, file)?)
+}
+
+/// The messages of a text that is refused.
+fn messages_of_refused(
+    alloc: Global,
+    read: &Text<'_>,
+    refusal: &Error,
+    is_lenient: bool,
+    outside: Outside<'_>,
+) -> Result<Vec<String>, Trouble>
+    ensures { IfOk result (λ messages.
+        IsFaultTold read.now.text.now outside.entry.is_colored is_lenient refusal.now (map string_bytes messages.items)) }
+{
+    let message = message_at(alloc, read, refusal, outside)?;
+    let messages = one(alloc, message)?;
+    if is_lenient {
+        return Ok(messages);
+    }
+    let left = refusal.remaining_data().len();
+    let more = message_if_git_reads(alloc, read.name, read.text, left)?;
+    with_more(messages, more)
+}
+
+/// The message of the place from which a text can't be read on.
+fn message_at(
+    alloc: Global,
+    read: &Text<'_>,
+    refusal: &Error,
+    outside: Outside<'_>,
+) -> Result<String, Trouble>
+    ensures { IfOk result (λ message.
+        IsTold read.now.text.now outside.entry.is_colored refusal.now (ATextOf message)) }
+{
+    message_of(refused(alloc, read.name, read.text, refusal, outside))
+}
+
 /// The message of a refused text; or another trouble.
-fn message_of(trouble: Trouble) -> Result<String, Trouble> {
+fn message_of(trouble: Trouble) -> Result<String, Trouble>
+    ensures { IfOk result (λ message. trouble ≡ ATextOf message) }
+{
     match trouble {
         Trouble::Text(message) => Ok(message),
         trouble => Err(trouble),
     }
 }
 
-/// Adds a message, if there is one.
-fn add_some(messages: &mut Vec<String>, more: Option<String>) -> Result<(), Trouble> {
+/// Messages, and one more, if there is one.
+fn with_more(messages: Vec<String>, more: Option<String>) -> Result<Vec<String>, Trouble>
+    ensures { IfOk result (λ all. (behind : List (List ℕ)) × (map string_bytes all.items ≡ map string_bytes messages.items ++ behind)) }
+{
     match more {
-        Some(message) => Ok(messages.push(message)?),
-        None => Ok(()),
+        Some(message) => {
+            let mut all = messages;
+            all.push(message)?;
+            Ok(all)
+        }
+        None => Ok(messages),
     }
 }
 
 /// One message alone.
-fn one(alloc: Global, message: String) -> Result<Vec<String>, Trouble> {
+fn one(alloc: Global, message: String) -> Result<Vec<String>, Trouble>
+    ensures { IfOk result (λ messages. map string_bytes messages.items ≡ string_bytes message ∷ []) }
+{
     let mut messages = Vec::new(alloc);
     messages.push(message)?;
     Ok(messages)

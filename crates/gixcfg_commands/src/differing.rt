@@ -1,5 +1,9 @@
 //! `diff`: what two files mean differently.
-ghost use Rattle.std.specs.Prelude.{◌≤◌, IfErr};
+ghost use Rattle.std.specs.Prelude.{◌≡◌, ◌≤◌, ◌++◌, IfErr, IfOk, flat_map, map, option_map};
+ghost use Rattle.std.specs.Option.{option_copied};
+ghost use Rattle.bstr.specs.Owned.{bstring_bytes};
+ghost use Rattle.gitconf_diff.specs.Differences.{different_of};
+ghost use Rattle.gixcfg_commands.specs.Differing.{AreDifferenceLines, difference_line};
 
 use crate::named::file_at;
 use bstr::BString;
@@ -104,12 +108,20 @@ fn lines_between(
     one: &File,
     other: &File,
     is_null: bool,
-) -> Result<Vec<u8>, NoMemory> {
+) -> Result<Vec<u8>, NoMemory>
+    ensures { IfOk result (λ lines. AreDifferenceLines is_null one.now other.now lines.items) }
+{
     let found = differences(alloc, one, other)?;
-    let line = Line::of_differences(is_null);
+    all_lines(alloc, &found, is_null)
+}
+
+/// Differences, a line each.
+fn all_lines(alloc: Global, found: &[Difference], is_null: bool) -> Result<Vec<u8>, NoMemory>
+    ensures { IfOk result (λ lines. lines.items ≡ flat_map (difference_line is_null) (map different_of found.now)) }
+{
     let mut lines = Vec::new(alloc);
-    for difference in &found {
-        add_difference(alloc, &mut lines, &line, difference)?;
+    for difference in found {
+        add_difference(alloc, &mut lines, is_null, difference)?;
     }
     Ok(lines)
 }
@@ -118,9 +130,11 @@ fn lines_between(
 fn add_difference(
     alloc: Global,
     lines: &mut Vec<u8>,
-    line: &Line,
+    is_null: bool,
     difference: &Difference,
-) -> Result<(), NoMemory> {
+) -> Result<(), NoMemory>
+    ensures { IfOk result (λ _. lines.new.items ≡ lines.old.items ++ difference_line is_null (different_of difference.now)) }
+{
     let mut names = Vec::new(alloc);
     add_names(
         &mut names,
@@ -132,11 +146,14 @@ fn add_difference(
         Side::One => b"-",
         Side::Other => b"+",
     };
-    Ok(add_entry(lines, line, sign, &names, bytes_of(&difference.value))?)
+    let line = Line::of_differences(is_null);
+    Ok(add_entry(lines, &line, sign, &names, bytes_of(&difference.value))?)
 }
 
 /// The bytes of a text, if there is one.
-fn bytes_of(text: &Option<BString>) -> Option<&[u8]> {
+fn bytes_of(text: &Option<BString>) -> Option<&[u8]>
+    ensures { option_copied result ≡ option_map bstring_bytes text.now }
+{
     match text {
         Some(text) => Some(text.as_bytes()),
         None => None,

@@ -1,8 +1,24 @@
 //! Edits with options: `set`, `unset`, `rename-section`, `remove-section` and `fmt`.
+ghost use Rattle.std.specs.Prelude.{◌≡◌, List, length, option_map, true, IfErr, IfOk, Ok};
+ghost use Rattle.std.specs.Option.{option_copied};
+ghost use Rattle.bstr.specs.Owned.{bstring_bytes};
+ghost use Rattle.gitconf_text.specs.Document.{IsText};
+ghost use Rattle.gitconf_text.specs.Part.{Part};
+ghost use Rattle.gitconf_text.specs.Token.{tokens_of};
+ghost use Rattle.gitconf_sources.specs.Metadata.{api_meta};
+ghost use Rattle.gitconf_state.specs.Made.{IsMade};
+ghost use Rattle.gitconf_state.specs.Edits.{RenameAll, apply};
+ghost use Rattle.gitconf_state.specs.Printing.{printed};
+ghost use Rattle.gixcfg_core.specs.Answers.{Answers, IsRefusedText};
+ghost use Rattle.gixcfg_commands.specs.Edits as spec;
+ghost use Rattle.gixcfg_commands.specs.Edits.{EditsTo, IsDone, IsOfText, marked_answer, no_room, others_of, removal_of, renaming_of, trouble_of_renaming, unrenamed};
+ghost use Rattle.gitconf_store.specs.declared.rename_section.Error.TheVariants.{Section};
 
 use crate::layouts::laid_out;
 use crate::meant::{Meant, entries_meant, remove_meant};
+use crate::named::Text;
 use bstr::BString;
+use gitconf_text::parse::section::header;
 use gix_config::file::rename_section;
 use gix_config::lookup::existing;
 use gix_config::refusals::Refusal;
@@ -17,7 +33,7 @@ use gixcfg_core::typed::stored;
 use gixcfg_files::{Fault, Place, Replaced, Replacement};
 use gixcfg_words::command::{Fmt, Placing, Removal, Renaming, Set, Unset};
 use gixcfg_words::keys::Names;
-use std::alloc::{AllocGlobal, Global};
+use std::alloc::{AllocError, AllocGlobal, Global};
 use std::io::{Read, Write};
 use std::rt::Files;
 
@@ -137,25 +153,26 @@ fn edited(
     name: &str,
     text: &[u8],
     outside: Outside<'_>,
-) -> Result<BString, Trouble> {
+) -> Result<BString, Trouble>
+    ensures { EditsTo edit.entry text.now outside.entry.is_colored result }
+{
+    let read = Text { name, text };
     match edit {
         Edit::Set(set) => with_value(alloc, text, parsed(alloc, name, text, outside)?, set),
         Edit::Unset(unset) => {
             without_entries(alloc, text, parsed(alloc, name, text, outside)?, unset)
         }
-        Edit::RenameSection(renaming) => {
-            renamed(alloc, text, parsed(alloc, name, text, outside)?, renaming)
-        }
-        Edit::RemoveSection(removal) => {
-            let file = parsed(alloc, name, text, outside)?;
-            marked(alloc, text, text_without(alloc, &file, &removal.names)?)
-        }
+        Edit::RenameSection(renaming) => renamed_in(alloc, &read, renaming, outside),
+        Edit::RemoveSection(removal) => removed_in(alloc, &read, removal, outside),
         Edit::Fmt(fmt) => laid_out(alloc, name, text, fmt, outside),
     }
 }
 
 /// A text of this name as a file. It is copied, since the message of a refusal shows a line of it, and the edited text is compared with it.
-fn parsed(alloc: Global, name: &str, text: &[u8], outside: Outside<'_>) -> Result<File, Trouble> {
+fn parsed(alloc: Global, name: &str, text: &[u8], outside: Outside<'_>) -> Result<File, Trouble>
+    ensures made { IfOk result (λ f. (parts : List Part) × IsText text.now parts × IsMade (tokens_of parts) api_meta (length text.now) f) }
+    ensures refused { IfErr result (IsRefusedText text.now outside.entry.is_colored) }
+{
     accepted(
         alloc,
         name,
@@ -194,20 +211,80 @@ fn without_entries(
     written(alloc, text, &file)
 }
 
+/// The text of a file without the sections of a name.
+fn removed(
+    alloc: Global,
+    text: &[u8],
+    file: &File,
+    removal: &Removal<'_>,
+) -> Result<BString, Trouble>
+    ensures { let names = removal.now.names in
+        Answers bstring_bytes result (marked_answer text.now (removal_of names.name.now (option_copied names.subsection_name) file.now)) }
+{
+    match text_without(alloc, file, &removal.names) {
+        Ok(edited) => marked(alloc, text, edited),
+        Err(trouble) => Err(trouble),
+    }
+}
+
+/// The text of what is read without the sections of a name.
+fn removed_in(
+    alloc: Global,
+    read: &Text<'_>,
+    removal: &Removal<'_>,
+    outside: Outside<'_>,
+) -> Result<BString, Trouble>
+    ensures { let names = removal.now.names in
+        IsOfText read.now.text.now outside.entry.is_colored (λ file. Answers bstring_bytes result
+        (marked_answer read.now.text.now (removal_of names.name.now (option_copied names.subsection_name) file))) result }
+{
+    match parsed(alloc, read.name, read.text, outside) {
+        Ok(file) => removed(alloc, read.text, &file, removal),
+        Err(trouble) => Err(trouble),
+    }
+}
+
 /// The text of a file, in which the sections of a name have got another one.
 fn renamed(
     alloc: Global,
     text: &[u8],
-    file: File,
+    file: &mut File,
     renaming: &Renaming<'_>,
-) -> Result<BString, Trouble> {
-    let mut file = file;
-    rename(alloc, &mut file, renaming)?;
-    written(alloc, text, &file)
+) -> Result<BString, Trouble>
+    ensures { let old = renaming.now.old in let new = renaming.now.new in
+        Answers bstring_bytes result (marked_answer text.now
+        (renaming_of old.name.now (option_copied old.subsection_name) new.name.now (option_copied new.subsection_name) file.old)) }
+{
+    match rename(alloc, file, renaming) {
+        Ok(()) => written(alloc, text, file),
+        Err(trouble) => Err(trouble),
+    }
+}
+
+/// The text of what is read, in which the sections of a name have got another one.
+fn renamed_in(
+    alloc: Global,
+    read: &Text<'_>,
+    renaming: &Renaming<'_>,
+    outside: Outside<'_>,
+) -> Result<BString, Trouble>
+    ensures { let old = renaming.now.old in let new = renaming.now.new in
+        IsOfText read.now.text.now outside.entry.is_colored (λ file. Answers bstring_bytes result (marked_answer read.now.text.now
+        (renaming_of old.name.now (option_copied old.subsection_name) new.name.now (option_copied new.subsection_name) file))) result }
+{
+    match parsed(alloc, read.name, read.text, outside) {
+        Ok(file) => {
+            let mut file = file;
+            renamed(alloc, read.text, &mut file, renaming)
+        }
+        Err(trouble) => Err(trouble),
+    }
 }
 
 /// The text of a file that was read from another one.
-fn written(alloc: Global, before: &[u8], file: &File) -> Result<BString, Trouble> {
+fn written(alloc: Global, before: &[u8], file: &File) -> Result<BString, Trouble>
+    ensures { Answers bstring_bytes result (Ok (spec.marked before.now (printed file.now))) }
+{
     marked(alloc, before, file.to_bstring()?)
 }
 
@@ -215,7 +292,9 @@ fn written(alloc: Global, before: &[u8], file: &File) -> Result<BString, Trouble
 static MARK: [u8; 3] = *b"\xef\xbb\xbf";
 
 /// An edited text behind the mark that the text before began with, which the library drops and git keeps.
-fn marked(alloc: Global, before: &[u8], edited: BString) -> Result<BString, Trouble> {
+fn marked(alloc: Global, before: &[u8], edited: BString) -> Result<BString, Trouble>
+    ensures { Answers bstring_bytes result (Ok (spec.marked before.now (bstring_bytes edited))) }
+{
     if !before.starts_with(&MARK) {
         return Ok(edited);
     }
@@ -364,30 +443,83 @@ fn check_count(count: usize, is_all: bool) -> Result<(), Trouble> {
 /// # Errors
 ///
 /// There is no such section; out of memory.
-fn text_without(alloc: Global, file: &File, names: &Names<'_>) -> Result<BString, Trouble> {
-    if file.section(names.name, names.subsection_name).is_err() {
-        return Err(Trouble::NoSection);
+fn text_without(alloc: Global, file: &File, names: &Names<'_>) -> Result<BString, Trouble>
+    ensures { Answers bstring_bytes result (removal_of names.now.name.now (option_copied names.now.subsection_name) file.now) }
+{
+    match file.section(names.name, names.subsection_name) {
+        Ok(_) => Ok(BString::new(text_of_others(alloc, file, names)?)),
+        Err(_) => Err(Trouble::NoSection),
     }
+}
+
+/// The text of a file without the sections of these names, if there are some.
+fn text_of_others(alloc: Global, file: &File, names: &Names<'_>) -> Result<Vec<u8>, AllocError>
+    ensures { IfOk result (λ text. text.items ≡ others_of names.now.name.now (option_copied names.now.subsection_name) file.now) }
+{
     let mut text = Vec::new(alloc);
     match file.write_to_filter(
         &mut text,
         |section| !has_names(section, names.name, names.subsection_name),
     ) {
-        Ok(()) => Ok(BString::new(text)),
-        Err(_) => Err(Trouble::Memory),
+        Ok(()) => Ok(text),
+        Err(_) => Err(AllocError),
     }
 }
 
 /// Gives the sections of a name another one.
-fn rename(alloc: Global, file: &mut File, renaming: &Renaming<'_>) -> Result<(), Trouble> {
+fn rename(alloc: Global, file: &mut File, renaming: &Renaming<'_>) -> Result<(), Trouble>
+    ensures { let old = renaming.now.old in let new = renaming.now.new in
+        IsDone (unrenamed old.name.now (option_copied old.subsection_name) new.name.now (option_copied new.subsection_name) file.old)
+        (apply (RenameAll old.name.now (option_copied old.subsection_name) (λ _. true) new.name.now (option_copied new.subsection_name)))
+        result file.old file.new }
+{
     let (old, new) = (&renaming.old, &renaming.new);
-    let new_subsection_name = match new.subsection_name {
-        Some(bytes) => Some(BString::new(bytes.to_vec(alloc)?)),
-        None => None,
-    };
-    match file.rename_section(old.name, old.subsection_name, new.name, new_subsection_name) {
+    let subsection_name = owned(alloc, new.subsection_name)?;
+    match file.rename_section(old.name, old.subsection_name, new.name, subsection_name) {
         Ok(()) => Ok(()),
-        Err(rename_section::Error::Lookup(_)) => Err(Trouble::NoSection),
-        Err(refusal) => Err(of_number(refusal.number())),
+        Err(refusal) => Err(trouble_of(refusal)),
+    }
+}
+
+/// A copy of a text, if there is one.
+fn owned(alloc: Global, text: Option<&[u8]>) -> Result<Option<BString>, AllocError>
+    ensures { IfOk result (λ copy. option_map bstring_bytes copy ≡ option_copied text.entry) }
+{
+    match text {
+        Some(bytes) => Ok(Some(BString::new(bytes.to_vec(alloc)?))),
+        None => Ok(None),
+    }
+}
+
+/// The trouble that a refusal to rename is.
+fn trouble_of(refusal: rename_section::Error) -> Trouble
+    ensures { result ≡ trouble_of_renaming refusal }
+{
+    match refusal {
+        rename_section::Error::Lookup(_) => Trouble::NoSection,
+        rename_section::Error::Section(refusal) => trouble_of_header(&refusal),
+        rename_section::Error::Memory => Trouble::Memory,
+    }
+}
+
+/// The trouble that a refused header is.
+fn trouble_of_header(refusal: &header::Error) -> Trouble
+    ensures { result ≡ trouble_of_renaming (Section refusal.now) }
+{
+    match refusal {
+        header::Error::InvalidName => Trouble::BadName(4),
+        header::Error::InvalidSubSection => Trouble::BadName(5),
+        header::Error::Span(_) | header::Error::Memory => no_room(refusal.number()),
+    }
+}
+
+/// The trouble of a refusal of this number, where only 3, too large, and 27, out of memory, come.
+fn no_room(number: u8) -> Trouble
+    ensures { result ≡ no_room number }
+{
+    if number == 3 {
+        Trouble::Refused(3)
+    } else {
+        Trouble::Memory
     }
 }

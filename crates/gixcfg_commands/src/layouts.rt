@@ -1,5 +1,9 @@
 //! `fmt` with options.
-ghost use Rattle.std.specs.Prelude.{◌≤◌};
+ghost use Rattle.std.specs.Prelude.{◌≡◌, ◌≤◌, IfErr, IfOk};
+ghost use Rattle.bstr.specs.Owned.{bstring_bytes};
+ghost use Rattle.gitconf_layout.specs.Layout.{IsLayout};
+ghost use Rattle.gixcfg_core.specs.Answers.{IsRefusedText};
+ghost use Rattle.gixcfg_commands.specs.Layouts.{layout_asked};
 
 use crate::edits::{Edit, carry_out};
 use crate::located_target;
@@ -93,7 +97,10 @@ pub fn laid_out(
     text: &[u8],
     fmt: &Fmt<'_>,
     outside: Outside<'_>,
-) -> Result<BString, Trouble> {
+) -> Result<BString, Trouble>
+    ensures laid_out { IfOk result (λ laid_out. IsLayout (layout_asked fmt.now) text.now (bstring_bytes laid_out)) }
+    ensures refused { IfErr result (IsRefusedText text.now outside.entry.is_colored) }
+{
     accepted(
         alloc,
         name,
@@ -104,7 +111,9 @@ pub fn laid_out(
 }
 
 /// The layout that is asked for.
-fn layout_of(fmt: &Fmt<'_>) -> format::Options {
+fn layout_of(fmt: &Fmt<'_>) -> format::Options
+    ensures { result ≡ layout_asked fmt.now }
+{
     let mut layout = format::Options::default();
     match fmt.indent {
         Some(Indent::Tabs(count)) => layout.key_value_indent = format::Indent::Tabs(count as usize),

@@ -7,6 +7,13 @@ use std::alloc::AllocGlobal;
 use std::io::Read;
 use std::rt::Files;
 
+/// A text, and what it is called in messages.
+#[derive(Clone, Copy)]
+pub struct Text<'a> {
+    pub name: &'a str,
+    pub text: &'a [u8],
+}
+
 /// The text of the file that a word names, or of standard input for `-`.
 pub fn text_at<R: Files + AllocGlobal, I: Read + Drop>(
     inputs: &mut Inputs<'_, R, I>,

@@ -1,7 +1,9 @@
+pub mod Accepting
 mod LineLemmas
 mod MessageLemmas
 mod PlaceLemmas
 mod WidthLemmas
 mod Digits
 mod Choices
+mod Told
 mod UrlLemmas

@@ -1,3 +1,4 @@
+pub mod Answers
 pub mod Entries
 pub mod Line
 pub mod Message
@@ -6,6 +7,7 @@ pub mod Colors
 pub mod Dates
 pub mod Numbers
 pub mod Origins
+pub mod Telling
 pub mod Troubles
 pub mod Typed
 pub mod UrlFaults

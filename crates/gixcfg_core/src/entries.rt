@@ -7,6 +7,8 @@ ghost use Rattle.gitconf_text.specs.Document.{document_entry};
 ghost use Rattle.gitconf_text.specs.Header.{name_of, subsection_of};
 ghost use Rattle.gitconf_text.specs.Value.{plain};
 ghost use Rattle.gitconf_items.specs.Items.{entry_of};
+ghost use Rattle.gitconf_sources.specs.Key.{key_of};
+ghost use Rattle.gitconf_state.specs.Lookup.{is_named, listing};
 ghost use Rattle.gitconf_views.specs.Views.{shown};
 ghost use Rattle.gixcfg_core.specs.Entries.{found_in, found_of, is_sought, names_part, plain_found, section_lines, section_names, value_part, values_of_name};
 
@@ -36,7 +38,9 @@ pub struct Found {
 
 impl Found {
     /// The bytes of its value.
-    pub fn value(&self) -> Option<&[u8]> {
+    pub fn value(&self) -> Option<&[u8]>
+        ensures { option_copied result ≡ option_map bstring_bytes self.now.value }
+    {
         match &self.value {
             Some(value) => Some(value.as_bytes()),
             None => None,
@@ -255,7 +259,9 @@ pub fn add_values(
 }
 
 /// Whether a section has the names of a key.
-pub fn is_named(section: &SectionRef<'_>, key: KeyRef<'_>) -> bool {
+pub fn is_named(section: &SectionRef<'_>, key: KeyRef<'_>) -> bool
+    ensures { result ≡ is_named (key_of key.entry).section (key_of key.entry).subsection (listing (shown section.now)) }
+{
     has_names(section, key.section_name, key.subsection_name)
 }
 
@@ -288,8 +294,10 @@ fn is_joined(text: &[u8], first: &[u8], last: &[u8]) -> bool {
 }
 
 /// Whether a section has this name, without ASCII case, and exactly this subsection.
-pub fn has_names(section: &SectionRef<'_>, name: &str, subsection_name: Option<&[u8]>) -> bool {
+pub fn has_names(section: &SectionRef<'_>, name: &str, subsection_name: Option<&[u8]>) -> bool
+    ensures { result ≡ is_named name.now (option_copied subsection_name.entry) (listing (shown section.now)) }
+{
     let header = section.header();
-    header.name().eq_ignore_ascii_case(name.as_bytes())
+    name.as_bytes().eq_ignore_ascii_case(header.name())
         && header.subsection_name() == subsection_name
 }

@@ -1,4 +1,6 @@
 //! What lies outside of a call's words, and how a text from there is refused.
+ghost use Rattle.std.specs.Prelude.{IfOk, string_bytes};
+ghost use Rattle.gixcfg_core.specs.Answers.{IsAccepted, IsMessageOf, IsTold};
 
 use crate::message::{Refused, message};
 use crate::streams::read_all;
@@ -51,7 +53,9 @@ pub fn accepted<T: Drop>(
     text: &[u8],
     made: Result<T, Error>,
     outside: Outside<'_>,
-) -> Result<T, Trouble> {
+) -> Result<T, Trouble>
+    ensures { IsAccepted text.now outside.entry.is_colored made result }
+{
     match made {
         Ok(made) => Ok(made),
         Err(refusal) => Err(refused(alloc, name, text, &refusal, outside)),
@@ -65,7 +69,9 @@ pub fn refused(
     text: &[u8],
     refusal: &Error,
     outside: Outside<'_>,
-) -> Trouble {
+) -> Trouble
+    ensures { IsTold text.now outside.entry.is_colored refusal.now result }
+{
     match refusal.number() {
         27 => Trouble::Memory,
         1 => match refusal_message(alloc, name, text, refusal, outside.is_colored) {
@@ -83,7 +89,9 @@ fn refusal_message(
     text: &[u8],
     refusal: &Error,
     is_colored: bool,
-) -> Result<String, AllocError> {
+) -> Result<String, AllocError>
+    ensures { IfOk result (λ message. IsMessageOf text.now is_colored refusal.now (string_bytes message)) }
+{
     let shown = format!(in alloc; "{}", Shown(name))?;
     let refused = Refused {
         file: shown.as_str(),

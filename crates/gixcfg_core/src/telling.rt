@@ -1,4 +1,8 @@
 //! The entries that a call asks for, as lines.
+ghost use Rattle.std.specs.Prelude.{◌≡◌, ◌-◌, ◌++◌, length, drop, flat_map, map, None, Ok};
+ghost use Rattle.gixcfg_core.specs.Answers.{Answers};
+ghost use Rattle.gixcfg_core.specs.Entries.{line_of, plain_found};
+ghost use Rattle.gixcfg_core.specs.Telling.{default_line as default_line_lem, found_line, found_lines};
 
 use crate::entries::Found;
 use crate::lines::{Line, add_entry};
@@ -19,7 +23,9 @@ pub fn lines_of_found(
     choice: Choice<'_>,
     form: &Form,
     home: Option<&str>,
-) -> Result<Vec<u8>, Trouble> {
+) -> Result<Vec<u8>, Trouble>
+    ensures { form.now.kind ≡ None → Answers (λ lines. lines.items) result (found_lines form.now choice.entry (map plain_found found.now)) }
+{
     match choice {
         Choice::Last {
             default: Some(value),
@@ -53,7 +59,9 @@ pub fn lines_of_all(
 }
 
 /// The last of them, or none.
-fn last_of(found: &[Found]) -> &[Found] {
+fn last_of(found: &[Found]) -> &[Found]
+    ensures { result.now ≡ drop (length found.now - 1) found.now }
+{
     found.split_at(found.len().saturating_sub(1)).1
 }
 
@@ -63,7 +71,9 @@ fn default_line(
     value: &str,
     form: &Form,
     home: Option<&str>,
-) -> Result<Vec<u8>, Trouble> {
+) -> Result<Vec<u8>, Trouble>
+    ensures { form.now.kind ≡ None → Answers (λ lines. lines.items) result (Ok (default_line_lem form.now value.now)) }
+{
     let line = Line {
         has_names: false,
         ..Line::of_values(form)
@@ -85,7 +95,9 @@ fn lines_of(
     found: &[Found],
     form: &Form,
     home: Option<&str>,
-) -> Result<Vec<u8>, Trouble> {
+) -> Result<Vec<u8>, Trouble>
+    ensures { form.now.kind ≡ None → Answers (λ lines. lines.items) result (Ok (flat_map (found_line form.now) (map plain_found found.now))) }
+{
     let line = Line::of_values(form);
     let mut lines = Vec::new(alloc);
     for entry in found {
@@ -102,7 +114,10 @@ fn add_typed(
     entry: &Found,
     form: &Form,
     home: Option<&str>,
-) -> Result<(), Trouble> {
+) -> Result<(), Trouble>
+    ensures { form.now.kind ≡ None → Answers (λ _. lines.new.items) result (Ok (lines.old.items
+        ++ (let f = plain_found entry.now in line_of line.now f.before f.names f.value))) }
+{
     match form.kind {
         None => add_entry(lines, line, &entry.before, &entry.names, entry.value())?,
         Some(kind) => {

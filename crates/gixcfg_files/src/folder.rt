@@ -1,9 +1,10 @@
 //! The folder of a file that is edited, on the disk.
+ghost use Rattle.std.specs.Prelude.{None};
 
 use crate::disk::{make, put_in, remove, rename, sync_folder};
 use crate::draft::{Draft, Owner};
 use crate::reading::text_at;
-use crate::rights::Rights;
+use crate::rights::{Rights, rights_of};
 use gixcfg_replacing::FolderCalls;
 use std::alloc::AllocGlobal;
 use std::fs::OpenFile;
@@ -41,7 +42,7 @@ pub struct DiskFolder<'a, R: Files + AllocGlobal> {
 
 impl<'a, R: Files + AllocGlobal> DiskFolder<'a, R> {
     /// The folder at a path, in which a file with these rights is edited, or one that isn't there.
-    pub fn new(
+    pub(crate) fn new(
         files: &'a R,
         path: &'a str,
         rights: Option<Rights>,
@@ -55,6 +56,18 @@ impl<'a, R: Files + AllocGlobal> DiskFolder<'a, R> {
             draft: None,
             owner: Owner::Kept,
             is_taken: false,
+        }
+    }
+
+    /// The folder at a path, in which the file at another path is edited, written down to the disk.
+    ///
+    /// # Errors
+    ///
+    /// The file is no regular one, or can't be looked at; out of memory.
+    pub fn of(files: &'a R, path: &'a str, file: &str) -> io::Result<DiskFolder<'a, R>> {
+        match rights_of(files, file) {
+            Ok(rights) => Ok(DiskFolder::new(files, path, rights, true)),
+            Err(_) => Err(io::Error::from(ErrorKind::Other)),
         }
     }
 
@@ -93,6 +106,8 @@ fn no_draft() -> io::Error {
 }
 
 impl<R: Files + AllocGlobal> FolderCalls for DiskFolder<'_, R> {
+    ghost told = { λ _. None };
+
     fn read(&mut self, name: &str) -> io::Result<Option<Vec<u8>>> {
         text_at(self.files, name)
     }

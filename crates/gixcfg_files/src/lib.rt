@@ -21,6 +21,7 @@ mod rights;
 mod variables;
 
 pub use fault::Fault;
+pub use folder::DiskFolder;
 pub use links::end_of_links;
 pub use place::{Place, Replaced, Replacement};
 pub use places::{system_file, user_file};

@@ -4,10 +4,10 @@ use Rattle.std.proofs.lemmas.Bool.{false_from_ne_true}
 use Rattle.std.proofs.lemmas.Slice.Eq.{bytes_eq-Decides}
 use Rattle.std.specs.declared.alloc.Global.{Global}
 use Rattle.gixcfg_replacing.specs.Disk.{Name, Text, last_found, IsLeftAlone, IsRespected, GoesOn}
-use Rattle.gixcfg_replacing.specs.Calls.{is_same, past, is_synced, may_hold, may_leave, left_since, counts_now}
+use Rattle.gixcfg_replacing.specs.Calls.{is_same, past, is_synced, may_hold, may_leave, left_since, counts_now, change_of, changes_in}
 use Rattle.gixcfg_replacing.specs.Memory.{calls_of, faults_of, memory_disk, KeepsNone, KeepsCall}
 use Rattle.gixcfg_replacing.specs.declared.call.Call.{Call}
-use Rattle.gixcfg_replacing.specs.declared.call.Call.TheVariants.{Made, Written, Synced, Renamed, Removed, Settled, Found, Fault}
+use Rattle.gixcfg_replacing.specs.declared.call.Call.TheVariants.{Made, Shared, Written, Synced, Renamed, Removed, Settled, Found, Fault}
 use Rattle.gixcfg_replacing.specs.declared.memory.Memory.{Memory}
 
 pub is_other : (at : Vec ℕ Global) (name n : Name) → at.items ≡ name → n ≢ name → is_same at.items n ≡ false
@@ -37,6 +37,9 @@ module _ (older : List Call) (n : Name) where
       let found : past (Written at text ∷ older) n ≡ past older n = rw (e) refl in
       let synced : is_synced (Written at text ∷ older) n ≡ is_synced older n = rw (e) refl in
       record { found = found; holds = holds_so (Written at text ∷ older) older n found synced; leaves = λ left. ⊎_elim (λ before. before) (λ same. absurd (cc (same, e))) }
+
+  pub shared_all : (from to : Vec ℕ Global) → Untouched (Shared from to) older n
+  shared_all from to = record { found = refl; holds = λ text hold. hold; leaves = λ left leave. leave }
 
   pub synced_else : (at : Vec ℕ Global) → is_same at.items n ≡ false → Untouched (Synced at) older n
   synced_else at e =
@@ -84,6 +87,7 @@ module _ (old new : Memory) where
     found = λ n. ([], ap (λ calls. past calls n) is);
     faults = faults;
     others = λ n. omega arith;
+    made = ([], ap changes_in is, refl);
   }
 
   -- a call was kept
@@ -107,6 +111,7 @@ module _ (old new : Memory) where
       found = λ n. ((found n).0, ap (λ calls. past calls n) is ∙ (found n).1);
       faults = faults;
       others = λ n. omega arith;
+      made = (change_of call, ap changes_in is, refl);
     }
 
 grown : (b : Bool) (found : Option Text) (earlier : List (Option Text)) → (since : List (Option Text)) × ((if b then found ∷ earlier else earlier) ≡ since ++ earlier)
@@ -115,6 +120,7 @@ grown false found earlier = ([], refl)
 
 pub grows : (call : Call) (older : List Call) (n : Name) → (since : List (Option Text)) × (past (call ∷ older) n ≡ since ++ past older n)
 grows (Made at) older n = grown (is_same at.items n) (Some []) (past older n)
+grows (Shared from to) older n = ([], refl)
 grows (Written at text) older n = grown (is_same at.items n) (Some text.items) (past older n)
 grows (Synced at) older n = ([], refl)
 grows (Renamed from to) older n = go (is_same to.items n) (is_same from.items n)

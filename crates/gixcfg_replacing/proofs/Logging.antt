@@ -2,13 +2,14 @@
 use Rattle.std.proofs.Common.{◌≡◌, ◌≢◌, inl, inr, ⊎_elim, ℕ, ◌≤◌, ◌+◌, Bool, true, false, List, [], ◌∷◌, ◌++◌, length, Option, None, Some, Result, Ok, Err, Vec, refl, sym, ◌∙◌, ap, subst, arith, if◌then◌else◌, option_map, IfErr}
 use Rattle.std.specs.declared.alloc.Global.{Global}
 use Rattle.std.specs.declared.io.Error.{Error}
+use Rattle.gixcfg_replacing.specs.Changes.{Change, told_since, told_after, told_making, Making}
 use Rattle.gixcfg_replacing.specs.Disk.{Name, Text, Disk, last_found, lock_of, IsQuiet, Keeps, IsLeftAlone, IsRespected, GoesOn, HasCause, Makes, Moves, IsOldOrMoved}
-use Rattle.gixcfg_replacing.specs.Calls.{is_same, past, is_synced, may_hold, may_leave, left_since, counts_now, is_ours, others_at, faults_in}
+use Rattle.gixcfg_replacing.specs.Calls.{is_same, past, is_synced, may_hold, may_leave, left_since, counts_now, is_ours, others_at, faults_in, change_of, changes_in}
 use Rattle.gixcfg_replacing.specs.Logged.{calls_of, logged_disk, IsFree, IsOthersDoing, Does}
 use Rattle.gixcfg_replacing.specs.declared.call.Call.{Call}
-use Rattle.gixcfg_replacing.specs.declared.call.Call.TheVariants.{Made, Written, Synced, Renamed, Removed, Settled, Found, Fault}
+use Rattle.gixcfg_replacing.specs.declared.call.Call.TheVariants.{Made, Shared, Written, Synced, Renamed, Removed, Settled, Found, Fault}
 use Rattle.gixcfg_replacing.specs.declared.logged.LoggedFolder.{LoggedFolder}
-use Rattle.gixcfg_replacing.proofs.Runs.{goes_on, alone_on, respected_on, quiet_first, quiet_next}
+use Rattle.gixcfg_replacing.proofs.Runs.{told_none, goes_on, alone_on, respected_on, quiet_first, quiet_next}
 use Rattle.gixcfg_replacing.proofs.InMemory.{Untouched, is_other, is_it, holds_so, made_else, renamed_else, grows}
 
 module _ (older : List Call) (n : Name) where
@@ -27,6 +28,7 @@ grow_if false count = omega arith
 
 others_grow : (call : Call) (older : List Call) (n : Name) → others_at older n ≤ others_at (call ∷ older) n
 others_grow (Made at) older n = omega arith
+others_grow (Shared from to) older n = omega arith
 others_grow (Written at text) older n = omega arith
 others_grow (Synced at) older n = omega arith
 others_grow (Renamed from to) older n = omega arith
@@ -37,6 +39,7 @@ others_grow Fault older n = omega arith
 
 faults_grow : (call : Call) (older : List Call) → faults_in older ≤ faults_in (call ∷ older)
 faults_grow (Made at) older = omega arith
+faults_grow (Shared from to) older = omega arith
 faults_grow (Written at text) older = omega arith
 faults_grow (Synced at) older = omega arith
 faults_grow (Renamed from to) older = omega arith
@@ -49,10 +52,10 @@ faults_grow Fault older = omega arith
 abbrev pub IsOurCall : Call → Type 0
 IsOurCall call = (older : List Call) (n : Name) → others_at (call ∷ older) n ≡ others_at older n
 
-module _ {C : Type 0} (old new : LoggedFolder C) where
+module _ {C : Type 0} (told : C → Option (List Change)) (old new : LoggedFolder C) where
   -- nothing was kept
-  module _ (is : calls_of new ≡ calls_of old) where
-    pub none_does : IsOthersDoing old new
+  module _ (is : calls_of new ≡ calls_of old) (untold : told new.folder ≡ told old.folder) where
+    pub none_does : IsOthersDoing told old new
     none_does = record {
       alone = λ n. record {
         kept = λ quiet. record {
@@ -70,13 +73,16 @@ module _ {C : Type 0} (old new : LoggedFolder C) where
         found = λ n. ([], ap (λ calls. past calls n) is);
         faults = omega (arith, ap faults_in is);
         others = λ n. omega (arith, ap (λ calls. others_at calls n) is);
+        made = ([], ap changes_in is, untold ∙ sym (told_none (told old.folder)));
       };
       owned = λ n. ap (λ calls. is_ours calls n) is;
+      kept = ap changes_in is;
+      told = untold;
     }
 
   -- a call was kept
   module _ (call : Call) (is : calls_of new ≡ call ∷ calls_of old) where
-    keeps_so : (n : Name) → Untouched call (calls_of old) n → Keeps logged_disk old new n
+    keeps_so : (n : Name) → Untouched call (calls_of old) n → Keeps (logged_disk told) old new n
     keeps_so n untouched = record {
       found = ap (λ calls. past calls n) is ∙ untouched.found;
       holds = λ text hold. untouched.holds text (subst (λ calls. may_hold calls n text) is hold);
@@ -85,34 +91,37 @@ module _ {C : Type 0} (old new : LoggedFolder C) where
           ⊎_elim (λ now. counts_now (calls_of old) t n left le (untouched.leaves left now)) (λ before. before.1) (subst (λ calls. left_since calls t n left) is since);
     }
 
-    pub alone_so : (n : Name) → Untouched call (calls_of old) n → (is_ours (calls_of old) n ≡ true → is_ours (call ∷ calls_of old) n ≡ true) → IsLeftAlone logged_disk old new n
+    pub alone_so : (n : Name) → Untouched call (calls_of old) n → (is_ours (calls_of old) n ≡ true → is_ours (call ∷ calls_of old) n ≡ true) → IsLeftAlone (logged_disk told) old new n
     alone_so n untouched ours = record { kept = λ quiet. keeps_so n untouched; ours = λ was. ap (λ calls. is_ours calls n) is ∙ ours was }
 
-    pub goes_so : GoesOn logged_disk old new
-    goes_so = record {
+    pub goes_so : told new.folder ≡ told_since (change_of call) (told old.folder) → GoesOn (logged_disk told) old new
+    goes_so is_told = record {
       later = omega (arith, ap length is);
       remembers = λ t n left le before. subst (λ calls. left_since calls t n left) (sym is) (inr (le, before));
       found = λ n. ((grows call (calls_of old) n).0, ap (λ calls. past calls n) is ∙ (grows call (calls_of old) n).1);
       faults = omega (arith, faults_grow call (calls_of old), ap faults_in is);
       others = λ n. omega (arith, others_grow call (calls_of old) n, ap (λ calls. others_at calls n) is);
+      made = (change_of call, ap changes_in is, is_told);
     }
 
-    quiet_so : (n : Name) → others_at (call ∷ calls_of old) n ≡ others_at (calls_of old) n → IsQuiet logged_disk old new n
+    quiet_so : (n : Name) → others_at (call ∷ calls_of old) n ≡ others_at (calls_of old) n → IsQuiet (logged_disk told) old new n
     quiet_so n same = ap (λ calls. others_at calls n) is ∙ same
 
-    pub respect_so : IsOurCall call → (n : Name) → IsRespected logged_disk old new n
+    pub respect_so : IsOurCall call → (n : Name) → IsRespected (logged_disk told) old new n
     respect_so ours n = λ was. (quiet_so n (ours (calls_of old) n), λ file lock. quiet_so file (ours (calls_of old) file))
 
   module _ (is : calls_of new ≡ Fault ∷ calls_of old) where
-    pub fault_does : IsOthersDoing old new
-    fault_does = record {
+    pub fault_does : told new.folder ≡ told old.folder → IsOthersDoing told old new
+    fault_does untold = record {
       alone = λ n. alone_so Fault is n (fault_all (calls_of old) n) (λ ours. ours);
       respect = respect_so Fault is (λ older n. refl);
-      time = goes_so Fault is;
+      time = goes_so Fault is (untold ∙ sym (told_none (told old.folder)));
       owned = λ n. ap (λ calls. is_ours calls n) is;
+      kept = ap changes_in is;
+      told = untold;
     }
 
-    pub fault_cause : (error : Error) → HasCause logged_disk old new error
+    pub fault_cause : (error : Error) → HasCause (logged_disk told) old new error
     fault_cause error = inr (omega (arith, ap faults_in is))
 
   -- others changed what is at a name that is free
@@ -124,81 +133,115 @@ module _ {C : Type 0} (old new : LoggedFolder C) where
     locked_from n file ours lock same =
         absurd (let not = free.lock_free in let at_lock = subst (λ m. is_ours (calls_of old) m ≡ true) (sym lock ∙ ap lock_of same) ours in cc (not, at_lock))
 
-    quiet_else : (n : Name) → n ≢ name → IsQuiet logged_disk old new n
+    quiet_else : (n : Name) → n ≢ name → IsQuiet (logged_disk told) old new n
     quiet_else n apart = quiet_so (Found at found) is n (rw (is_other at name n it apart) refl)
 
-    pub not_quiet : IsQuiet logged_disk old new name → ⊥
+    pub not_quiet : IsQuiet (logged_disk told) old new name → ⊥
     not_quiet quiet = omega (arith, quiet, ap (λ calls. others_at calls name) is, counted)
       where
         counted : others_at (Found at found ∷ calls_of old) name ≡ others_at (calls_of old) name + 1
         counted = rw (is_it at name it) refl
 
-    alone_else : (n : Name) → (b : Bool) → is_same at.items n ≡ b → IsLeftAlone logged_disk old new n
+    alone_else : (n : Name) → (b : Bool) → is_same at.items n ≡ b → IsLeftAlone (logged_disk told) old new n
     alone_else n false e = alone_so (Found at found) is n (found_else (calls_of old) n at found e) (λ ours. ours)
     alone_else n true e = record { kept = λ quiet. absurd (changed quiet); ours = λ was. ap (λ calls. is_ours calls n) is ∙ was }
       where
         counted : others_at (Found at found ∷ calls_of old) n ≡ others_at (calls_of old) n + 1
         counted = rw (e) refl
 
-        changed : IsQuiet logged_disk old new n → ⊥
+        changed : IsQuiet (logged_disk told) old new n → ⊥
         changed quiet = omega (arith, quiet, ap (λ calls. others_at calls n) is, counted)
 
-    pub found_does : IsOthersDoing old new
-    found_does = record {
+    pub found_does : told new.folder ≡ told old.folder → IsOthersDoing told old new
+    found_does untold = record {
       alone = λ n. alone_else n (is_same at.items n) refl;
       respect = λ n ours. (quiet_else n (apart_from n ours), λ file lock. quiet_else file (locked_from n file ours lock));
-      time = goes_so (Found at found) is;
+      time = goes_so (Found at found) is (untold ∙ sym (told_none (told old.folder)));
       owned = λ n. ap (λ calls. is_ours calls n) is;
+      kept = ap changes_in is;
+      told = untold;
     }
 
+-- what others did is the same over any folder that tells no change
+pub over : {C : Type 0} (told : C → Option (List Change)) (old new : LoggedFolder C) (below : C) → IsOthersDoing told old new → IsOthersDoing told (record old { folder = below }) (record new { folder = below })
+over told old new below did = record {
+  alone = λ n.
+      let alone = did.alone n in
+      record {
+        kept = λ quiet. let keeps = alone.kept quiet in record { found = keeps.found; holds = keeps.holds; leaves = keeps.leaves; since = keeps.since };
+        ours = alone.ours;
+      };
+  respect = did.respect;
+  time =
+      let time = did.time in
+      record { later = time.later; remembers = time.remembers; found = time.found; faults = time.faults; others = time.others; made = ([], did.kept, sym (told_none (told below))) };
+  owned = did.owned;
+  kept = did.kept;
+  told = refl;
+}
+
 -- what others did at first, and then
-pub does_on : {C : Type 0} (a b c : LoggedFolder C) → IsOthersDoing a b → IsOthersDoing b c → IsOthersDoing a c
-does_on a b c first next = record {
-  alone = λ n. alone_on logged_disk a b c n first.time next.time (first.alone n) (next.alone n);
-  respect = λ n. respected_on logged_disk a b c n (first.alone n) (first.respect n) (next.respect n);
-  time = goes_on logged_disk a b c first.time next.time;
+pub does_on : {C : Type 0} (told : C → Option (List Change)) (a b c : LoggedFolder C) → IsOthersDoing told a b → IsOthersDoing told b c → IsOthersDoing told a c
+does_on told a b c first next = record {
+  alone = λ n. alone_on (logged_disk told) a b c n first.time next.time (first.alone n) (next.alone n);
+  respect = λ n. respected_on (logged_disk told) a b c n (first.alone n) (first.respect n) (next.respect n);
+  time = goes_on (logged_disk told) a b c first.time next.time;
   owned = λ n. next.owned n ∙ first.owned n;
+  kept = next.kept ∙ first.kept;
+  told = next.told ∙ first.told;
 }
 
 -- what a call of ours does otherwise than at a name, and where it failed
-module _ {C : Type 0} (old new : LoggedFolder C) (call : Call) where
+module _ {C : Type 0} (told : C → Option (List Change)) (old new : LoggedFolder C) (call : Call) where
   pub does_alone : (result : Result (Unit {0}) Error) → Does call (calls_of old) (calls_of new) result → (n : Name) → Untouched call (calls_of old) n
-      → (is_ours (calls_of old) n ≡ true → is_ours (call ∷ calls_of old) n ≡ true) → IsLeftAlone logged_disk old new n
-  does_alone (Ok done) is n untouched ours = alone_so old new call is n untouched ours
-  does_alone (Err error) is n untouched ours = (fault_does old new is).alone n
+      → (is_ours (calls_of old) n ≡ true → is_ours (call ∷ calls_of old) n ≡ true) → IsLeftAlone (logged_disk told) old new n
+  does_alone (Ok done) is n untouched ours = alone_so told old new call is n untouched ours
+  does_alone (Err error) is n untouched ours = alone_so told old new Fault is n (fault_all (calls_of old) n) (λ ours. ours)
 
-  pub does_respect : (result : Result (Unit {0}) Error) → Does call (calls_of old) (calls_of new) result → IsOurCall call → (n : Name) → IsRespected logged_disk old new n
-  does_respect (Ok done) is ours n = respect_so old new call is ours n
-  does_respect (Err error) is ours n = (fault_does old new is).respect n
+  pub does_respect : (result : Result (Unit {0}) Error) → Does call (calls_of old) (calls_of new) result → IsOurCall call → (n : Name) → IsRespected (logged_disk told) old new n
+  does_respect (Ok done) is ours n = respect_so told old new call is ours n
+  does_respect (Err error) is ours n = respect_so told old new Fault is (λ older n. refl) n
 
-  pub does_time : (result : Result (Unit {0}) Error) → Does call (calls_of old) (calls_of new) result → GoesOn logged_disk old new
-  does_time (Ok done) is = goes_so old new call is
-  does_time (Err error) is = (fault_does old new is).time
+  pub does_time : (result : Result (Unit {0}) Error) → Does call (calls_of old) (calls_of new) result → (change : Change) → change_of call ≡ change ∷ []
+      → told new.folder ≡ told_after (told old.folder) result change → GoesOn (logged_disk told) old new
+  does_time (Ok done) is change one made = goes_so told old new call is (made ∙ told_one (told old.folder) ∙ ap (λ since. told_since since (told old.folder)) (sym one))
+    where
+      told_one : (before : Option (List Change)) → told_after before (Ok done) change ≡ told_since (change ∷ []) before
+      told_one None = refl
+      told_one (Some before) = refl
+  does_time (Err error) is change one made = goes_so told old new Fault is (made ∙ failed (told old.folder))
+    where
+      failed : (before : Option (List Change)) → told_after before (Err error) change ≡ told_since [] before
+      failed None = refl
+      failed (Some before) = refl
 
-  pub does_cause : (result : Result (Unit {0}) Error) → Does call (calls_of old) (calls_of new) result → IfErr result (HasCause logged_disk old new)
+  pub does_cause : (result : Result (Unit {0}) Error) → Does call (calls_of old) (calls_of new) result → IfErr result (HasCause (logged_disk told) old new)
   does_cause (Ok done) is = tt
-  does_cause (Err error) is = fault_cause old new is error
+  does_cause (Err error) is = fault_cause told old new is error
 
 -- a file is made at a name (nk), after others (al), also at that name (ln)
-module _ {C : Type 0} (a l n k : LoggedFolder C) (name : Name) (at also : Vec ℕ Global) (at_is : at.items ≡ name) (also_is : also.items ≡ name) (al : IsOthersDoing a l) (ln : IsOthersDoing l n) where
-  an : IsOthersDoing a n
-  an = does_on a l n al ln
+module _ {C : Type 0} (told : C → Option (List Change)) (a l n k : LoggedFolder C) (name : Name) (at also : Vec ℕ Global) (at_is : at.items ≡ name) (also_is : also.items ≡ name) (al : IsOthersDoing told a l) (ln : IsOthersDoing told l n) where
+  an : IsOthersDoing told a n
+  an = does_on told a l n al ln
 
-  seen_l : (m : Name) → m ≡ name → IsQuiet logged_disk a n name → last_found (past (calls_of l) m) ≡ last_found (past (calls_of a) name)
-  seen_l m is quiet = ap (λ x. last_found (past (calls_of l) x)) is ∙ ap last_found ((al.alone name).kept (quiet_first logged_disk a l n name al.time ln.time quiet)).found
+  seen_l : (m : Name) → m ≡ name → IsQuiet (logged_disk told) a n name → last_found (past (calls_of l) m) ≡ last_found (past (calls_of a) name)
+  seen_l m is quiet = ap (λ x. last_found (past (calls_of l) x)) is ∙ ap last_found ((al.alone name).kept (quiet_first (logged_disk told) a l n name al.time ln.time quiet)).found
 
-  quiet_l : IsQuiet logged_disk a n name → IsQuiet logged_disk l n at.items
-  quiet_l quiet = subst (λ x. IsQuiet logged_disk l n x) (sym at_is) (quiet_next logged_disk a l n name al.time ln.time quiet)
+  quiet_l : IsQuiet (logged_disk told) a n name → IsQuiet (logged_disk told) l n at.items
+  quiet_l quiet = subst (λ x. IsQuiet (logged_disk told) l n x) (sym at_is) (quiet_next (logged_disk told) a l n name al.time ln.time quiet)
 
   -- there was something
-  pub not_made : (IsQuiet logged_disk l n at.items → last_found (past (calls_of l) at.items) ≢ None) → (IsQuiet logged_disk a n name → last_found (past (calls_of a) name) ≢ None)
+  pub not_made : (IsQuiet (logged_disk told) l n at.items → last_found (past (calls_of l) at.items) ≢ None) → (IsQuiet (logged_disk told) a n name → last_found (past (calls_of a) name) ≢ None)
   not_made there = λ quiet none. there (quiet_l quiet) (seen_l at.items at_is quiet ∙ none)
 
-  module _ (gone : IsQuiet logged_disk l n at.items → last_found (past (calls_of l) at.items) ≡ None) (is : calls_of k ≡ Made also ∷ calls_of n) where
-    quiet_n : IsQuiet logged_disk a k name → IsQuiet logged_disk a n name
+  module _ (gone : IsQuiet (logged_disk told) l n at.items → last_found (past (calls_of l) at.items) ≡ None) (is : calls_of k ≡ Made also ∷ calls_of n) (made : told k.folder ≡ told_since (Making also.items ∷ []) (told n.folder)) where
+    time_nk : GoesOn (logged_disk told) n k
+    time_nk = goes_so told n k (Made also) is made
+
+    quiet_n : IsQuiet (logged_disk told) a k name → IsQuiet (logged_disk told) a n name
     quiet_n quiet = sym (ap (λ calls. others_at calls name) is) ∙ quiet
 
-    pub makes : Makes logged_disk a k name (Ok true)
+    pub makes : Makes (logged_disk told) a k name (Ok true)
     makes = (
       λ quiet. sym (seen_l at.items at_is (quiet_n quiet)) ∙ gone (quiet_l (quiet_n quiet)),
       ap (λ calls. last_found (past calls name)) is ∙ found,
@@ -211,27 +254,66 @@ module _ {C : Type 0} (a l n k : LoggedFolder C) (name : Name) (at also : Vec �
         owned : is_ours (Made also ∷ calls_of n) name ≡ true
         owned = rw (is_it also name also_is) refl
 
-    pub makes_alone : (other : Name) → other ≢ name → IsLeftAlone logged_disk a k other
+    pub makes_alone : (other : Name) → other ≢ name → IsLeftAlone (logged_disk told) a k other
     makes_alone other apart =
-        alone_on logged_disk a n k other an.time (goes_so n k (Made also) is) (an.alone other)
-        (alone_so n k (Made also) is other (made_else (calls_of n) other also it) (λ ours. rw (it) ours))
+        alone_on (logged_disk told) a n k other an.time time_nk (an.alone other)
+        (alone_so told n k (Made also) is other (made_else (calls_of n) other also it) (λ ours. rw (it) ours))
       where
         it : is_same also.items other ≡ false
         it = is_other also name other also_is apart
 
-    pub makes_time : GoesOn logged_disk a k
-    makes_time = goes_on logged_disk a n k an.time (goes_so n k (Made also) is)
+    pub makes_time : GoesOn (logged_disk told) a k
+    makes_time = goes_on (logged_disk told) a n k an.time time_nk
+
+-- what is told after a call that was passed on (a to d)
+pub passed_on : {C : Type 0} (told : C → Option (List Change)) (a b c d : C) (did answer : Result (Unit {0}) Error) (change asked : Change)
+    → told c ≡ told_after (told b) did change → b ≡ a → d ≡ c → answer ≡ did → change ≡ asked → told d ≡ told_after (told a) answer asked
+passed_on told a b c d did answer change asked is ba dc same to =
+    ap told dc ∙ is ∙ ap (λ folder. told_after (told folder) did change) ba ∙ ap (λ result. told_after (told a) result change) (sym same) ∙ ap (told_after (told a) answer) to
+
+-- what was not made is not told
+pub not_told : (told : Option (List Change)) (result : Result Bool Error) (name : Name) → result ≢ Ok true → told_making told result name ≡ told
+not_told None result name not = refl
+not_told (Some before) (Ok true) name not = absurd (not refl)
+not_told (Some before) (Ok false) name not = refl
+not_told (Some before) (Err error) name not = refl
+
+-- a file was made (m), others looked at (l, n), and then that is kept (k)
+module _ {C : Type 0} (told : C → Option (List Change)) (a m l n k : LoggedFolder C) (name : Name) (at also : Vec ℕ Global) (at_is : at.items ≡ name) (also_is : also.items ≡ name) (am : calls_of m ≡ calls_of a)
+    (asked : told m.folder ≡ told_making (told a.folder) (Ok true) name) (ml : IsOthersDoing told m l) (ln : IsOthersDoing told l n)
+    (gone : IsQuiet (logged_disk told) l n at.items → last_found (past (calls_of l) at.items) ≡ None) (is : calls_of k ≡ Made also ∷ calls_of n) (nk : told k.folder ≡ told n.folder) where
+  abbrev before_make : LoggedFolder C → LoggedFolder C
+  before_make folder = record folder { folder = a.folder }
+
+  al : IsOthersDoing told a (before_make l)
+  al = does_on told a (before_make m) (before_make l) (none_does told a (before_make m) am refl) (over told m l a.folder ml)
+
+  made_one : (before : Option (List Change)) → told_making before (Ok true) name ≡ told_since (Making also.items ∷ []) before
+  made_one None = refl
+  made_one (Some before) = ap (λ at_name. Some (Making at_name ∷ before)) (sym also_is)
+
+  made : told k.folder ≡ told_since (Making also.items ∷ []) (told a.folder)
+  made = nk ∙ ln.told ∙ ml.told ∙ asked ∙ made_one (told a.folder)
+
+  pub makes_kept : Makes (logged_disk told) a k name (Ok true)
+  makes_kept = makes told a (before_make l) (before_make n) k name at also at_is also_is al (over told l n a.folder ln) gone is made
+
+  pub makes_kept_alone : (other : Name) → other ≢ name → IsLeftAlone (logged_disk told) a k other
+  makes_kept_alone = makes_alone told a (before_make l) (before_make n) k name at also at_is also_is al (over told l n a.folder ln) gone is made
+
+  pub makes_kept_time : GoesOn (logged_disk told) a k
+  makes_kept_time = makes_time told a (before_make l) (before_make n) k name at also at_is also_is al (over told l n a.folder ln) gone is made
 
 -- what others did after a moment (a) since which no call was kept (b)
-pub after_same : {C : Type 0} {a b c : LoggedFolder C} → IsOthersDoing b c → calls_of b ≡ calls_of a → IsOthersDoing a c
-after_same next is = does_on _ _ _ (none_does _ _ is) next
+pub after_same : {C : Type 0} (told : C → Option (List Change)) {a b c : LoggedFolder C} → IsOthersDoing told b c → calls_of b ≡ calls_of a → told b.folder ≡ told a.folder → IsOthersDoing told a c
+after_same told next is untold = does_on told _ _ _ (none_does told _ _ is untold) next
 
-pub not_made_after : {C : Type 0} (a : LoggedFolder C) {b c : LoggedFolder C} (name : Name) (at : Vec ℕ Global) → IsOthersDoing b c → (IsQuiet logged_disk b c at.items → last_found (past (calls_of b) at.items) ≢ None) → at.items ≡ name
-    → calls_of b ≡ calls_of a → IsQuiet logged_disk a c name → last_found (past (calls_of a) name) ≢ None
-not_made_after a name at next there at_is is = not_made a _ _ a name at at at_is at_is (none_does a _ is) next there
+pub not_made_after : {C : Type 0} (told : C → Option (List Change)) (a : LoggedFolder C) {b c : LoggedFolder C} (name : Name) (at : Vec ℕ Global) → IsOthersDoing told b c → (IsQuiet (logged_disk told) b c at.items → last_found (past (calls_of b) at.items) ≢ None) → at.items ≡ name
+    → calls_of b ≡ calls_of a → told b.folder ≡ told a.folder → IsQuiet (logged_disk told) a c name → last_found (past (calls_of a) name) ≢ None
+not_made_after told a name at next there at_is is untold = not_made told a _ _ a name at at at_is at_is (none_does told a _ is untold) next there
 
 -- a file gets another name
-module _ {C : Type 0} (old new : LoggedFolder C) (from to : Name) (f t : Vec ℕ Global) (apart : from ≢ to) (f_is : f.items ≡ from) (t_is : t.items ≡ to) where
+module _ {C : Type 0} (told : C → Option (List Change)) (old new : LoggedFolder C) (from to : Name) (f t : Vec ℕ Global) (apart : from ≢ to) (f_is : f.items ≡ from) (t_is : t.items ≡ to) where
   there : is_same t.items to ≡ true
   there = is_it t to t_is
 
@@ -247,16 +329,19 @@ module _ {C : Type 0} (old new : LoggedFolder C) (from to : Name) (f t : Vec ℕ
   gone_from : (older : List Call) → last_found (past (Renamed f t ∷ older) from) ≡ None
   gone_from older = rw (not_there, is_it f from f_is) refl
 
-  pub does_move : (result : Result (Unit {0}) Error) → is_ours (calls_of old) from ≡ true → Does (Renamed f t) (calls_of old) (calls_of new) result → Moves logged_disk old new from to result
+  stays : (n : Name) → calls_of new ≡ Fault ∷ calls_of old → Keeps (logged_disk told) old new n
+  stays n is = keeps_so told old new Fault is n (fault_all (calls_of old) n)
+
+  pub does_move : (result : Result (Unit {0}) Error) → is_ours (calls_of old) from ≡ true → Does (Renamed f t) (calls_of old) (calls_of new) result → Moves (logged_disk told) old new from to result
   does_move (Ok done) ours is = record {
     found = ap (λ calls. past calls to) is ∙ found_moved (calls_of old);
     gone = λ quiet. ap (λ calls. last_found (past calls from)) is ∙ gone_from (calls_of old);
     holds = λ text hold synced.
         sym (ap last_found (found_moved (calls_of old))) ∙ subst (λ calls. may_hold calls to text) is hold (synced_moved (calls_of old) ∙ synced);
   }
-  does_move (Err error) ours is = (ap (λ calls. is_ours calls from) is ∙ ours, inl (((fault_does old new is).alone to).kept (ap (λ calls. others_at calls to) is)))
+  does_move (Err error) ours is = (ap (λ calls. is_ours calls from) is ∙ ours, inl (stays to is))
 
-  pub does_crash : (result : Result (Unit {0}) Error) → Does (Renamed f t) (calls_of old) (calls_of new) result → IsOldOrMoved logged_disk old new from to
+  pub does_crash : (result : Result (Unit {0}) Error) → Does (Renamed f t) (calls_of old) (calls_of new) result → IsOldOrMoved (logged_disk told) old new from to
   does_crash (Ok done) is moment left le since =
       ⊎_elim
       (λ now.
@@ -264,11 +349,11 @@ module _ {C : Type 0} (old new : LoggedFolder C) (from to : Name) (f t : Vec ℕ
       (⊎_elim (λ moved. inr (moved.1.0, subst (λ n. may_hold (calls_of old) n moved.1.0) f_is moved.1.1, moved.1.2))
       (λ gone. absurd (let other = is_other f from to f_is (λ same. apart (sym same)) in cc (gone.0, other)))) now)
       (λ before. inl before.1) (subst (λ calls. left_since calls moment to left) is since)
-  does_crash (Err error) is moment left le since = inl ((((fault_does old new is).alone to).kept (ap (λ calls. others_at calls to) is)).since moment left le since)
+  does_crash (Err error) is moment left le since = inl ((stays to is).since moment left le since)
 
-  pub does_rename_alone : (result : Result (Unit {0}) Error) → Does (Renamed f t) (calls_of old) (calls_of new) result → (n : Name) → n ≢ from → n ≢ to → IsLeftAlone logged_disk old new n
+  pub does_rename_alone : (result : Result (Unit {0}) Error) → Does (Renamed f t) (calls_of old) (calls_of new) result → (n : Name) → n ≢ from → n ≢ to → IsLeftAlone (logged_disk told) old new n
   does_rename_alone result is n not_from not_to =
-      does_alone old new (Renamed f t) result is n (renamed_else (calls_of old) n f t elsewhere (is_other t to n t_is not_to)) (λ ours. rw (elsewhere) ours)
+      does_alone told old new (Renamed f t) result is n (renamed_else (calls_of old) n f t elsewhere (is_other t to n t_is not_to)) (λ ours. rw (elsewhere) ours)
     where
       elsewhere : is_same f.items n ≡ false
       elsewhere = is_other f from n f_is not_from

@@ -56,6 +56,10 @@ module _ (old new : Memory) where
   settle_alone (Ok done) kept n = call_alone old new Settled kept n (settled_all (calls_of old) n)
   settle_alone (Err error) none n = none_alone old new none n
 
+  pub settle_goes : (result : Result (Unit {0}) Error) → SettlesIn old new result → faults_of old ≤ faults_of new → GoesOn memory_disk old new
+  settle_goes (Ok done) kept = kept_goes Settled kept
+  settle_goes (Err error) none = none_goes old new none
+
   module _ (from to : Name) where
     moved_alone : KeepsMove old new from to → (n : Name) → n ≢ from → n ≢ to → IsLeftAlone memory_disk old new n
     moved_alone (f, t, f_is, t_is, kept) n not_from not_to =

@@ -1,10 +1,11 @@
 -- What calls on a folder come to, the last one first.
-use Rattle.std.specs.Prelude.{◌≡◌, ◌⊎◌, ℕ, ◌≤◌, ◌+◌, Bool, true, false, List, [], ◌∷◌, length, Option, None, Some, option_map, if◌then◌else◌}
+use Rattle.std.specs.Prelude.{◌≡◌, ◌⊎◌, ℕ, ◌≤◌, ◌+◌, Bool, true, false, List, [], ◌∷◌, ◌++◌, length, Option, None, Some, option_map, if◌then◌else◌}
 use Rattle.std.proofs.Common.{inl, inr, arith}
 use Rattle.std.specs.Str.{bytes_eq}
+use Rattle.gixcfg_replacing.specs.Changes.{Change, Making, Sharing, Writing, Syncing, Renaming, Removing, SyncingNames}
 use Rattle.gixcfg_replacing.specs.Disk.{Name, Text, last_found}
 use Rattle.gixcfg_replacing.specs.declared.call.Call.{Call}
-use Rattle.gixcfg_replacing.specs.declared.call.Call.TheVariants.{Made, Written, Synced, Renamed, Removed, Settled, Found, Fault}
+use Rattle.gixcfg_replacing.specs.declared.call.Call.TheVariants.{Made, Shared, Written, Synced, Renamed, Removed, Settled, Found, Fault}
 
 -- both are the same name
 abbrev pub is_same : Name → Name → Bool
@@ -14,6 +15,7 @@ is_same n m = bytes_eq n m
 abbrev pub past : List Call → Name → List (Option Text)
 past [] n = []
 past (Made at ∷ older) n = if is_same at.items n then Some [] ∷ past older n else past older n
+past (Shared from to ∷ older) n = past older n
 past (Written at text ∷ older) n = if is_same at.items n then Some text.items ∷ past older n else past older n
 past (Synced at ∷ older) n = past older n
 past (Renamed from to ∷ older) n =
@@ -27,6 +29,7 @@ past (Fault ∷ older) n = past older n
 abbrev pub is_synced : List Call → Name → Bool
 is_synced [] n = false
 is_synced (Made at ∷ older) n = if is_same at.items n then false else is_synced older n
+is_synced (Shared from to ∷ older) n = is_synced older n
 is_synced (Written at text ∷ older) n = if is_same at.items n then false else is_synced older n
 is_synced (Synced at ∷ older) n = if is_same at.items n then true else is_synced older n
 is_synced (Renamed from to ∷ older) n = if is_same to.items n then is_synced older from.items else is_synced older n
@@ -49,6 +52,7 @@ IsLeftOf calls n (Some now) left = (text : Text) × may_hold calls n text × (le
 abbrev pub may_leave : List Call → Name → Option Text → Type 0
 may_leave [] n left = left ≡ None
 may_leave (Made at ∷ older) n left = may_leave older n left ⊎ (is_same at.items n ≡ true)
+may_leave (Shared from to ∷ older) n left = may_leave older n left
 may_leave (Written at text ∷ older) n left = may_leave older n left ⊎ (is_same at.items n ≡ true)
 may_leave (Synced at ∷ older) n left = may_leave older n left
 may_leave (Renamed from to ∷ older) n left =
@@ -67,6 +71,7 @@ left_since (call ∷ older) t n left = may_leave (call ∷ older) n left ⊎ ((t
 abbrev pub is_ours : List Call → Name → Bool
 is_ours [] n = false
 is_ours (Made at ∷ older) n = if is_same at.items n then true else is_ours older n
+is_ours (Shared from to ∷ older) n = is_ours older n
 is_ours (Written at text ∷ older) n = is_ours older n
 is_ours (Synced at ∷ older) n = is_ours older n
 is_ours (Renamed from to ∷ older) n = if is_same from.items n then false else is_ours older n
@@ -79,6 +84,7 @@ is_ours (Fault ∷ older) n = is_ours older n
 abbrev pub others_at : List Call → Name → ℕ
 others_at [] n = 0
 others_at (Made at ∷ older) n = others_at older n
+others_at (Shared from to ∷ older) n = others_at older n
 others_at (Written at text ∷ older) n = others_at older n
 others_at (Synced at ∷ older) n = others_at older n
 others_at (Renamed from to ∷ older) n = others_at older n
@@ -91,6 +97,7 @@ others_at (Fault ∷ older) n = others_at older n
 abbrev pub faults_in : List Call → ℕ
 faults_in [] = 0
 faults_in (Made at ∷ older) = faults_in older
+faults_in (Shared from to ∷ older) = faults_in older
 faults_in (Written at text ∷ older) = faults_in older
 faults_in (Synced at ∷ older) = faults_in older
 faults_in (Renamed from to ∷ older) = faults_in older
@@ -98,6 +105,23 @@ faults_in (Removed at ∷ older) = faults_in older
 faults_in (Settled ∷ older) = faults_in older
 faults_in (Found at found ∷ older) = faults_in older
 faults_in (Fault ∷ older) = faults_in older + 1
+
+-- the change that a call is; none of what others did, and of what failed
+abbrev pub change_of : Call → List Change
+change_of (Made at) = Making at.items ∷ []
+change_of (Shared from to) = Sharing from.items to.items ∷ []
+change_of (Written at text) = Writing at.items text.items ∷ []
+change_of (Synced at) = Syncing at.items ∷ []
+change_of (Renamed from to) = Renaming from.items to.items ∷ []
+change_of (Removed at) = Removing at.items ∷ []
+change_of Settled = SyncingNames ∷ []
+change_of (Found at found) = []
+change_of Fault = []
+
+-- the changes that these calls are
+abbrev pub changes_in : List Call → List Change
+changes_in [] = []
+changes_in (call ∷ older) = change_of call ++ changes_in older
 
 pub counts_now : (calls : List Call) (t : ℕ) (n : Name) (left : Option Text) → t ≤ length calls → may_leave calls n left → left_since calls t n left
 counts_now [] t n left le now = now

@@ -3,6 +3,7 @@ use Rattle.std.specs.Prelude.{◌≡◌, ◌≢◌, ◌⊎◌, ℕ, ◌<◌, ◌
 use Rattle.std.specs.IoError.{error_kind}
 use Rattle.std.specs.declared.io.Error.{Error}
 use Rattle.std.specs.declared.io.ErrorKind.TheVariants.{OutOfMemory}
+use Rattle.gixcfg_replacing.specs.Changes.{Change, told_since}
 
 -- the name of a file in the folder, and its text, as bytes
 abbrev pub Name : Type 0
@@ -33,6 +34,10 @@ pub record Disk (F : Type 0) : Type 1 where
   pub ours : F → Name → Type 0
   -- how often others have changed what is at a name
   pub others : F → Name → ℕ
+  -- the calls that are taken to have been done, the last first
+  pub kept : F → List Change
+  -- those that were done on what is below, the last first, where it tells them
+  pub told : F → Option (List Change)
 
 -- the last of what was found; nothing where nothing ever was
 abbrev pub last_found : List (Option Text) → Option Text
@@ -86,6 +91,8 @@ module _ {F : Type 0} (disk : Disk F) (old new : F) where
     pub found : (name : Name) → (since : List (Option Text)) × (disk.past new name ≡ since ++ disk.past old name)
     pub faults : disk.faults old ≤ disk.faults new
     pub others : (name : Name) → disk.others old name ≤ disk.others new name
+    -- The calls that are taken to have been done since are those that were.
+    pub made : (since : List Change) × (disk.kept new ≡ since ++ disk.kept old) × (disk.told new ≡ told_since since (disk.told old))
 
   -- what others do: they don't change what is ours, nor a file while we have its lock
   abbrev pub IsRespected : Name → Type 0

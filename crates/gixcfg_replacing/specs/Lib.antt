@@ -1,4 +1,5 @@
 pub mod Calls
+pub mod Changes
 pub mod Disk
 pub mod Edit
 pub mod Logged

@@ -5,8 +5,9 @@ use Rattle.std.specs.Vec.{vec_len, vec_capacity}
 use Rattle.std.specs.declared.alloc.Global.{Global}
 use Rattle.std.specs.declared.io.Error.{Error}
 use Rattle.std.specs.declared.io.ErrorKind.TheVariants.{OutOfMemory}
+use Rattle.gixcfg_replacing.specs.Changes.{Change}
 use Rattle.gixcfg_replacing.specs.Disk.{Name, Text, Disk, last_found, lock_of, IsLeftAlone, IsRespected, GoesOn}
-use Rattle.gixcfg_replacing.specs.Calls.{past, may_hold, may_leave, left_since, is_ours, others_at, faults_in}
+use Rattle.gixcfg_replacing.specs.Calls.{past, may_hold, may_leave, left_since, is_ours, others_at, faults_in, changes_in}
 use Rattle.gixcfg_replacing.specs.declared.call.Call.{Call}
 use Rattle.gixcfg_replacing.specs.declared.call.Call.TheVariants.{Made, Written, Synced, Renamed, Removed, Settled, Found, Fault}
 use Rattle.gixcfg_replacing.specs.declared.logged.LoggedFolder.{LoggedFolder}
@@ -14,8 +15,9 @@ use Rattle.gixcfg_replacing.specs.declared.logged.LoggedFolder.{LoggedFolder}
 abbrev pub calls_of : {C : Type 0} → LoggedFolder C → List Call
 calls_of folder = folder.calls.items
 
-abbrev pub logged_disk : {C : Type 0} → Disk (LoggedFolder C)
-logged_disk = record {
+-- with what a folder of these calls tells
+abbrev pub logged_disk : {C : Type 0} → (C → Option (List Change)) → Disk (LoggedFolder C)
+logged_disk told = record {
   past = λ folder n. past (calls_of folder) n;
   may_hold = λ folder n text. may_hold (calls_of folder) n text;
   may_leave = λ folder n left. may_leave (calls_of folder) n left;
@@ -24,6 +26,8 @@ logged_disk = record {
   faults = λ folder. faults_in (calls_of folder);
   ours = λ folder n. is_ours (calls_of folder) n ≡ true;
   others = λ folder n. others_at (calls_of folder) n;
+  kept = λ folder. changes_in (calls_of folder);
+  told = λ folder. told folder.folder;
 }
 
 -- others may change what is at a name: neither that nor its lock is ours
@@ -41,8 +45,10 @@ Does call old new (Ok done) = new ≡ call ∷ old
 Does call old new (Err error) = new ≡ Fault ∷ old
 
 -- these calls did nothing, but others may have
-pub record IsOthersDoing {C : Type 0} (old new : LoggedFolder C) : Type 0 where
-  pub alone : (n : Name) → IsLeftAlone logged_disk old new n
-  pub respect : (n : Name) → IsRespected logged_disk old new n
-  pub time : GoesOn logged_disk old new
+pub record IsOthersDoing {C : Type 0} (folder_told : C → Option (List Change)) (old new : LoggedFolder C) : Type 0 where
+  pub alone : (n : Name) → IsLeftAlone (logged_disk folder_told) old new n
+  pub respect : (n : Name) → IsRespected (logged_disk folder_told) old new n
+  pub time : GoesOn (logged_disk folder_told) old new
   pub owned : (n : Name) → is_ours (calls_of new) n ≡ is_ours (calls_of old) n
+  pub kept : changes_in (calls_of new) ≡ changes_in (calls_of old)
+  pub told : folder_told new.folder ≡ folder_told old.folder

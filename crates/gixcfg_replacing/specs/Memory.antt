@@ -5,7 +5,7 @@ use Rattle.std.specs.declared.alloc.Global.{Global}
 use Rattle.std.specs.declared.io.Error.{Error}
 use Rattle.std.specs.declared.io.ErrorKind.TheVariants.{OutOfMemory}
 use Rattle.gixcfg_replacing.specs.Disk.{Name, Disk, last_found}
-use Rattle.gixcfg_replacing.specs.Calls.{past, may_hold, may_leave, left_since}
+use Rattle.gixcfg_replacing.specs.Calls.{past, may_hold, may_leave, left_since, changes_in}
 use Rattle.gixcfg_replacing.specs.declared.call.Call.{Call}
 use Rattle.gixcfg_replacing.specs.declared.call.Call.TheVariants.{Made, Written, Synced, Renamed, Removed, Settled}
 use Rattle.gixcfg_replacing.specs.declared.memory.Memory.{Memory}
@@ -26,6 +26,8 @@ memory_disk = record {
   faults = faults_of;
   ours = λ m n. Unit {0};
   others = λ m n. 0;
+  kept = λ m. changes_in (calls_of m);
+  told = λ m. None;
 }
 
 module _ (old new : Memory) where

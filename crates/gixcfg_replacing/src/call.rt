@@ -8,6 +8,8 @@ ghost use Rattle.gixcfg_replacing.specs.Calls.{past, is_synced as is_synced_lem,
 pub enum Call {
     /// An empty file was made at a name.
     Made(Vec<u8>),
+    /// The file at a second name was given the rights of the one at the first.
+    Shared(Vec<u8>, Vec<u8>),
     /// The file at a name was given a text.
     Written(Vec<u8>, Vec<u8>),
     /// The text of the file at a name was written down.
@@ -59,7 +61,7 @@ pub fn seen<'a>(calls: &'a [Call], name: &'a [u8]) -> Option<&'a [u8]>
                     return found.as_deref();
                 }
             }
-            Call::Synced(_) | Call::Settled | Call::Fault => {}
+            Call::Shared(_, _) | Call::Synced(_) | Call::Settled | Call::Fault => {}
         }
         rest = older;
     }
@@ -99,7 +101,7 @@ pub fn is_synced(calls: &[Call], name: &[u8]) -> bool
                     return false;
                 }
             }
-            Call::Removed(_) | Call::Settled | Call::Fault => {}
+            Call::Shared(_, _) | Call::Removed(_) | Call::Settled | Call::Fault => {}
         }
         rest = older;
     }
@@ -123,7 +125,8 @@ pub fn is_ours(calls: &[Call], name: &[u8]) -> bool
                     return false;
                 }
             }
-            Call::Written(_, _)
+            Call::Shared(_, _)
+            | Call::Written(_, _)
             | Call::Synced(_)
             | Call::Settled
             | Call::Found(_, _)

@@ -63,7 +63,7 @@ pub fn left_by_crash(
                     return Ok(None);
                 }
             }
-            Call::Synced(_) | Call::Fault => {}
+            Call::Shared(_, _) | Call::Synced(_) | Call::Fault => {}
         }
         rest = older;
     }

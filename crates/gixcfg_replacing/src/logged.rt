@@ -1,6 +1,7 @@
 //! A folder of which nothing is known, with a log of the calls on it.
-ghost use Rattle.std.specs.Prelude.{◌≡◌, ◌≢◌, ◌≤◌, ◌<◌, ◌+◌, ◌∷◌, ℕ, List, None, IfOk, IfErr, OnOk, option_map, false, true};
+ghost use Rattle.std.specs.Prelude.{◌≡◌, ◌≢◌, ◌≤◌, ◌<◌, ◌+◌, ◌∷◌, ℕ, List, None, IfOk, IfErr, OnOk, option_map, false, true, Option};
 ghost use Rattle.std.specs.Vec.{vec_len, vec_capacity};
+ghost use Rattle.gixcfg_replacing.specs.Changes.{Change, told_making, told_after, Sharing, Writing, Syncing, Renaming, Removing, SyncingNames};
 ghost use Rattle.gixcfg_replacing.specs.Disk.{seen as seen_lem, IsAtRest, IsQuiet, IsLeftAlone, IsRespected, GoesOn, HasCause, Makes};
 ghost use Rattle.gixcfg_replacing.specs.Calls.{is_ours as is_ours_lem, counts_now, only_now};
 ghost use Rattle.gixcfg_replacing.specs.Logged.{calls_of, logged_disk, IsFree, HasRoom, IsOthersDoing, Does};
@@ -14,63 +15,74 @@ use std::io;
 use std::io::ErrorKind;
 
 /// The calls of an edit on a folder, of which nothing is known. Those of [`Folder`](crate::Folder), with the names that it has, and without any
-/// promise.
+/// promise of what they do. A folder may tell which changes it has made.
 pub trait FolderCalls {
+    /// The changes that it has made, the last one first, where it tells them.
+    ghost told: { Self → Option (List Change) };
+
     /// The text of the file at a name; none if nothing is there.
     ///
     /// # Errors
     ///
     /// It can't be opened or read.
-    fn read(&mut self, name: &str) -> io::Result<Option<Vec<u8>>>;
+    fn read(&mut self, name: &str) -> io::Result<Option<Vec<u8>>>
+        ensures { told self.new ≡ told self.old };
 
     /// Makes an empty file if nothing is at the name, and tells whether it did.
     ///
     /// # Errors
     ///
     /// It can't be made.
-    fn make(&mut self, name: &str) -> io::Result<bool>;
+    fn make(&mut self, name: &str) -> io::Result<bool>
+        ensures { told self.new ≡ told_making (told self.old) result name.now };
 
     /// Gives a file the rights of another one if that is there, as far as the process may.
     ///
     /// # Errors
     ///
     /// They can't be given.
-    fn share_rights(&mut self, from: &str, to: &str) -> io::Result<()>;
+    fn share_rights(&mut self, from: &str, to: &str) -> io::Result<()>
+        ensures { told self.new ≡ told_after (told self.old) result (Sharing from.now to.now) };
 
     /// Writes a text to a file that is empty.
     ///
     /// # Errors
     ///
     /// It can't be written.
-    fn write(&mut self, name: &str, text: &[u8]) -> io::Result<()>;
+    fn write(&mut self, name: &str, text: &[u8]) -> io::Result<()>
+        ensures { told self.new ≡ told_after (told self.old) result (Writing name.now text.now) };
 
     /// Writes the text of a file down to the disk.
     ///
     /// # Errors
     ///
     /// It can't be written down.
-    fn sync(&mut self, name: &str) -> io::Result<()>;
+    fn sync(&mut self, name: &str) -> io::Result<()>
+        ensures { told self.new ≡ told_after (told self.old) result (Syncing name.now) };
 
     /// Gives a file another name, in place of the file that has it.
     ///
     /// # Errors
     ///
     /// It can't be renamed, or a disk that failed meanwhile has done it.
-    fn rename(&mut self, from: &str, to: &str) -> io::Result<()>;
+    fn rename(&mut self, from: &str, to: &str) -> io::Result<()>
+        ensures { told self.new ≡ told_after (told self.old) result (Renaming from.now to.now) };
 
     /// Removes a file, if it is there still.
     ///
     /// # Errors
     ///
     /// It can't be removed.
-    fn remove(&mut self, name: &str) -> io::Result<()>;
+    fn remove(&mut self, name: &str) -> io::Result<()>
+        ensures { told self.new ≡ told_after (told self.old) result (Removing name.now) };
 
     /// Writes the names down to the disk.
     ///
     /// # Errors
     ///
     /// They can't be written down.
-    fn sync_names(&mut self) -> io::Result<()>;
+    fn sync_names(&mut self) -> io::Result<()>
+        ensures { told self.new ≡ told_after (told self.old) result SyncingNames };
 }
 
 /// How many calls a log has room for from its beginning: more than an edit makes.
@@ -106,8 +118,8 @@ impl<C: FolderCalls + Drop> LoggedFolder<C> {
         name: &str,
         before: Option<&[u8]>,
     ) -> Result<LoggedFolder<C>, AllocError>
-        ensures seen { IfOk result (λ logged. seen_lem logged_disk logged name.now ≡ option_map (λ text. text.now) before.entry) }
-        ensures rest { IfOk result (λ logged. IsAtRest logged_disk logged name.now) }
+        ensures seen { IfOk result (λ logged. seen_lem (logged_disk C.told) logged name.now ≡ option_map (λ text. text.now) before.entry) }
+        ensures rest { IfOk result (λ logged. IsAtRest (logged_disk C.told) logged name.now) }
     {
         let at = copied(alloc, name.as_bytes())?;
         let also = copied(alloc, name.as_bytes())?;
@@ -137,6 +149,7 @@ impl<C: FolderCalls + Drop> LoggedFolder<C> {
     fn keep(&mut self, call: Call)
         requires { HasRoom self.old 1 }
         ensures kept { calls_of self.new ≡ call ∷ calls_of self.old }
+        ensures folder { self.new.folder ≡ self.old.folder }
         ensures room { (count : ℕ) → HasRoom self.old (count + 1) → HasRoom self.new count }
     {
         put(&mut self.calls, call);
@@ -146,6 +159,8 @@ impl<C: FolderCalls + Drop> LoggedFolder<C> {
     fn failed(&mut self, error: io::Error) -> io::Error
         requires { HasRoom self.old 1 }
         ensures kept { calls_of self.new ≡ Fault ∷ calls_of self.old }
+        ensures folder { self.new.folder ≡ self.old.folder }
+        ensures answer { result ≡ error }
         ensures room { (count : ℕ) → HasRoom self.old (count + 1) → HasRoom self.new count }
     {
         self.keep(Call::Fault);
@@ -155,7 +170,9 @@ impl<C: FolderCalls + Drop> LoggedFolder<C> {
     /// Keeps a call that was done, or that it failed.
     fn done(&mut self, did: io::Result<()>, call: Call) -> io::Result<()>
         requires { HasRoom self.old 1 }
-        ensures { Does call (calls_of self.old) (calls_of self.new) result }
+        ensures calls { Does call (calls_of self.old) (calls_of self.new) result }
+        ensures folder { self.new.folder ≡ self.old.folder }
+        ensures answer { result ≡ did }
     {
         match did {
             Ok(()) => {
@@ -170,6 +187,7 @@ impl<C: FolderCalls + Drop> LoggedFolder<C> {
     fn ready(&mut self, name: &str) -> Result<Vec<u8>, AllocError>
         ensures name { IfOk result (λ at. at.items ≡ name.now) }
         ensures calls { calls_of self.new ≡ calls_of self.old }
+        ensures folder { self.new.folder ≡ self.old.folder }
         ensures room { OnOk result (HasRoom self.new 4) }
     {
         let at = copied(self.alloc, name.as_bytes())?;
@@ -189,8 +207,8 @@ impl<C: FolderCalls + Drop> LoggedFolder<C> {
     fn look(&mut self, name: &str) -> io::Result<()>
         requires room { HasRoom self.old 3 }
         requires free { IsFree (calls_of self.old) name.now }
-        ensures others { IsOthersDoing self.old self.new }
-        ensures cause { IfErr result (HasCause logged_disk self.old self.new) }
+        ensures others { IsOthersDoing C.told self.old self.new }
+        ensures cause { IfErr result (HasCause (logged_disk C.told) self.old self.new) }
         ensures room { HasRoom self.new 2 }
     {
         let at = copied(self.alloc, name.as_bytes())?;
@@ -209,7 +227,7 @@ impl<C: FolderCalls + Drop> LoggedFolder<C> {
     fn look_behind(&mut self, lock: &str)
         requires room { HasRoom self.old 3 }
         requires free { is_ours_lem (calls_of self.old) lock.now ≡ false }
-        ensures others { IsOthersDoing self.old self.new }
+        ensures others { IsOthersDoing C.told self.old self.new }
         ensures room { HasRoom self.new 2 }
     {
         let Some(file) = lock.strip_suffix(LOCK) else {
@@ -227,9 +245,9 @@ impl<C: FolderCalls + Drop> LoggedFolder<C> {
     fn note(&mut self, at: Vec<u8>, is_there: bool)
         requires room { HasRoom self.old 2 }
         requires free { IsFree (calls_of self.old) at.items }
-        ensures others { IsOthersDoing self.old self.new }
-        ensures there { is_there ≡ true → IsQuiet logged_disk self.old self.new at.items → seen_lem logged_disk self.old at.items ≢ None }
-        ensures gone { is_there ≡ false → IsQuiet logged_disk self.old self.new at.items → seen_lem logged_disk self.old at.items ≡ None }
+        ensures others { IsOthersDoing C.told self.old self.new }
+        ensures there { is_there ≡ true → IsQuiet (logged_disk C.told) self.old self.new at.items → seen_lem (logged_disk C.told) self.old at.items ≢ None }
+        ensures gone { is_there ≡ false → IsQuiet (logged_disk C.told) self.old self.new at.items → seen_lem (logged_disk C.told) self.old at.items ≡ None }
         ensures room { HasRoom self.new 1 }
     {
         let was_there = seen(&self.calls, &at).is_some();
@@ -242,8 +260,8 @@ impl<C: FolderCalls + Drop> LoggedFolder<C> {
 
     /// Looks at what is at a name if others may change that; or tells why it couldn't be read when its lock was made.
     fn refresh(&mut self, name: &str) -> io::Result<()>
-        ensures others { IsOthersDoing self.old self.new }
-        ensures cause { IfErr result (HasCause logged_disk self.old self.new) }
+        ensures others { IsOthersDoing C.told self.old self.new }
+        ensures cause { IfErr result (HasCause (logged_disk C.told) self.old self.new) }
     {
         self.calls.reserve(EACH)?;
         if let Some(error) = self.unread.take() {
@@ -258,11 +276,11 @@ impl<C: FolderCalls + Drop> LoggedFolder<C> {
     /// Makes an empty file if nothing is at a name that others may change.
     fn make_free(&mut self, name: &str) -> io::Result<bool>
         requires { IsFree (calls_of self.old) name.now }
-        ensures made { Makes logged_disk self.old self.new name.now result }
-        ensures alone { (other : List ℕ) → other ≢ name.now → IsLeftAlone logged_disk self.old self.new other }
-        ensures respect { (other : List ℕ) → IsRespected logged_disk self.old self.new other }
-        ensures time { GoesOn logged_disk self.old self.new }
-        ensures cause { IfErr result (HasCause logged_disk self.old self.new) }
+        ensures made { Makes (logged_disk C.told) self.old self.new name.now result }
+        ensures alone { (other : List ℕ) → other ≢ name.now → IsLeftAlone (logged_disk C.told) self.old self.new other }
+        ensures respect { (other : List ℕ) → IsRespected (logged_disk C.told) self.old self.new other }
+        ensures time { GoesOn (logged_disk C.told) self.old self.new }
+        ensures cause { IfErr result (HasCause (logged_disk C.told) self.old self.new) }
     {
         let at = copied(self.alloc, name.as_bytes())?;
         let also = self.ready(name)?;
@@ -283,7 +301,7 @@ impl<C: FolderCalls + Drop> LoggedFolder<C> {
 
     /// The text that the log has at a name.
     fn text_at(&self, name: &str) -> Result<Option<Vec<u8>>, AllocError>
-        ensures { IfOk result (λ found. option_map (λ text. text.items) found ≡ seen_lem logged_disk self.now name.now) }
+        ensures { IfOk result (λ found. option_map (λ text. text.items) found ≡ seen_lem (logged_disk C.told) self.now name.now) }
     {
         match seen(&self.calls, name.as_bytes()) {
             Some(text) => Ok(Some(Vec::from_slice(self.alloc, text)?)),
@@ -293,7 +311,7 @@ impl<C: FolderCalls + Drop> LoggedFolder<C> {
 }
 
 impl<C: FolderCalls + Drop> Folder for LoggedFolder<C> {
-    ghost disk = { logged_disk };
+    ghost disk = { logged_disk C.told };
 
     ghost counts_now = { λ folder t n left le now. counts_now (calls_of folder) t n left le now };
 
@@ -313,11 +331,10 @@ impl<C: FolderCalls + Drop> Folder for LoggedFolder<C> {
     }
 
     fn share_rights(&mut self, from: &str, to: &str) -> io::Result<()> {
-        self.calls.reserve(EACH)?;
-        match self.folder.share_rights(from, to) {
-            Ok(()) => Ok(()),
-            Err(error) => Err(self.failed(error)),
-        }
+        let source = copied(self.alloc, from.as_bytes())?;
+        let target = self.ready(to)?;
+        let did = self.folder.share_rights(from, to);
+        self.done(did, Call::Shared(source, target))
     }
 
     fn write(&mut self, name: &str, text: &[u8]) -> io::Result<()> {
