@@ -27,7 +27,11 @@ enum {
     /* A name is not UTF-8. */
     GIX_CONFIG_NOT_UTF8 = 101,
     /* The handle is empty, or holds something else. */
-    GIX_CONFIG_WRONG_HANDLE = 102
+    GIX_CONFIG_WRONG_HANDLE = 102,
+    /* Nothing was told of a file that is needed: tell it, and call again. */
+    GIX_CONFIG_NOT_TOLD = 103,
+    /* No source, or no trust, has the number. */
+    GIX_CONFIG_NO_SUCH_NUMBER = 104
 };
 
 /* Where sections come from, and how far that is trusted. The numbers of sources add up. */
@@ -70,6 +74,12 @@ typedef struct gix_config_file {
 typedef struct gix_config_list {
     void *at;
 } gix_config_list;
+
+/* A place for what a program tells of files, {0} at first. It is never copied, and closed with
+ * gix_config_told_close. */
+typedef struct gix_config_told {
+    void *at;
+} gix_config_told;
 
 /* Bytes that are the program's to read until it frees them. {0} at first; never copied; freed with
  * gix_config_bytes_free. */
@@ -219,6 +229,62 @@ typedef struct gix_config_layout {
     size_t max_blank_lines;
 } gix_config_layout;
 
+/* How includes are followed: ten files deep; deeper ones are refused, and so is a path relative to the folder of
+ * a file that has no path. */
+typedef struct gix_config_includes {
+    /* Whether a path is refused whose shorthand stands for nothing, and a condition on the repository's folder
+     * if there is no repository; else such an include is left out. */
+    bool strict;
+    /* Whether blanks, line endings and comments of the files that are read are left out. */
+    bool lossy;
+    /* The folders that the shorthands of paths stand for. */
+    gix_config_folders folders;
+    /* Whether there is a repository. */
+    bool has_git_folder;
+    /* The folder of the repository, for the conditions `gitdir:` and `gitdir/i:`. */
+    gix_config_text git_folder;
+    /* The same folder, with its symbolic links resolved. */
+    gix_config_text real_git_folder;
+    /* Whether there is a branch. */
+    bool has_branch;
+    /* The full name of the branch, as `refs/heads/main`, for the condition `onbranch:`. */
+    gix_config_text branch;
+} gix_config_includes;
+
+/* Which file is loaded, and how includes are followed. */
+typedef struct gix_config_load {
+    /* Its path. */
+    gix_config_text path;
+    /* The place that it stands for: one of the sources' numbers. */
+    uint32_t source;
+    /* How far it is trusted: one of the numbers of trust. */
+    uint32_t trust;
+    /* How includes are followed. */
+    gix_config_includes includes;
+} gix_config_load;
+
+/* A line of a section: a name, with a value, a comment behind it, both or none. */
+typedef struct gix_config_line {
+    /* The name. */
+    gix_config_text name;
+    /* Whether there is a value: without one the line is the name alone, which is true as a boolean. */
+    bool has_value;
+    /* The value, if there is one. */
+    gix_config_text value;
+    /* Whether there is a comment. */
+    bool has_comment;
+    /* The comment, if there is one, without its mark. */
+    gix_config_text comment;
+} gix_config_line;
+
+/* A name with its value. */
+typedef struct gix_config_assigned {
+    /* The name. */
+    gix_config_text name;
+    /* The value. */
+    gix_config_text value;
+} gix_config_assigned;
+
 /* Appends a copy of another file: its sections come after those of the file, and what is before its first
  * section after the file's last. The other file stays as it is.
  *
@@ -340,6 +406,18 @@ uint32_t gix_config_list_at(gix_config_list *list, size_t index, gix_config_text
 /* Closes a list; an empty handle stays empty. */
 void gix_config_list_close(gix_config_list *list);
 
+/* Loads a file by its path, with what it includes, from what a program told. What was in the file's handle
+ * before is closed.
+ *
+ * 103 if the load needs a file of which nothing was told: its path is then in the block, whose bytes from before
+ * are freed; tell it, and call again. 21 if the file itself, and 19 if one that is included, was told to have a
+ * fault: its path is then in the block, too; 20 if one that is included can't be read. 1, 2, 3 and 12 to 18 if a
+ * file or its includes are refused, 100 if there is nothing to load. 101 if a text that has to be UTF-8 isn't,
+ * 104 if no source or trust has the number, 102 if the handle is not one for what is told, 27 when out of
+ * memory. The file's handle is as it was after any number but 0, and the block after any but 19, 21 and 103. */
+uint32_t gix_config_load_told(gix_config_told *told, const gix_config_load *load, gix_config_file *file,
+    gix_config_bytes *path);
+
 /* Hands out what the last value of a key means. What the block had is freed.
  *
  * 7, 8 or 9 if there is none: no section has the name, none of these has the subsection, or these have no such
@@ -364,6 +442,59 @@ uint32_t gix_config_boolean(gix_config_file *file, const gix_config_key *key, bo
  * the value's name is not UTF-8, 102 if the handle has no file, 27 when out of memory. The integer is then as it
  * was. */
 uint32_t gix_config_integer(gix_config_file *file, const gix_config_key *key, int64_t *value);
+
+/* Adds a line to the section at a place, counted from 0, after all others that it has: also one of a name that
+ * is there already, with the blanks that the section uses. A comment comes after ` #`.
+ *
+ * 100 if there is no such section, 6 for a name that can't be a value's, 3 if the file would be too long. 101 if
+ * the name is not UTF-8, 102 if the handle has no file, 27 when out of memory. The file is then as it was. */
+uint32_t gix_config_push_line_at(gix_config_file *file, size_t place, const gix_config_line *line);
+
+/* Gives the last entry of a name in the section at a place, counted from 0, another value; a section without
+ * such an entry gets a new one. Tells whether there was an entry, and hands out the raw text of its value; what
+ * the block had is freed then.
+ *
+ * 100 if there is no such section, 6 for a name that can't be a value's, 3 if the file would be too long. 101 if
+ * the name is not UTF-8, 102 if the handle has no file, 27 when out of memory. File, block and boolean are then
+ * as they were. */
+uint32_t gix_config_set_value_at(gix_config_file *file, size_t place, const gix_config_assigned *assigned,
+    bool *had, gix_config_bytes *old);
+
+/* Removes the last entry of a name from the section at a place, counted from 0, with the blanks before it and
+ * the line endings after it, and hands out the raw text of its value. What the block had is freed.
+ *
+ * 100 if there is no such section, or it has no such entry. 101 if the name is not UTF-8, 102 if the handle has
+ * no file, 27 when out of memory; the file is then as it was. The block is so after any number but 0. */
+uint32_t gix_config_remove_value_at(gix_config_file *file, size_t place, const uint8_t *name, size_t name_len,
+    gix_config_bytes *old);
+
+/* Removes the last entry from the section at a place, counted from 0, whatever its name, with the blanks before
+ * it and all that is after it; hands out its name as it is spelled, and what its value means: nothing for an
+ * entry without `=`. What the blocks had is freed.
+ *
+ * 100 if there is no such section, or it has no entry: then all that it has goes. 102 if the handle has no file,
+ * 27 when out of memory; the file is then as it was. The blocks are so after any number but 0. */
+uint32_t gix_config_pop_value_at(gix_config_file *file, size_t place, gix_config_bytes *name,
+    gix_config_bytes *value);
+
+/* Gives the section at a place, counted from 0, another name and subsection. All else of it stays.
+ *
+ * 100 if there is no such section, 4 for a name and 5 for a subsection that a section can't be made of, 3 if the
+ * file would be too long. 101 if the name is not UTF-8, 102 if the handle has no file, 27 when out of memory.
+ * The file is then as it was. */
+uint32_t gix_config_section_rename_at(gix_config_file *file, size_t place,
+    const gix_config_section *new_section);
+
+/* Removes the section at a place, counted from 0.
+ *
+ * 100 if there is none, 102 if the handle has no file, 27 when out of memory. The file is then as it was. */
+uint32_t gix_config_section_remove_at(gix_config_file *file, size_t place);
+
+/* Sets how far the section at a place, counted from 0, is trusted.
+ *
+ * 100 if there is no such section, 104 if no trust has the number. 102 if the handle has no file, 27 when out of
+ * memory. The file is then as it was. */
+uint32_t gix_config_section_set_trust_at(gix_config_file *file, size_t place, uint32_t trust);
 
 /* Opens the file of a text. With `lossy` its blanks, line endings and comments are left out: it is for look-ups
  * then. What was in the handle before is closed.
@@ -440,6 +571,34 @@ uint32_t gix_config_section_rename(gix_config_file *file, const gix_config_secti
  * file, 27 when out of memory. File, block and boolean are then as they were. */
 uint32_t gix_config_set_value(gix_config_file *file, const gix_config_key *key, const uint8_t *value,
     size_t value_len, bool *had, gix_config_bytes *old);
+
+/* Makes a place for what a program tells of files: nothing as yet. What was in the handle before is closed.
+ *
+ * 27 when out of memory; the handle is then as it was. */
+uint32_t gix_config_told_new(gix_config_told *told);
+
+/* Tells the text of the file at a path, in place of what was told of the path before. The text is copied.
+ *
+ * 101 if the path is not UTF-8, 102 if the handle is not one for what is told, 27 when out of memory; what was
+ * told is then as it was. */
+uint32_t gix_config_told_text(gix_config_told *told, const uint8_t *path, size_t path_len,
+    const uint8_t *text, size_t text_len);
+
+/* Tells that no file is at a path, in place of what was told of the path before: an include of it is left out.
+ *
+ * 101 if the path is not UTF-8, 102 if the handle is not one for what is told, 27 when out of memory; what was
+ * told is then as it was. */
+uint32_t gix_config_told_missing(gix_config_told *told, const uint8_t *path, size_t path_len);
+
+/* Tells that the file at a path can't be opened, or, if it opens, that it can't be read; in place of what was
+ * told of the path before. A load that needs it is refused.
+ *
+ * 101 if the path is not UTF-8, 102 if the handle is not one for what is told, 27 when out of memory; what was
+ * told is then as it was. */
+uint32_t gix_config_told_fault(gix_config_told *told, const uint8_t *path, size_t path_len, bool opens);
+
+/* Closes what was told; an empty handle stays empty. */
+void gix_config_told_close(gix_config_told *told);
 
 /* Hands out what the last value of a key means in a text: what gix_config_value hands out of its file, which
  * isn't made. The text is read once. What the block had is freed.

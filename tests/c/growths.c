@@ -15,7 +15,7 @@ static int calls(bool lossy)
 {
     gix_config_file file = { NULL }, other_file = { NULL };
     gix_config_list list = { NULL };
-    gix_config_bytes bytes = { NULL, 0, NULL };
+    gix_config_bytes bytes = { NULL, 0, NULL }, name = { NULL, 0, NULL };
     gix_config_place place = { 0, 0, 0 };
     gix_config_key editor = key_of("core", NULL, "editor"), url = key_of("remote", "or\"igin", "url"), made = key_of("made", "x", "k");
     gix_config_section core = section_of("core", NULL), more = section_of("more", "sub"), made_section = section_of("made", "x");
@@ -46,10 +46,19 @@ static int calls(bool lossy)
         count += refused(push(&file, &url, "e"));
         count += refused(gix_config_remove_value(&file, &url, &bytes));
         count += refused(gix_config_section_rename(&file, &made_section, &more));
+        gix_config_line line = { text_of("n"), true, text_of("1"), true, text_of("c") };
+        gix_config_assigned assigned = { text_of("n"), text_of("2") };
+        count += refused(gix_config_push_line_at(&file, 0, &line));
+        count += refused(gix_config_set_value_at(&file, 0, &assigned, &had, &bytes));
+        count += refused(gix_config_remove_value_at(&file, 0, (const uint8_t *)"n", 1, &bytes));
+        count += refused(gix_config_pop_value_at(&file, 0, &name, &bytes));
+        count += refused(gix_config_section_set_trust_at(&file, 0, GIX_CONFIG_TRUST_REDUCED));
+        count += refused(gix_config_section_rename_at(&file, 0, &core));
         count += refused(gix_config_section_new(&file, &more));
         count += refused(gix_config_section_remove(&file, &core));
         count += refused(gix_config_file_text(&file, &bytes));
     }
+    gix_config_bytes_free(&name);
     gix_config_bytes_free(&bytes);
     gix_config_list_close(&list);
     gix_config_file_close(&file);

@@ -5,7 +5,10 @@
     >>> config["remote", "origin", "url"]
     'https://example.org/a.git'
 """
-from gixcfg._config import Config, Entry, Key, Section
-from gixcfg._errors import ConfigError, KeyNotFound, Locked, NotOfType, ParseError, Refused
+from gixcfg._config import Config, Entry, Includes, Key, Section, SectionEditor
+from gixcfg._errors import ConfigError, IncludeError, KeyNotFound, Locked, NotOfType, ParseError, Refused
 
-__all__ = ["Config", "ConfigError", "Entry", "Key", "KeyNotFound", "Locked", "NotOfType", "ParseError", "Refused", "Section"]
+__all__ = [
+    "Config", "ConfigError", "Entry", "IncludeError", "Includes", "Key", "KeyNotFound", "Locked", "NotOfType", "ParseError", "Refused", "Section",
+    "SectionEditor",
+]

@@ -7,13 +7,15 @@ import weakref
 from typing import Iterator, List, NamedTuple, NoReturn, Optional, Tuple, Union, cast
 
 from gixcfg import _library as c
-from gixcfg._errors import ConfigError, KeyNotFound, NotOfType, ParseError, Refused
+from gixcfg._errors import ConfigError, IncludeError, KeyNotFound, NotOfType, ParseError, Refused
+from gixcfg._including import Asked
 from gixcfg._saving import Lock, PathName
 
 # "remote.origin.url", or its names: ("remote", "origin", "url"), ("core", "editor").
 Key = Union[str, Tuple[str, str], Tuple[str, str, str]]
 
-KINDS = {7: KeyNotFound, 8: KeyNotFound, 9: KeyNotFound, c.NOTHING_THERE: KeyNotFound, 11: NotOfType}
+KINDS = {7: KeyNotFound, 8: KeyNotFound, 9: KeyNotFound, c.NOTHING_THERE: KeyNotFound, 11: NotOfType,
+         **{number: IncludeError for number in (12, 13, 14, 15, 16, 17, 18, 19, 20, 21)}}
 
 
 def _encoded(text: str) -> bytes:
@@ -45,6 +47,15 @@ def _key(key: Key) -> c.Key:
     return c.Key(_text(section), True, _text(subsection), _text(name))
 
 
+def _includes(includes: "Includes") -> c.Includes:
+    """How includes are followed, for the library."""
+    git = None if includes.git_folder is None else os.path.abspath(os.fspath(includes.git_folder))
+    home = os.path.expanduser("~") if includes.home is None else os.fspath(includes.home)
+    folders = c.Folders(False, _text(""), True, _text(home))
+    return c.Includes(includes.strict, False, folders, git is not None, _text(git or ""), _text(os.path.realpath(git) if git else ""),
+                      includes.branch is not None, _text(includes.branch or ""))
+
+
 def _refuse(number: int, key: Optional[Key] = None) -> NoReturn:
     """Raises what stands for the number of a refusal."""
     if number == c.OUT_OF_MEMORY:
@@ -69,6 +80,19 @@ class Section(NamedTuple):
     name: str
     subsection: Optional[str]
     entries: List[Entry]
+
+
+class Includes(NamedTuple):
+    """How includes are followed: ten files deep, and no deeper."""
+
+    git_folder: Optional[PathName] = None
+    """The folder of the repository, as `.git`, for the conditions `gitdir:` and `gitdir/i:`; without one they don't hold."""
+    branch: Optional[str] = None
+    """The full name of the branch, as `refs/heads/main`, for the condition `onbranch:`; without one it doesn't hold."""
+    home: Optional[PathName] = None
+    """The folder for `~/`; without one it is the user's."""
+    strict: bool = False
+    """Whether an include is refused whose path has a shorthand that stands for nothing; else it is left out."""
 
 
 class Config:
@@ -115,6 +139,29 @@ class Config:
             raise
         made.path = os.fspath(path)
         return made
+
+    @classmethod
+    def load_with_includes(cls, path: PathName, includes: Includes = Includes()) -> "Config":
+        """The file at a path, with the sections of the files that it includes, each where it is included. It is for look-ups: `path` is None,
+        so that `save` doesn't write what others have into it. Raises IncludeError for a file that can't be opened or read, and for an include
+        that is refused; ParseError, with the path of the file, for one that can't be read on at some place."""
+        made = cls()
+        load = c.Load(_text(os.path.abspath(os.fspath(path))), c.SOURCE_API, c.TRUST_FULL, _includes(includes))
+        made._follow(Asked(lambda told, asked: int(c.LIBRARY.gix_config_load_told(told, load, made._file, asked))))
+        return made
+
+    @staticmethod
+    def _follow(asked: Asked) -> None:
+        """Raises what stands for the answer of a call that followed includes."""
+        if asked.number in (1, 2) and asked.text is not None:
+            try:
+                # (the file that was told last is the one that is refused: those before it were read before it was asked for)
+                Config.parse(asked.text)
+            except ParseError as error:
+                error.path = os.fsdecode(asked.path)
+                raise
+        if asked.number != c.DONE:
+            _refuse(asked.number, os.fsdecode(asked.path) if asked.path else None)
 
     @classmethod
     @contextlib.contextmanager
@@ -299,3 +346,59 @@ class Config:
         if number != c.DONE:
             _refuse(number, key)
         c.LIBRARY.gix_config_bytes_free(old)
+
+    def edit_section(self, place: int) -> "SectionEditor":
+        """The editor of a section by its place in `sections()`, from 0. Raises IndexError."""
+        if not 0 <= place < len(self.sections()):
+            raise IndexError(f"no section is at {place}")
+        return SectionEditor(self, place)
+
+    def remove_section(self, place: int) -> None:
+        """Removes a section by its place in `sections()`, from 0. Raises IndexError."""
+        number = c.LIBRARY.gix_config_section_remove_at(self._file, place)
+        if number == c.NOTHING_THERE:
+            raise IndexError(f"no section is at {place}")
+        if number != c.DONE:
+            _refuse(number)
+
+
+class SectionEditor:
+    """Edits one section of a file, by its place: also where others have the same name. It is for the place and not for the section: it is
+    done with once a section is made or removed before that."""
+
+    def __init__(self, config: Config, place: int) -> None:
+        self._config = config
+        self._place = place
+
+    def add(self, name: str, value: Optional[str] = None, comment: Optional[str] = None) -> None:
+        """Adds an entry after all others, also of a name that is there, with the blanks that the section uses. Raises Refused."""
+        line = c.Line(_text(name), value is not None, _text(value or ""), comment is not None, _text(comment or ""))
+        self._done(c.LIBRARY.gix_config_push_line_at(self._config._file, self._place, line), name)
+
+    def set(self, name: str, value: str) -> Optional[str]:
+        """Gives the last entry of a name a value, or adds one. Returns the raw text of the value that was there. Raises Refused."""
+        had, old, assigned = ctypes.c_bool(), c.Block(), c.Assigned(_text(name), _text(value))
+        self._done(c.LIBRARY.gix_config_set_value_at(self._config._file, self._place, assigned, had, old), name)
+        return _decoded(self._config._taken(old)) if had.value else None
+
+    def remove(self, name: str) -> str:
+        """Removes the last entry of a name, and returns the raw text of its value. Raises KeyNotFound."""
+        old, encoded = c.Block(), _encoded(name)
+        self._done(c.LIBRARY.gix_config_remove_value_at(self._config._file, self._place, encoded, len(encoded), old), name)
+        return _decoded(self._config._taken(old))
+
+    def pop(self) -> Tuple[str, str]:
+        """Removes the last entry, with all that is after it, and returns its name and what its value means. Raises KeyNotFound."""
+        name, value = c.Block(), c.Block()
+        self._done(c.LIBRARY.gix_config_pop_value_at(self._config._file, self._place, name, value), "an entry")
+        return _decoded(self._config._taken(name)), _decoded(self._config._taken(value))
+
+    def rename(self, name: str, subsection: Optional[str] = None) -> None:
+        """Gives the section another name and subsection. Raises Refused."""
+        names = c.SectionKey(_text(name), subsection is not None, _text(subsection or ""))
+        self._done(c.LIBRARY.gix_config_section_rename_at(self._config._file, self._place, names), name)
+
+    @staticmethod
+    def _done(number: int, name: str) -> None:
+        if number != c.DONE:
+            _refuse(number, name)

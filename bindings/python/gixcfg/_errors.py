@@ -41,5 +41,10 @@ class Refused(ConfigError, ValueError):
     """A name or a value can't be written into a file (3, 4, 5, 6), or a name is not UTF-8 (101)."""
 
 
+class IncludeError(ConfigError):
+    """A file can't be opened or read (19, 20, 21), or an include is refused: for its path (12, 13, 14, 16), its depth (15) or its condition
+    (17, 18)."""
+
+
 class Locked(FileExistsError):
     """FILE.lock is there already, so another program edits the file."""

@@ -6,7 +6,8 @@ from pathlib import Path
 
 NAME = "libgix_config.so.0"
 
-DONE, OUT_OF_MEMORY, NOT_UTF8, NOTHING_THERE = 0, 27, 101, 100
+DONE, OUT_OF_MEMORY, NOTHING_THERE, NOT_UTF8, NOT_TOLD = 0, 27, 100, 101, 103
+SOURCE_API, TRUST_FULL = 256, 1
 
 
 class Handle(ctypes.Structure):
@@ -48,6 +49,33 @@ class Section(ctypes.Structure):
     ]
 
 
+class SectionKey(ctypes.Structure):
+    _fields_ = [("name", Text), ("has_subsection", ctypes.c_bool), ("subsection", Text)]
+
+
+class Line(ctypes.Structure):
+    _fields_ = [("name", Text), ("has_value", ctypes.c_bool), ("value", Text), ("has_comment", ctypes.c_bool), ("comment", Text)]
+
+
+class Assigned(ctypes.Structure):
+    _fields_ = [("name", Text), ("value", Text)]
+
+
+class Folders(ctypes.Structure):
+    _fields_ = [("has_installation", ctypes.c_bool), ("installation", Text), ("has_home", ctypes.c_bool), ("home", Text)]
+
+
+class Includes(ctypes.Structure):
+    _fields_ = [
+        ("strict", ctypes.c_bool), ("lossy", ctypes.c_bool), ("folders", Folders), ("has_git_folder", ctypes.c_bool), ("git_folder", Text),
+        ("real_git_folder", Text), ("has_branch", ctypes.c_bool), ("branch", Text),
+    ]
+
+
+class Load(ctypes.Structure):
+    _fields_ = [("path", Text), ("source", ctypes.c_uint32), ("trust", ctypes.c_uint32), ("includes", Includes)]
+
+
 class Place(ctypes.Structure):
     _fields_ = [("line", ctypes.c_size_t), ("column", ctypes.c_size_t), ("offset", ctypes.c_size_t)]
 
@@ -72,8 +100,19 @@ CALLS = {
     ],
     "push_value": [ctypes.POINTER(Handle), ctypes.POINTER(Key), ctypes.c_bool, ctypes.c_char_p, ctypes.c_size_t],
     "remove_value": [ctypes.POINTER(Handle), ctypes.POINTER(Key), ctypes.POINTER(Block)],
+    "push_line_at": [ctypes.POINTER(Handle), ctypes.c_size_t, ctypes.POINTER(Line)],
+    "set_value_at": [ctypes.POINTER(Handle), ctypes.c_size_t, ctypes.POINTER(Assigned), ctypes.POINTER(ctypes.c_bool), ctypes.POINTER(Block)],
+    "remove_value_at": [ctypes.POINTER(Handle), ctypes.c_size_t, ctypes.c_char_p, ctypes.c_size_t, ctypes.POINTER(Block)],
+    "pop_value_at": [ctypes.POINTER(Handle), ctypes.c_size_t, ctypes.POINTER(Block), ctypes.POINTER(Block)],
+    "section_rename_at": [ctypes.POINTER(Handle), ctypes.c_size_t, ctypes.POINTER(SectionKey)],
+    "section_remove_at": [ctypes.POINTER(Handle), ctypes.c_size_t],
+    "told_new": [ctypes.POINTER(Handle)],
+    "told_text": [ctypes.POINTER(Handle), ctypes.c_char_p, ctypes.c_size_t, ctypes.c_char_p, ctypes.c_size_t],
+    "told_missing": [ctypes.POINTER(Handle), ctypes.c_char_p, ctypes.c_size_t],
+    "told_fault": [ctypes.POINTER(Handle), ctypes.c_char_p, ctypes.c_size_t, ctypes.c_bool],
+    "load_told": [ctypes.POINTER(Handle), ctypes.POINTER(Load), ctypes.POINTER(Handle), ctypes.POINTER(Block)],
 }
-FREEING = {"file_close": Handle, "list_close": Handle, "bytes_free": Block}
+FREEING = {"file_close": Handle, "list_close": Handle, "told_close": Handle, "bytes_free": Block}
 
 
 def opened() -> ctypes.PyDLL:

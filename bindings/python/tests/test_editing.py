@@ -68,5 +68,27 @@ class Edits(unittest.TestCase):
         self.assertEqual((config["a.k"], other["a.k"]), ("1", "2"))
 
 
+class Places(unittest.TestCase):
+    def setUp(self) -> None:
+        self.config = Config.parse("[a]\n\tk = 1\n[b]\n  x = 1 ; one\n[a]\n\tk = 3\n")
+
+    def test_entries_of_the_section_at_a_place(self) -> None:
+        first = self.config.edit_section(0)
+        first.add("n", "v", "why")
+        self.assertEqual((first.set("k", "2"), first.set("m", " s")), ("1", None))
+        self.assertEqual(self.config.text, "[a]\n\tk = 2\n\tn = v # why\n\tm = \" s\"\n[b]\n  x = 1 ; one\n[a]\n\tk = 3\n")
+        self.assertEqual((first.pop(), first.remove("n")), (("m", " s"), "v"))
+        self.assertRaises(KeyNotFound, first.remove, "n")
+        self.assertRaises(Refused, first.add, "a b")
+
+    def test_sections_at_a_place(self) -> None:
+        self.config.edit_section(2).rename("c", "s")
+        self.config.remove_section(0)
+        self.assertEqual(self.config.text, '[b]\n  x = 1 ; one\n[c "s"]\n\tk = 3\n')
+        self.assertRaises(Refused, self.config.edit_section(0).rename, "a b")
+        self.assertRaises(IndexError, self.config.edit_section, 2)
+        self.assertRaises(IndexError, self.config.remove_section, 2)
+
+
 if __name__ == "__main__":
     unittest.main()

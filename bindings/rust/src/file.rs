@@ -2,15 +2,16 @@
 use std::cell::UnsafeCell;
 use std::fmt;
 use std::io;
+use std::path::Path;
 use std::str::FromStr;
 
 use bstr::{BStr, BString, ByteSlice};
 
 use crate::key::{AsKey, KeyRef};
 use crate::refusal::{out_of_memory, words, DONE, NOTHING_THERE, OUT_OF_MEMORY};
-use crate::section::Section;
+use crate::section::{self, Section, SectionMut};
 use crate::sys;
-use crate::{lookup, parse, value};
+use crate::{includes, lookup, parse, value};
 
 /// Values that are set.
 pub mod set_raw_value {
@@ -52,7 +53,7 @@ fn names<'a>(section: &'a str, subsection: Option<&'a BStr>, name: &'a str) -> s
     }
 }
 
-fn section_names<'a>(name: &'a str, subsection: Option<&'a BStr>) -> sys::Section<'a> {
+pub(crate) fn section_names<'a>(name: &'a str, subsection: Option<&'a BStr>) -> sys::Section<'a> {
     sys::Section {
         name: sys::Text::of(name.as_bytes()),
         has_subsection: subsection.is_some(),
@@ -72,7 +73,7 @@ fn found(number: u32) -> Result<(), lookup::existing::Error> {
 }
 
 impl File {
-    fn handle(&self) -> *mut sys::Handle {
+    pub(crate) fn handle(&self) -> *mut sys::Handle {
         self.handle.get()
     }
 
@@ -290,6 +291,118 @@ impl File {
             let entries = left.by_ref().take(count).collect();
             Section { header, entries }
         })
+    }
+
+    /// The place of the last section of the names.
+    fn place_of(
+        &self,
+        name: &str,
+        subsection_name: Option<&BStr>,
+    ) -> Result<usize, lookup::existing::Error> {
+        let (mut place, mut missing) = (None, lookup::existing::Error::SectionMissing);
+        for (at, section) in self.sections().enumerate() {
+            if section
+                .header()
+                .name()
+                .eq_ignore_ascii_case(name.as_bytes())
+            {
+                missing = lookup::existing::Error::SubSectionMissing;
+                if section.header().subsection_name() == subsection_name {
+                    place = Some(at);
+                }
+            }
+        }
+        place.ok_or(missing)
+    }
+
+    /// An editor of the last section that has the name, without ASCII case, and exactly the subsection.
+    ///
+    /// # Errors
+    ///
+    /// There is no such section.
+    pub fn section_mut<'b>(
+        &mut self,
+        name: impl AsRef<str>,
+        subsection_name: impl Into<Option<&'b BStr>>,
+    ) -> Result<SectionMut<'_>, lookup::existing::Error> {
+        let place = self.place_of(name.as_ref(), subsection_name.into())?;
+        Ok(SectionMut::at(self, place))
+    }
+
+    /// Makes a section after all others, and returns an editor of it.
+    ///
+    /// # Errors
+    ///
+    /// A section can't be made of the names, or the file would be too long. The file is then as it was.
+    pub fn new_section<'b>(
+        &mut self,
+        name: impl AsRef<str>,
+        subsection_name: impl Into<Option<&'b BStr>>,
+    ) -> Result<SectionMut<'_>, section::Error> {
+        let names = section_names(name.as_ref(), subsection_name.into());
+        // SAFETY: the handle has a file, which no other call has now.
+        match unsafe { sys::gix_config_section_new(self.handle(), &names) } {
+            DONE => {
+                let last = self.sections().count() - 1;
+                Ok(SectionMut::at(self, last))
+            }
+            OUT_OF_MEMORY => out_of_memory(),
+            number => Err(section::Error { number }),
+        }
+    }
+
+    /// Removes the last section that has the name, without ASCII case, and exactly the subsection. Returns it as it was, if there was one.
+    pub fn remove_section<'b>(
+        &mut self,
+        name: impl AsRef<str>,
+        subsection_name: impl Into<Option<&'b BStr>>,
+    ) -> Option<Section> {
+        let place = self.place_of(name.as_ref(), subsection_name.into()).ok()?;
+        let removed = self.sections().nth(place);
+        // SAFETY: the handle has a file, which no other call has now.
+        match unsafe { sys::gix_config_section_remove_at(self.handle(), place) } {
+            DONE => removed,
+            _ => out_of_memory(),
+        }
+    }
+
+    /// The file at a path, with the sections of the files that it includes, each where it is included.
+    ///
+    /// # Errors
+    ///
+    /// A file can't be opened or read, or an include is refused.
+    pub fn from_path_with_includes(
+        path: impl AsRef<Path>,
+        options: includes::Options<'_>,
+    ) -> Result<File, includes::Error> {
+        File::from_files(path.as_ref(), options, &mut includes::Disk)
+    }
+
+    /// As [`File::from_path_with_includes`], with files from elsewhere.
+    ///
+    /// # Errors
+    ///
+    /// Those of [`File::from_path_with_includes`].
+    pub fn from_files(
+        path: &Path,
+        options: includes::Options<'_>,
+        files: &mut impl includes::Files,
+    ) -> Result<File, includes::Error> {
+        let file = File {
+            handle: UnsafeCell::new(sys::Handle::empty()),
+        };
+        let real = options.real_git_dir();
+        let load = sys::Load {
+            path: sys::Text::of(includes::bytes(path)),
+            source: sys::SOURCE_API,
+            trust: sys::TRUST_FULL,
+            includes: options.given(real.as_bstr()),
+        };
+        // SAFETY: what is told is another handle than the file's.
+        includes::ask(files, |told, asked| unsafe {
+            sys::gix_config_load_told(told, &load, file.handle(), asked)
+        })?;
+        Ok(file)
     }
 
     /// Gives a key a value: in the last section of its names, whose last entry of the name gets it; entry and section are made if there are

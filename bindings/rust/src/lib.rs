@@ -14,6 +14,7 @@
 #![warn(missing_docs)]
 
 pub mod file;
+pub mod includes;
 mod key;
 pub mod lookup;
 pub mod parse;

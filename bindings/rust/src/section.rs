@@ -1,6 +1,10 @@
 //! The sections of a file.
 use bstr::{BStr, BString, ByteSlice};
 
+use crate::file::{section_names, File};
+use crate::refusal::{out_of_memory, DONE, NOTHING_THERE, OUT_OF_MEMORY};
+use crate::sys;
+
 /// The header of a section.
 #[derive(Clone, Debug, PartialEq, Eq)]
 pub struct Header {
@@ -82,5 +86,145 @@ impl Section {
     #[must_use]
     pub fn num_values(&self) -> usize {
         self.entries.len()
+    }
+}
+
+/// Why an edit of a section isn't done: a name can't be written, or the file would be too long. The file is then as it was.
+#[derive(Clone, Copy, Debug, PartialEq, Eq, thiserror::Error)]
+#[error("{}", crate::refusal::words(*number))]
+pub struct Error {
+    /// The number of the refusal in docs/refusals.md.
+    pub number: u32,
+}
+
+/// What the number of an edit says.
+fn done(number: u32) -> Result<(), Error> {
+    match number {
+        DONE => Ok(()),
+        OUT_OF_MEMORY => out_of_memory(),
+        number => Err(Error { number }),
+    }
+}
+
+/// An editor of a section of a file.
+pub struct SectionMut<'a> {
+    file: &'a mut File,
+    place: usize,
+}
+
+impl<'a> SectionMut<'a> {
+    /// The editor of the section at a place, where there is one.
+    pub(crate) fn at(file: &'a mut File, place: usize) -> Self {
+        SectionMut { file, place }
+    }
+
+    fn push_line(
+        &mut self,
+        value_name: &str,
+        value: Option<&BStr>,
+        comment: Option<&BStr>,
+    ) -> Result<(), Error> {
+        let line = sys::Line {
+            name: sys::Text::of(value_name.as_bytes()),
+            has_value: value.is_some(),
+            value: sys::Text::of(value.unwrap_or_default()),
+            has_comment: comment.is_some(),
+            comment: sys::Text::of(comment.unwrap_or_default()),
+        };
+        // SAFETY: the handle has a file, which no other call has now.
+        done(unsafe { sys::gix_config_push_line_at(self.file.handle(), self.place, &line) })
+    }
+
+    /// Adds an entry after all others, with the blanks that the section uses; without a value it is the name alone.
+    ///
+    /// # Errors
+    ///
+    /// The name can't be a value's, or the file would be too long.
+    pub fn push(&mut self, value_name: impl AsRef<str>, value: Option<&BStr>) -> Result<(), Error> {
+        self.push_line(value_name.as_ref(), value, None)
+    }
+
+    /// As [`SectionMut::push`], with a comment behind it.
+    ///
+    /// # Errors
+    ///
+    /// Those of [`SectionMut::push`].
+    pub fn push_with_comment(
+        &mut self,
+        value_name: impl AsRef<str>,
+        value: Option<&BStr>,
+        comment: impl AsRef<str>,
+    ) -> Result<(), Error> {
+        self.push_line(value_name.as_ref(), value, Some(comment.as_ref().into()))
+    }
+
+    /// Gives the last entry of the name a value, or adds one. Returns the raw text of the value that was there, if there was an entry.
+    ///
+    /// # Errors
+    ///
+    /// Those of [`SectionMut::push`].
+    pub fn set(
+        &mut self,
+        value_name: impl AsRef<str>,
+        value: &BStr,
+    ) -> Result<Option<BString>, Error> {
+        let (mut had, mut old) = (false, sys::Block::empty());
+        let assigned = sys::Assigned {
+            name: sys::Text::of(value_name.as_ref().as_bytes()),
+            value: sys::Text::of(value),
+        };
+        // SAFETY: the handle has a file, which no other call has now.
+        done(unsafe {
+            sys::gix_config_set_value_at(
+                self.file.handle(),
+                self.place,
+                &assigned,
+                &mut had,
+                &mut old,
+            )
+        })?;
+        Ok(had.then(|| old.bytes().into()))
+    }
+
+    /// Removes the last entry of the name. Returns the raw text of its value, if there was one.
+    pub fn remove(&mut self, value_name: &str) -> Option<BString> {
+        let mut old = sys::Block::empty();
+        let (name, len) = (value_name.as_ptr(), value_name.len());
+        // SAFETY: the handle has a file, which no other call has now, and the name is as long as is said.
+        match unsafe {
+            sys::gix_config_remove_value_at(self.file.handle(), self.place, name, len, &mut old)
+        } {
+            DONE => Some(old.bytes().into()),
+            NOTHING_THERE => None,
+            _ => out_of_memory(),
+        }
+    }
+
+    /// Removes the last entry, with all that is after it. Returns its name as it is spelled, and what its value means.
+    pub fn pop(&mut self) -> Option<(BString, BString)> {
+        let (mut name, mut value) = (sys::Block::empty(), sys::Block::empty());
+        // SAFETY: the handle has a file, which no other call has now.
+        match unsafe {
+            sys::gix_config_pop_value_at(self.file.handle(), self.place, &mut name, &mut value)
+        } {
+            DONE => Some((name.bytes().into(), value.bytes().into())),
+            NOTHING_THERE => None,
+            _ => out_of_memory(),
+        }
+    }
+
+    /// Gives the section another name and subsection.
+    ///
+    /// # Errors
+    ///
+    /// A section can't be made of the names, or the file would be too long.
+    pub fn rename<'b>(
+        &mut self,
+        name: impl AsRef<str>,
+        subsection_name: impl Into<Option<&'b BStr>>,
+    ) -> Result<(), Error> {
+        let names = section_names(name.as_ref(), subsection_name.into());
+        // SAFETY: the handle has a file, which no other call has now.
+        done(unsafe { sys::gix_config_section_rename_at(self.file.handle(), self.place, &names) })
     }
 }

@@ -4,6 +4,8 @@ use std::marker::PhantomData;
 
 use bstr::BString;
 
+use crate::includes::Found;
+use crate::refusal::{out_of_memory, DONE};
 use crate::section;
 
 /// Bytes that lie somewhere.
@@ -52,6 +54,105 @@ pub(crate) struct Section<'a> {
     pub(crate) name: Text<'a>,
     pub(crate) has_subsection: bool,
     pub(crate) subsection: Text<'a>,
+}
+
+/// A line of a section.
+#[repr(C)]
+pub(crate) struct Line<'a> {
+    pub(crate) name: Text<'a>,
+    pub(crate) has_value: bool,
+    pub(crate) value: Text<'a>,
+    pub(crate) has_comment: bool,
+    pub(crate) comment: Text<'a>,
+}
+
+/// A name with its value.
+#[repr(C)]
+pub(crate) struct Assigned<'a> {
+    pub(crate) name: Text<'a>,
+    pub(crate) value: Text<'a>,
+}
+
+/// The folders that the shorthands of paths stand for.
+#[repr(C)]
+pub(crate) struct Folders<'a> {
+    pub(crate) has_installation: bool,
+    pub(crate) installation: Text<'a>,
+    pub(crate) has_home: bool,
+    pub(crate) home: Text<'a>,
+}
+
+/// How includes are followed.
+#[repr(C)]
+pub(crate) struct Includes<'a> {
+    pub(crate) strict: bool,
+    pub(crate) lossy: bool,
+    pub(crate) folders: Folders<'a>,
+    pub(crate) has_git_folder: bool,
+    pub(crate) git_folder: Text<'a>,
+    pub(crate) real_git_folder: Text<'a>,
+    pub(crate) has_branch: bool,
+    pub(crate) branch: Text<'a>,
+}
+
+/// Which file is loaded, and how includes are followed.
+#[repr(C)]
+pub(crate) struct Load<'a> {
+    pub(crate) path: Text<'a>,
+    pub(crate) source: u32,
+    pub(crate) trust: u32,
+    pub(crate) includes: Includes<'a>,
+}
+
+/// The number of what the calling program sets.
+pub(crate) const SOURCE_API: u32 = 256;
+
+/// The number of full trust.
+pub(crate) const TRUST_FULL: u32 = 1;
+
+/// What is told of files, which is freed with this.
+pub(crate) struct Told(Handle);
+
+impl Told {
+    /// Nothing is told as yet.
+    pub(crate) fn new() -> Self {
+        let mut told = Told(Handle::empty());
+        // SAFETY: the handle is a new one.
+        if unsafe { gix_config_told_new(told.handle()) } != DONE {
+            out_of_memory()
+        }
+        told
+    }
+
+    pub(crate) fn handle(&mut self) -> &mut Handle {
+        &mut self.0
+    }
+
+    /// Tells what is at a path, which is UTF-8.
+    pub(crate) fn tell(&mut self, path: &[u8], found: &Found) {
+        let (at, len) = (path.as_ptr(), path.len());
+        // SAFETY: the handle has what is told, and path and text are as long as is said.
+        let answer = unsafe {
+            match found {
+                Found::Missing => gix_config_told_missing(&mut self.0, at, len),
+                Found::Text(text) => {
+                    gix_config_told_text(&mut self.0, at, len, text.as_ptr(), text.len())
+                }
+                Found::Unopened => gix_config_told_fault(&mut self.0, at, len, false),
+                Found::Unread => gix_config_told_fault(&mut self.0, at, len, true),
+            }
+        };
+        if answer != DONE {
+            out_of_memory()
+        }
+    }
+}
+
+impl Drop for Told {
+    fn drop(&mut self) {
+        // SAFETY: the handle is empty, or was filled by a call.
+        unsafe { gix_config_told_close(&mut self.0) }
+    }
 }
 
 /// Where a text is refused.
@@ -286,6 +387,55 @@ extern "C" {
         file: *mut Handle,
         other_file: *mut Handle,
         equal: *mut bool,
+    ) -> u32;
+    pub(crate) fn gix_config_section_new(file: *mut Handle, section: *const Section<'_>) -> u32;
+    pub(crate) fn gix_config_section_remove_at(file: *mut Handle, place: usize) -> u32;
+    pub(crate) fn gix_config_section_rename_at(
+        file: *mut Handle,
+        place: usize,
+        new_section: *const Section<'_>,
+    ) -> u32;
+    pub(crate) fn gix_config_push_line_at(
+        file: *mut Handle,
+        place: usize,
+        line: *const Line<'_>,
+    ) -> u32;
+    pub(crate) fn gix_config_set_value_at(
+        file: *mut Handle,
+        place: usize,
+        assigned: *const Assigned<'_>,
+        had: *mut bool,
+        old: *mut Block,
+    ) -> u32;
+    pub(crate) fn gix_config_remove_value_at(
+        file: *mut Handle,
+        place: usize,
+        name: *const u8,
+        len: usize,
+        old: *mut Block,
+    ) -> u32;
+    pub(crate) fn gix_config_pop_value_at(
+        file: *mut Handle,
+        place: usize,
+        name: *mut Block,
+        value: *mut Block,
+    ) -> u32;
+    fn gix_config_told_new(told: *mut Handle) -> u32;
+    fn gix_config_told_text(
+        told: *mut Handle,
+        path: *const u8,
+        path_len: usize,
+        text: *const u8,
+        len: usize,
+    ) -> u32;
+    fn gix_config_told_missing(told: *mut Handle, path: *const u8, len: usize) -> u32;
+    fn gix_config_told_fault(told: *mut Handle, path: *const u8, len: usize, opens: bool) -> u32;
+    fn gix_config_told_close(told: *mut Handle);
+    pub(crate) fn gix_config_load_told(
+        told: *mut Handle,
+        load: *const Load<'_>,
+        file: *mut Handle,
+        path: *mut Block,
     ) -> u32;
     pub(crate) fn gix_config_section_rename(
         file: *mut Handle,

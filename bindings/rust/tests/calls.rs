@@ -1,6 +1,8 @@
 //! The calls, as they are meant to be called.
 use bstr::{BStr, BString, ByteSlice};
+use gix_config::includes::{Files, Found, Options};
 use gix_config::{lookup, File, KeyRef};
+use std::path::Path;
 
 const TEXT: &str = "# mine\n[core]\n\teditor = vi ; was ed\n\tbare\n\tn = 2k\n[remote \"or.igin\"]\n\turl = \"a b\" c\n\turl = d\n";
 
@@ -161,4 +163,95 @@ fn equal_files() {
         File::try_from("[a]\nk=1").expect("a text"),
         File::try_from("[a]\nk=2").expect("a text")
     );
+}
+
+#[test]
+fn editors_of_sections() {
+    let mut file = file();
+    let mut core = file.section_mut("Core", None).expect("a section");
+    core.push_with_comment("depth", Some("3".into()), "levels")
+        .expect("a name");
+    assert_eq!(core.set("editor", "emacs".into()), Ok(Some("vi".into())));
+    assert_eq!(core.set("none", "x".into()), Ok(None));
+    assert_eq!(core.remove("bare"), Some("".into()));
+    assert_eq!(core.remove("bare"), None);
+    assert_eq!(core.pop(), Some(("none".into(), "x".into())));
+    assert_eq!(
+        core.push("a b", None)
+            .expect_err("no name of a value")
+            .number,
+        6
+    );
+    let mut remote = file
+        .section_mut("remote", b"or.igin".as_bstr())
+        .expect("a section");
+    remote
+        .rename("remote", b"up".as_bstr())
+        .expect("names of a section");
+    assert_eq!(
+        file.to_string(),
+        "# mine\n[core]\n\teditor = emacs ; was ed\n\tn = 2k\n\tdepth = 3 # levels\n[remote \"up\"]\n\turl = \"a b\" c\n\turl = d\n"
+    );
+    assert_eq!(
+        file.section_mut("remote", None).err(),
+        Some(lookup::existing::Error::SubSectionMissing)
+    );
+    file.new_section("user", None)
+        .expect("a name")
+        .push("name", Some("x".into()))
+        .expect("a name");
+    assert_eq!(file.string("user.name"), Some("x".into()));
+    let removed = file.remove_section("core", None).expect("a section");
+    assert_eq!(removed.num_values(), 3);
+    assert!(file.remove_section("core", None).is_none());
+}
+
+/// Files in memory, which count how often they are asked for.
+struct Kept(Vec<(&'static str, Found)>, usize);
+
+impl Files for Kept {
+    fn find(&mut self, path: &Path) -> Found {
+        self.1 += 1;
+        let found = self.0.iter().find(|(at, _)| Path::new(at) == path);
+        found.map_or(Found::Missing, |(_, text)| text.clone())
+    }
+}
+
+#[test]
+fn includes_are_put_where_they_stand() {
+    let mut files = Kept(
+        vec![
+            (
+                "/a",
+                Found::Text(b"[include]\n\tpath = b\n\tpath = none\n[x]\n\tk = 1\n".to_vec()),
+            ),
+            ("/b", Found::Text(b"[y]\n\tk = 2\n".to_vec())),
+            ("/c", Found::Unopened),
+        ],
+        0,
+    );
+    let options = Options::follow_without_conditional(None);
+    let file = File::from_files(Path::new("/a"), options, &mut files).expect("files");
+    let names: Vec<_> = file
+        .sections()
+        .map(|it| it.header().name().to_owned())
+        .collect();
+    assert_eq!(names, texts(&["include", "y", "x"]));
+    assert_eq!(files.1, 3);
+
+    files.0[1].1 = Found::Unopened;
+    let refused = File::from_files(Path::new("/a"), options, &mut files)
+        .expect_err("a file that doesn't open");
+    assert_eq!((refused.number, refused.path), (19, Some("/b".into())));
+}
+
+fn is_send<T: Send>() {}
+
+#[test]
+fn what_is_handed_out_may_be_sent() {
+    is_send::<gix_config::section::Section>();
+    is_send::<KeyRef<'_>>();
+    is_send::<Options<'_>>();
+    is_send::<gix_config::includes::Error>();
+    is_send::<gix_config::parse::Error>();
 }

@@ -23,3 +23,9 @@ pub mod Keys
 pub mod Layouts
 pub mod Origins
 pub mod SectionPlaces
+pub mod Told
+pub mod Telling
+pub mod Followed
+pub mod Loads
+pub mod Loaded
+pub mod NumberedEdits

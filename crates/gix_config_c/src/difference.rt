@@ -27,7 +27,10 @@ impl DifferencePlace {
     pub fn tell(&mut self, difference: &Difference)
         ensures { DifferenceLiesAt difference.now self.new }
     {
-        self.is_other = difference.side.is_other();
+        self.is_other = match difference.side {
+            Side::One => false,
+            Side::Other => true,
+        };
         self.entry.tell(&difference.entry);
     }
 }

@@ -110,7 +110,12 @@ fn remove(alloc: Global, file: &mut File, key: &Key<'_>, old: &mut Block) -> u32
 }
 
 /// Removes the last entry of the name. The room for what it hands out comes first.
-fn remove_entry(alloc: Global, section: &mut SectionMut<'_>, name: &str, old: &mut Block) -> u32
+pub(crate) fn remove_entry(
+    alloc: Global,
+    section: &mut SectionMut<'_>,
+    name: &str,
+    old: &mut Block,
+) -> u32
     ensures same_file { lent section.new ≡ lent section.old }
     ensures kept { (result ≡ 0 → ⊥) → IsKept old.old old.new }
     ensures answer { IsEntryRemoved (number_of section.old) name.now (edited section.old) (edited section.new) result old.new }

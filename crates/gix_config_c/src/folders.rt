@@ -19,8 +19,8 @@ pub struct Folders<'a> {
     pub home: &'a [u8],
 }
 
-/// A folder as text, if it is known; `None` for one that is not UTF-8.
-fn folder(is_known: bool, bytes: &[u8]) -> Option<Option<&str>>
+/// A text, if it is known; `None` for one that is not UTF-8.
+pub(crate) fn text_if(is_known: bool, bytes: &[u8]) -> Option<Option<&str>>
     ensures { option_map option_copied result ≡ text_if is_known bytes.now }
 {
     if !is_known {
@@ -36,8 +36,8 @@ fn folder(is_known: bool, bytes: &[u8]) -> Option<Option<&str>>
 pub fn context<'a>(folders: &'a Folders<'_>) -> Option<Context<'a>>
     ensures { option_map known_folders result ≡ folders_of folders.now }
 {
-    let git_install_dir = folder(folders.has_installation, folders.installation)?;
-    let home_dir = folder(folders.has_home, folders.home)?;
+    let git_install_dir = text_if(folders.has_installation, folders.installation)?;
+    let home_dir = text_if(folders.has_home, folders.home)?;
     Some(Context {
         git_install_dir,
         home_dir,

@@ -16,11 +16,16 @@ mod files;
 mod filtered;
 mod finding;
 pub mod folders;
+pub mod includes;
 pub mod key;
 pub mod layout;
 mod layouts;
+pub mod line;
 mod lists;
+pub mod load;
+mod loading;
 mod look_ups;
+mod numbered;
 pub mod object;
 mod opening;
 pub mod origin;
@@ -31,7 +36,9 @@ mod section_lists;
 mod sections;
 mod setting;
 pub mod slot;
+mod telling;
 mod texts;
+pub mod told;
 
 /// The call is done.
 pub const DONE: u32 = 0;
@@ -47,3 +54,9 @@ pub const NOT_UTF8: u32 = 101;
 
 /// The handle is empty, or holds something else.
 pub const WRONG_HANDLE: u32 = 102;
+
+/// Nothing was told of a file that is needed: tell it, and call again.
+pub const NOT_TOLD: u32 = 103;
+
+/// No source, or no trust, has the number.
+pub const NO_SUCH_NUMBER: u32 = 104;

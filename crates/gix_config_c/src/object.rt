@@ -3,6 +3,7 @@
 use crate::difference::Difference;
 use crate::entry::Entry;
 use crate::section::Section;
+use crate::told::Told;
 use gix_config::File;
 
 /// What a handle can hold.
@@ -20,4 +21,6 @@ pub enum Object {
     Sections(Vec<Section>),
     /// What two files mean differently, as a call handed it out.
     Differences(Vec<Difference>),
+    /// What a program told of files.
+    Told(Told),
 }

@@ -1,6 +1,6 @@
 //! Where sections come from, in numbers, and filters of it.
 ghost use Rattle.std.specs.Prelude.{◌≡◌, ◌<◌};
-ghost use Rattle.gix_config_c.specs.Origins.{keeps, source_number, trust_number};
+ghost use Rattle.gix_config_c.specs.Origins.{keeps, source_number, source_of, trust_number, trust_of};
 
 use gitconf_sources::meta::Metadata;
 use gitconf_sources::source::{Source, Trust};
@@ -70,6 +70,36 @@ pub fn trust(trust: Trust) -> u32
     match trust {
         Trust::Reduced => TRUST_REDUCED,
         Trust::Full => TRUST_FULL,
+    }
+}
+
+/// The source that has the number, if one has it.
+pub fn source_of(number: u32) -> Option<Source>
+    ensures { result ≡ source_of number }
+{
+    match number {
+        SOURCE_GIT_INSTALLATION => Some(Source::GitInstallation),
+        SOURCE_SYSTEM => Some(Source::System),
+        SOURCE_GIT => Some(Source::Git),
+        SOURCE_USER => Some(Source::User),
+        SOURCE_LOCAL => Some(Source::Local),
+        SOURCE_WORKTREE => Some(Source::Worktree),
+        SOURCE_ENV => Some(Source::Env),
+        SOURCE_CLI => Some(Source::Cli),
+        SOURCE_API => Some(Source::Api),
+        SOURCE_ENV_OVERRIDE => Some(Source::EnvOverride),
+        _ => None,
+    }
+}
+
+/// The trust that has the number, if one has it.
+pub fn trust_of(number: u32) -> Option<Trust>
+    ensures { result ≡ trust_of number }
+{
+    match number {
+        TRUST_REDUCED => Some(Trust::Reduced),
+        TRUST_FULL => Some(Trust::Full),
+        _ => None,
     }
 }
 

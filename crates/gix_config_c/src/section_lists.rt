@@ -193,7 +193,7 @@ fn put_entries_of(alloc: Global, section: &SectionRef<'_>, list: &mut Slot) -> u
 }
 
 /// The section at an index, if there is one.
-fn section_at(sections: Sections<'_>, index: usize) -> Option<SectionRef<'_>>
+pub(crate) fn section_at(sections: Sections<'_>, index: usize) -> Option<SectionRef<'_>>
     ensures { option_map shown result ≡ slice_get (sections_left sections.entry) index }
 {
     let mut before = index;

@@ -87,7 +87,7 @@ pub extern "C" fn gix_config_section_new(
 }
 
 /// A copy of a subsection.
-fn copied(alloc: Global, subsection: Option<&[u8]>) -> Result<Option<BString>, NoMemory>
+pub(crate) fn copied(alloc: Global, subsection: Option<&[u8]>) -> Result<Option<BString>, NoMemory>
     ensures { IfOk result (λ copy. option_map bstring_bytes copy ≡ option_copied subsection.entry) }
 {
     match subsection {

@@ -1,0 +1,73 @@
+"""Files that include others."""
+import os
+import tempfile
+import unittest
+from pathlib import Path
+
+from gixcfg import Config, IncludeError, Includes, ParseError
+
+
+class Loads(unittest.TestCase):
+    def setUp(self) -> None:
+        folder = tempfile.TemporaryDirectory()
+        self.addCleanup(folder.cleanup)
+        self.folder = Path(folder.name)
+
+    def put(self, name: str, text: str) -> Path:
+        path = self.folder / name
+        path.parent.mkdir(exist_ok=True)
+        path.write_text(text, encoding="utf-8")
+        return path
+
+    def test_sections_stand_where_they_are_included(self) -> None:
+        path = self.put("a", "[x]\n\tk = 1\n[include]\n\tpath = more/b\n[x]\n\tk = 3\n")
+        self.put("more/b", "[x]\n\tk = 2\n[include]\n\tpath = c\n")
+        self.put("more/c", "[y]\n\tk = 4\n")
+        config = Config.load_with_includes(path)
+        self.assertEqual(config.get_all("x.k"), ["1", "2", "3"])
+        self.assertEqual(config["y.k"], "4")
+        self.assertEqual([it.name for it in config.sections()], ["x", "include", "x", "include", "y", "x"])
+        self.assertRaises(ValueError, config.save)
+
+    def test_what_is_no_file_is_left_out(self) -> None:
+        path = self.put("a", "[include]\n\tpath = none\n\tpath = .\n[x]\n\tk = 1\n")
+        self.assertEqual(Config.load_with_includes(path)["x.k"], "1")
+
+    def test_home_and_conditions(self) -> None:
+        path = self.put("a", '[include]\n\tpath = ~/h\n[includeIf "gitdir:repo/"]\n\tpath = r\n[includeIf "onbranch:main"]\n\tpath = m\n')
+        self.put("home/h", "[h]\n\tk\n")
+        self.put("r", "[r]\n\tk\n")
+        self.put("m", "[m]\n\tk\n")
+        (self.folder / "repo/.git").mkdir(parents=True)
+        plain = Config.load_with_includes(path, Includes(home=self.folder / "home"))
+        self.assertEqual([it.name for it in plain.sections()], ["include", "h", "includeIf", "includeIf"])
+        given = Includes(git_folder=self.folder / "repo/.git", branch="refs/heads/main", home=self.folder / "home")
+        whole = Config.load_with_includes(path, given)
+        self.assertEqual([it.name for it in whole.sections()], ["include", "h", "includeIf", "r", "includeIf", "m"])
+
+    def test_refusals(self) -> None:
+        with self.assertRaises(IncludeError) as caught:
+            Config.load_with_includes(self.folder / "none")
+        self.assertEqual(caught.exception.number, 21)
+        path = self.put("a", "[include]\n\tpath = b\n")
+        self.put("b", "[x]\n\tk = \"1\n")
+        with self.assertRaises(ParseError) as refused:
+            Config.load_with_includes(path)
+        self.assertEqual((refused.exception.path, refused.exception.line), (str(self.folder / "b"), 2))
+        self.put("b", "[include]\n\tpath = a\n")
+        with self.assertRaises(IncludeError) as deep:
+            Config.load_with_includes(path)
+        self.assertEqual(deep.exception.number, 15)
+
+    @unittest.skipIf(os.geteuid() == 0, "root opens each file")
+    def test_file_that_does_not_open(self) -> None:
+        path = self.put("a", "[include]\n\tpath = b\n")
+        self.put("b", "").chmod(0)
+        with self.assertRaises(IncludeError) as caught:
+            Config.load_with_includes(path)
+        self.assertEqual(caught.exception.number, 19)
+        self.assertIn(str(self.folder / "b"), str(caught.exception))
+
+
+if __name__ == "__main__":
+    unittest.main()

@@ -1,0 +1,194 @@
+//! Which includes are followed, and where files come from.
+use std::fs;
+use std::io;
+use std::path::Path;
+
+use bstr::{BStr, BString, ByteSlice};
+
+use crate::sys;
+
+/// What the conditions of `includeIf` are about.
+pub mod conditional {
+    use bstr::BStr;
+    use std::path::Path;
+
+    /// What the conditions of `includeIf` are about. The default has nothing, and no condition on it holds.
+    #[derive(Clone, Copy, Debug, Default)]
+    pub struct Context<'a> {
+        /// The folder of the repository, for `gitdir:` and `gitdir/i:`.
+        pub git_dir: Option<&'a Path>,
+        /// The full name of the branch, such as `refs/heads/main`, for `onbranch:`.
+        pub branch_name: Option<&'a BStr>,
+    }
+}
+
+/// What the shorthands of paths stand for.
+pub mod interpolate {
+    use std::path::Path;
+
+    /// What the shorthands of paths stand for. The default knows nothing.
+    #[derive(Clone, Copy, Debug, Default)]
+    pub struct Context<'a> {
+        /// The folder where git is installed, for `%(prefix)/`.
+        pub git_install_dir: Option<&'a Path>,
+        /// The user's home folder, for `~/`.
+        pub home_dir: Option<&'a Path>,
+    }
+}
+
+/// How includes are followed: ten files deep; deeper ones are refused, and so is a path relative to the folder of a file that has no path.
+#[derive(Clone, Copy, Debug, Default)]
+pub struct Options<'a> {
+    interpolate: interpolate::Context<'a>,
+    conditional: conditional::Context<'a>,
+    strict: bool,
+}
+
+impl<'a> Options<'a> {
+    /// Includes are followed; one whose path has a shorthand that stands for nothing is left out.
+    #[must_use]
+    pub fn follow(
+        interpolate: interpolate::Context<'a>,
+        conditional: conditional::Context<'a>,
+    ) -> Self {
+        Options {
+            interpolate,
+            conditional,
+            strict: false,
+        }
+    }
+
+    /// [`Options::follow`] with the home folder, and nothing that a condition could be about.
+    #[must_use]
+    pub fn follow_without_conditional(home_dir: Option<&'a Path>) -> Self {
+        let interpolate = interpolate::Context {
+            git_install_dir: None,
+            home_dir,
+        };
+        Options::follow(interpolate, conditional::Context::default())
+    }
+
+    /// The same, but an include whose path has a shorthand that stands for nothing is refused, and a condition on the git folder if there
+    /// is none.
+    #[must_use]
+    pub fn strict(mut self) -> Self {
+        self.strict = true;
+        self
+    }
+
+    /// The git folder with its symbolic links resolved, or as it is given where that fails.
+    pub(crate) fn real_git_dir(&self) -> BString {
+        let Some(git_dir) = self.conditional.git_dir else {
+            return BString::default();
+        };
+        let real = fs::canonicalize(git_dir).unwrap_or_else(|_| git_dir.to_owned());
+        bytes(&real).into()
+    }
+
+    /// The same as the library takes it.
+    pub(crate) fn given(&self, real_git_folder: &'a BStr) -> sys::Includes<'a> {
+        let (installation, has_installation) = known(self.interpolate.git_install_dir);
+        let (home, has_home) = known(self.interpolate.home_dir);
+        let (git_folder, has_git_folder) = known(self.conditional.git_dir);
+        let branch = self.conditional.branch_name;
+        sys::Includes {
+            strict: self.strict,
+            lossy: false,
+            folders: sys::Folders {
+                has_installation,
+                installation,
+                has_home,
+                home,
+            },
+            has_git_folder,
+            git_folder,
+            real_git_folder: sys::Text::of(real_git_folder),
+            has_branch: branch.is_some(),
+            branch: sys::Text::of(branch.unwrap_or_default()),
+        }
+    }
+}
+
+/// The bytes of a path.
+pub(crate) fn bytes(path: &Path) -> &[u8] {
+    std::os::unix::ffi::OsStrExt::as_bytes(path.as_os_str())
+}
+
+fn known(path: Option<&Path>) -> (sys::Text<'_>, bool) {
+    (sys::Text::of(path.map_or(b"", bytes)), path.is_some())
+}
+
+/// Why includes are refused: for a file, its path, its depth, or a condition.
+#[derive(Clone, Debug, PartialEq, Eq, thiserror::Error)]
+#[error("{}", crate::refusal::words(*number))]
+pub struct Error {
+    /// The number of the refusal in docs/refusals.md.
+    pub number: u32,
+    /// The path of the file that was asked for last, if one was.
+    pub path: Option<BString>,
+}
+
+/// What is at a path.
+#[derive(Clone, Debug, PartialEq, Eq)]
+pub enum Found {
+    /// No file: an include of it is left out.
+    Missing,
+    /// A file of these bytes.
+    Text(Vec<u8>),
+    /// A file that can't be opened.
+    Unopened,
+    /// A file that can be opened but not read.
+    Unread,
+}
+
+/// Where files come from.
+pub trait Files {
+    /// What is at a path.
+    fn find(&mut self, path: &Path) -> Found;
+}
+
+/// The files of the disk.
+#[derive(Clone, Copy, Debug, Default)]
+pub struct Disk;
+
+impl Files for Disk {
+    fn find(&mut self, path: &Path) -> Found {
+        if !path.is_file() {
+            return Found::Missing;
+        }
+        let Ok(mut file) = fs::File::open(path) else {
+            return Found::Unopened;
+        };
+        let mut text = Vec::new();
+        match io::Read::read_to_end(&mut file, &mut text) {
+            Ok(_) => Found::Text(text),
+            Err(_) => Found::Unread,
+        }
+    }
+}
+
+/// Makes a call again and again, each time with one file more, until it asks for none.
+pub(crate) fn ask(
+    files: &mut impl Files,
+    mut call: impl FnMut(*mut sys::Handle, &mut sys::Block) -> u32,
+) -> Result<(), Error> {
+    let mut told = sys::Told::new();
+    let mut path = None;
+    loop {
+        let mut asked = sys::Block::empty();
+        match call(told.handle(), &mut asked) {
+            crate::refusal::DONE => return Ok(()),
+            crate::refusal::NOT_TOLD => {
+                let at = asked.bytes();
+                told.tell(at, &files.find(&path_of(at)));
+                path = Some(at.into());
+            }
+            crate::refusal::OUT_OF_MEMORY => crate::refusal::out_of_memory(),
+            number => return Err(Error { number, path }),
+        }
+    }
+}
+
+fn path_of(bytes: &[u8]) -> std::path::PathBuf {
+    bytes.to_path_lossy().into_owned()
+}

@@ -1,0 +1,43 @@
+-- Which file a refused load is about.
+use Rattle.std.proofs.Common.{◌≡◌, ℕ, true, List, Some, Result, Err, inl, inr, sym, subst}
+use Rattle.gitconf_includes.specs.Outcomes.{IsCause}
+use Rattle.gitconf_includes.specs.declared.includes.Error.{Error as IncludesError}
+use Rattle.gitconf_includes.specs.declared.includes.Error.TheVariants as includes
+use Rattle.gitconf_includes.specs.declared.init.Error.TheVariants as init
+use Rattle.gitconf_includes.specs.declared.init.Options.{Options}
+use Rattle.gitconf_loaders.specs.Causes.{IsLoadCause, IsPathCause}
+use Rattle.gitconf_loaders.specs.declared.from_paths.Error.{Error as PathsError}
+use Rattle.gitconf_loaders.specs.declared.from_paths.Error.TheVariants as paths
+use Rattle.gitconf_sources.specs.Metadata.{Meta}
+use Rattle.gitconf_sources.specs.Reports.{read_of}
+use Rattle.gitconf_sources.specs.declared.fault.FileFault.{FileFault}
+use Rattle.gix_config_c.specs.Loaded.{IsFaulty, include_path, load_path}
+use Rattle.gix_config_c.specs.Told.{Tells, told_at}
+
+-- a file that the refusal of an include names can't be opened
+pub faulty_include : (told : Tells) (options : Options) (e : IncludesError) → IsCause options (Some (told_at told)) e → IsFaulty told (include_path e)
+faulty_include told options (includes.Io path fault) cause = (fault, cause.1)
+faulty_include told options (includes.CopyBuffer fault) cause = tt
+faulty_include told options (includes.Parse e) cause = tt
+faulty_include told options (includes.Span e) cause = tt
+faulty_include told options (includes.Interpolate e) cause = tt
+faulty_include told options (includes.IncludeDepthExceeded depth) cause = tt
+faulty_include told options includes.MissingConfigPath cause = tt
+faulty_include told options includes.MissingGitDir cause = tt
+faulty_include told options (includes.Realpath fault) cause = tt
+faulty_include told options includes.Memory cause = tt
+
+-- a file that the refusal of a load names can't be opened or read
+faulty_path : (told : Tells) (options : Options) (path : List ℕ) (e : PathsError) → IsPathCause true options (Some (told_at told)) path e → IsFaulty told (load_path e)
+faulty_path told options path (paths.Io at fault) cause =
+    (fault, subst (λ (p : List ℕ). ◌≡◌ {A = Result (List ℕ) FileFault} (read_of (told_at told p)) (Err fault)) (sym cause.0) cause.1)
+faulty_path told options path (paths.Init (init.Includes e)) cause = faulty_include told options e cause
+faulty_path told options path (paths.Init (init.Parse e)) cause = tt
+faulty_path told options path (paths.Init (init.Interpolate e)) cause = tt
+faulty_path told options path (paths.Init (init.Span e)) cause = tt
+faulty_path told options path (paths.Init init.Memory) cause = tt
+faulty_path told options path paths.Memory cause = tt
+
+pub faulty_load : (told : Tells) (options : Options) (metas : List Meta) (e : PathsError) → IsLoadCause true options (Some (told_at told)) metas e → IsFaulty told (load_path e)
+faulty_load told options metas e (inl memory) = subst (λ (x : PathsError). IsFaulty told (load_path x)) (sym memory) tt
+faulty_load told options metas e (inr cause) = faulty_path told options cause.0 e cause.2

@@ -1,0 +1,63 @@
+-- What loads by what was told answer.
+use Rattle.std.specs.Prelude.{◌≡◌, ◌⊎◌, if◌then◌else◌, ℕ, Bool, true, false, List, [], ◌∷◌, Option, Some, None, Result, Ok, Err, string_bytes}
+use Rattle.gitconf_includes.specs.Errors.{includes_number}
+use Rattle.gitconf_includes.specs.Expansion.{Asks}
+use Rattle.gitconf_includes.specs.Rules.{Rules}
+use Rattle.gitconf_includes.specs.declared.includes.Error.{Error as IncludesError}
+use Rattle.gitconf_includes.specs.declared.includes.Error.TheVariants as includes
+use Rattle.gitconf_includes.specs.declared.init.Error.TheVariants as init
+use Rattle.gitconf_loaders.specs.Errors.{paths_number}
+use Rattle.gitconf_loaders.specs.Paths.{IsLoadOfPaths, numbered}
+use Rattle.gitconf_loaders.specs.declared.from_paths.Error.{Error as PathsError}
+use Rattle.gitconf_loaders.specs.declared.from_paths.Error.TheVariants as paths
+use Rattle.gitconf_sources.specs.Reports.{read_of}
+use Rattle.gitconf_sources.specs.declared.fault.FileFault.{FileFault}
+use Rattle.gitconf_state.specs.State.{State}
+use Rattle.gix_config_c.specs.Blocks.{Holds, IsKept}
+use Rattle.gix_config_c.specs.Loads.{PlainWanted}
+use Rattle.gix_config_c.specs.Told.{Tells, is_told, told_at}
+use Rattle.gix_config_c.specs.declared.block.Block.{Block}
+use Rattle.gix_config_c.specs.declared.object.Object.{Object}
+use Rattle.gix_config_c.specs.declared.object.Object.TheVariants.{File}
+
+-- what is said of what a program wants, if that can be; else the number says why not
+pub record OfWanted (given : Result PlainWanted ℕ) (number : ℕ) (said : PlainWanted → Type 0) : Type 0 where
+  pub wanted : (wanted : PlainWanted) → given ≡ Ok wanted → said wanted
+  pub other : (why : ℕ) → given ≡ Err why → number ≡ why
+
+-- what an expansion depends on: the rules, and what was told
+abbrev pub asks_by : Tells → Rules → Asks
+asks_by told rules = record { rules = rules; table = Some (told_at told) }
+
+-- the path of the file that can't be opened, if the refusal of an include names one
+abbrev pub include_path : IncludesError → Option (List ℕ)
+include_path (includes.Io path fault) = Some (string_bytes path)
+include_path _ = None
+
+-- the same of the refusal of a load: also that of a file that can't be read
+abbrev pub load_path : PathsError → Option (List ℕ)
+load_path (paths.Io path fault) = Some (string_bytes path)
+load_path (paths.Init (init.Includes e)) = include_path e
+load_path _ = None
+
+-- the file at the path can't be opened or read
+abbrev pub IsFaulty : Tells → Option (List ℕ) → Type 0
+IsFaulty told None = Unit {0}
+IsFaulty told (Some path) = (fault : FileFault) × ◌≡◌ {A = Result (List ℕ) FileFault} (read_of (told_at told path)) (Err fault)
+
+-- The number of the library's refusal, which may name the path of a file: that goes to the block, and the number is 103 if nothing was told
+-- of it.
+abbrev pub IsAnswered : Tells → Option (List ℕ) → (refusal number : ℕ) → (old new : Block) → Type 0
+IsAnswered told None refusal number old new = (number ≡ refusal) × IsKept old new
+IsAnswered told (Some path) refusal number old new = (number ≡ (if is_told told path then refusal else 103)) × Holds path new
+
+-- what is told of a load: the file that was made, 100 where nothing was, or the number of the refusal
+abbrev pub TellsLoad : Tells → Result (Option State) PathsError → (number : ℕ) → (file : Option Object) → (old new : Block) → Type 0
+TellsLoad told (Ok (Some f)) number file old new = (number ≡ 0) × (file ≡ Some (File f)) × IsKept old new
+TellsLoad told (Ok None) number file old new = (number ≡ 100) × IsKept old new
+TellsLoad told (Err e) number file old new = IsAnswered told (load_path e) (paths_number e) number old new × IsFaulty told (load_path e)
+
+-- the file was loaded, with what it includes, from what was told, or refused; or memory ran out
+pub record IsLoadedBy (told : Tells) (wanted : PlainWanted) (number : ℕ) (file : Option Object) (old new : Block) : Type 0 where
+  pub load : (number ≡ 27 → ⊥) → (r : Result (Option State) PathsError)
+      × IsLoadOfPaths true false (asks_by told wanted.rules) (wanted.meta ∷ []) (numbered paths_number r) × TellsLoad told r number file old new

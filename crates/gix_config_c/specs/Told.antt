@@ -1,0 +1,34 @@
+-- What a program told of files.
+use Rattle.std.specs.Prelude.{ℕ, Bool, true, false, List, Option, is_some}
+use Rattle.std.specs.Map.{lookup}
+use Rattle.std.specs.Str.{bytes_eq}
+use Rattle.std.specs.declared.alloc.Global.{Global}
+use Rattle.std.specs.declared.string.String.{String}
+use Rattle.gitconf_sources.specs.InMemory.{entry_at, reported_entries}
+use Rattle.gitconf_sources.specs.Reports.{FileReport, IsFile, NoFile, Unopened, Unread}
+use Rattle.gitconf_sources.specs.declared.source.Trust.TheVariants.{Full}
+use Rattle.gix_config_c.specs.declared.told.Report.{Report}
+use Rattle.gix_config_c.specs.declared.told.Report.TheVariants as reports
+
+-- what is known of a file by what was told of it
+abbrev pub report_of : Report → FileReport
+report_of reports.Missing = NoFile
+report_of (reports.Text text) = IsFile text.items Full
+report_of reports.Unopened = Unopened false
+report_of reports.Unread = Unread
+
+-- what was told of paths
+abbrev pub Tells : Type 0
+Tells = List (List ℕ × FileReport)
+
+-- the entries of a tree, each under the bytes of its path
+abbrev pub told_entries : List (String Global × Report) → Tells
+told_entries entries = reported_entries report_of entries
+
+-- what is at a path; one of which nothing was told can't be opened
+abbrev pub told_at : Tells → (path : List ℕ) → FileReport
+told_at told path = entry_at (Unopened false) told path
+
+-- whether something was told of a path
+abbrev pub is_told : Tells → (path : List ℕ) → Bool
+is_told told path = is_some (lookup (bytes_eq path) told)

@@ -1,0 +1,170 @@
+//! Files, loaded with what they include, by what a program told.
+ghost use Rattle.std.specs.Prelude.{◌≡◌, ◌⊎◌, ◌∷◌, [], if◌then◌else◌, true, false, IfErr, IfOk, Ok, Err, Some};
+ghost use Rattle.gitconf_includes.specs.Errors.{includes_number};
+ghost use Rattle.gitconf_loaders.specs.Errors.{paths_number};
+ghost use Rattle.gitconf_loaders.specs.Paths.{IsLoadOfPaths, numbered};
+ghost use Rattle.gitconf_sources.specs.Metadata.{meta_of_file};
+ghost use Rattle.gix_config_c.specs.Blocks.{Holds, IsKept};
+ghost use Rattle.gix_config_c.specs.Loaded.{IsAnswered, IsFaulty, IsLoadedBy, OfWanted, asks_by, include_path, load_path};
+ghost use Rattle.gix_config_c.specs.Loads.{plain_wanted, wanted_of};
+ghost use Rattle.gix_config_c.specs.Telling.{OfTold};
+ghost use Rattle.gix_config_c.specs.Told.{is_told};
+
+use crate::block::{Block, room};
+use crate::lists::put_list;
+use crate::load::{Load, Wanted, want};
+use crate::object::Object;
+use crate::slot::Slot;
+use crate::told::Told;
+use crate::{NOT_TOLD, NOTHING_THERE, OUT_OF_MEMORY, WRONG_HANDLE};
+use gitconf_includes::{includes, init};
+use gitconf_loaders::from_paths;
+use gitconf_sources::meta::Metadata;
+use gitconf_sources::source::{Source, Trust};
+use gix_config::refusals::Refusal as _;
+use gix_config::{File, NoMemory};
+use std::alloc::Global;
+
+/// Loads a file by its path, with what it includes, from what a program told. What was in the file's handle before is closed.
+///
+/// 103 if the load needs a file of which nothing was told: its path is then in the block, whose bytes from before are freed; tell it,
+/// and call again. 21 if the file itself, and 19 if one that is included, was told to have a fault: its path is then in the block, too;
+/// 20 if one that is included can't be read. 1, 2, 3 and 12 to 18 if a file or its includes are refused, 100 if there is nothing to load.
+/// 101 if a text that has to be UTF-8 isn't, 104 if no source or trust has the number, 102 if the handle is not one for what is told, 27
+/// when out of memory. The file's handle is as it was after any number but 0, and the block after any but 19, 21 and 103.
+#[unsafe(no_mangle)]
+pub extern "C" fn gix_config_load_told(
+    alloc: Global,
+    told: &mut Slot,
+    load: &Load<'_>,
+    file: &mut Slot,
+    path: &mut Block,
+) -> u32
+    ensures answer { OfTold told.old.it result (λ t. OfWanted (wanted_of load.now) result (λ w. IsLoadedBy t w result file.new.it path.old path.new)) }
+    ensures kept { (result ≡ 0 → ⊥) → file.new.it ≡ file.old.it }
+    ensures kept_path { (result ≡ 19 → ⊥) → (result ≡ 21 → ⊥) → (result ≡ 103 → ⊥) → IsKept path.old path.new }
+    ensures same { told.new.it ≡ told.old.it }
+{
+    let Some(object) = told.take(alloc) else {
+        return WRONG_HANDLE;
+    };
+    let answer = match &*object {
+        Object::Told(it) => load_by(alloc, it, load, file, path),
+        _ => WRONG_HANDLE,
+    };
+    told.put(object);
+    answer
+}
+
+/// Loads the file that a program wants.
+fn load_by(alloc: Global, told: &Told, load: &Load<'_>, file: &mut Slot, path: &mut Block) -> u32
+    ensures answer { OfWanted (wanted_of load.now) result (λ w. IsLoadedBy told.now w result file.new.it path.old path.new) }
+    ensures kept { (result ≡ 0 → ⊥) → file.new.it ≡ file.old.it }
+    ensures kept_path { (result ≡ 19 → ⊥) → (result ≡ 21 → ⊥) → (result ≡ 103 → ⊥) → IsKept path.old path.new }
+{
+    match want(load) {
+        Ok(wanted) => put_loaded(alloc, told, wanted, file, path),
+        Err(number) => number,
+    }
+}
+
+/// Puts a file that is loaded into a handle.
+fn put_loaded(
+    alloc: Global,
+    told: &Told,
+    wanted: Wanted<'_>,
+    file: &mut Slot,
+    path: &mut Block,
+) -> u32
+    ensures answer { IsLoadedBy told.now (plain_wanted wanted.entry) result file.new.it path.old path.new }
+    ensures kept { (result ≡ 0 → ⊥) → file.new.it ≡ file.old.it }
+    ensures kept_path { (result ≡ 19 → ⊥) → (result ≡ 21 → ⊥) → (result ≡ 103 → ⊥) → IsKept path.old path.new }
+{
+    match loaded(alloc, told, wanted) {
+        Ok(Some(made)) => put_list(alloc, Object::File(made), file),
+        Ok(None) => NOTHING_THERE,
+        Err(refusal) => refused_load(alloc, told, &refusal, path),
+    }
+}
+
+/// The metadata of the one file that is loaded.
+fn metas_of(
+    alloc: Global,
+    path: &str,
+    source: Source,
+    trust: Trust,
+) -> Result<Vec<Metadata>, NoMemory>
+    ensures { IfOk result (λ metas. metas.items ≡ meta_of_file path.now source trust ∷ []) }
+{
+    let path = Some(String::from_str(alloc, path)?);
+    let mut metas = Vec::new(alloc);
+    metas.push(Metadata {
+        path,
+        source,
+        level: 0,
+        trust,
+    })?;
+    Ok(metas)
+}
+
+/// The file that is loaded, with what it includes.
+fn loaded(alloc: Global, told: &Told, wanted: Wanted<'_>) -> Result<Option<File>, from_paths::Error>
+    ensures loaded { IsLoadOfPaths true false (asks_by told.now (plain_wanted wanted.entry).rules) ((plain_wanted wanted.entry).meta ∷ [])
+        (numbered paths_number result) }
+    ensures faulty { IfErr result (λ e. IsFaulty told.now (load_path e)) }
+{
+    let Wanted {
+        path,
+        source,
+        trust,
+        includes,
+        lossy,
+    } = wanted;
+    let mut files = told.try_clone()?;
+    let metas = metas_of(alloc, path, source, trust)?;
+    let options = init::Options {
+        includes,
+        lossy,
+        ignore_io_errors: false,
+    };
+    File::from_paths_metadata_of(alloc, metas, options, &mut files)
+}
+
+/// The number of a refused load. Hands out the path of a file that can't be opened or read.
+fn refused_load(alloc: Global, told: &Told, refusal: &from_paths::Error, path: &mut Block) -> u32
+    ensures answer { (result ≡ 27 → ⊥) → IsAnswered told.now (load_path refusal.now) (paths_number refusal.now) result path.old path.new }
+    ensures kept { (result ≡ 19 → ⊥) → (result ≡ 21 → ⊥) → (result ≡ 103 → ⊥) → IsKept path.old path.new }
+{
+    match refusal {
+        from_paths::Error::Io { path: at, .. } => ask(alloc, told, at, 21, path),
+        from_paths::Error::Init(init::Error::Includes(e)) => refused_include(alloc, told, e, path),
+        from_paths::Error::Init(e) => u32::from(e.number()),
+        from_paths::Error::Memory => OUT_OF_MEMORY,
+    }
+}
+
+/// The number of a refused include. Hands out the path of a file that can't be opened.
+fn refused_include(alloc: Global, told: &Told, refusal: &includes::Error, path: &mut Block) -> u32
+    ensures answer { (result ≡ 27 → ⊥) → IsAnswered told.now (include_path refusal.now) (includes_number refusal.now) result path.old path.new }
+    ensures kept { (result ≡ 19 → ⊥) → (result ≡ 21 → ⊥) → (result ≡ 103 → ⊥) → IsKept path.old path.new }
+{
+    match refusal {
+        includes::Error::Io { path: at, .. } => ask(alloc, told, at, 19, path),
+        refusal => u32::from(refusal.number()),
+    }
+}
+
+/// Hands out the path of a file. The number is that of the refusal if something was told of the file, else 103; or 27 when out of memory.
+fn ask(alloc: Global, told: &Told, at: &str, refusal: u32, path: &mut Block) -> u32
+    ensures answer { (result ≡ 27) ⊎ ((result ≡ (if is_told told.now at.now then refusal else 103)) × Holds at.now path.new) }
+    ensures kept { result ≡ 27 → (refusal ≡ 27 → ⊥) → IsKept path.old path.new }
+{
+    let Some(room) = room(alloc) else {
+        return OUT_OF_MEMORY;
+    };
+    let Ok(copy) = at.as_bytes().to_vec(alloc) else {
+        return OUT_OF_MEMORY;
+    };
+    path.put(room, copy);
+    if told.knows(at) { refusal } else { NOT_TOLD }
+}
