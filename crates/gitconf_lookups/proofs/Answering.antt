@@ -20,6 +20,7 @@ use Rattle.gitconf_lookups.specs.declared.found.Found.{Found}
 use Rattle.gitconf_views.specs.declared.section.SectionRef.{SectionRef}
 use Rattle.gitconf_lookups.specs.Finding.{AreFound, Place, all_places, decides, deciding_place, last_place, places_in}
 use Rattle.gitconf_lookups.specs.Misses.{IsExisting, existing_or, missing}
+use Rattle.gitconf_body.specs.Bodies.{IsFoundImplicit}
 use Rattle.gitconf_lookups.specs.Lookups.{AreStrings, IsFound, IsImplicit, IsString, implicit_at, sections_named, sections_passing, shown_with, texts_of, if_any, value_at, value_in, values_at, values_in}
 
 -- what is known of the last one is what is known of each
@@ -219,10 +220,10 @@ text_with_section_told key keeps state found result told is =
 
 -- the last entry of a key, told as it was found
 pub implicit_told : {E : Type 0} (key : Key) (keeps : Meta → Bool) (state : State) (found : Option Place) (result : Result (Option (Option BString)) E)
-    → IsFound (option_map bstring_bytes) result (option_map (λ (p : Place). option_map plain p.1.raw) found)
+    → IsFoundImplicit result (option_map (λ (p : Place). option_map plain p.1.raw) found)
     → found ≡ last_place what.Entry key.name keeps (sections_named key.section key.subsection state) → IsImplicit key keeps state result
 implicit_told key keeps state found result told is =
-    subst (IsFound (option_map bstring_bytes) result) (ap (option_map (λ (p : Place). option_map plain p.1.raw)) is ∙ implicit_found key keeps state) told
+    subst (IsFoundImplicit result) (ap (option_map (λ (p : Place). option_map plain p.1.raw)) is ∙ implicit_found key keeps state) told
 
 -- all values of a key, told as they were found
 pub texts_told : {Z Y E F : Type 0} (key : Key) (keeps : Meta → Bool) (state : State) (found : Result (Vec Found Z) F) (result : Result (Option (Vec BString Y)) E)

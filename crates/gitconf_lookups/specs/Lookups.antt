@@ -8,6 +8,7 @@ use Rattle.bstr.specs.Owned.{bstring_bytes}
 use Rattle.gitconf_text.specs.Value.{plain}
 use Rattle.gitconf_sources.specs.Key.{Key}
 use Rattle.gitconf_sources.specs.Metadata.{Meta}
+use Rattle.gitconf_body.specs.Bodies.{IsFoundImplicit}
 use Rattle.gitconf_state.specs.Lookup.{Miss, all_values, deciding, entries_of_key, is_named, last_value, listed, listing, meaning, miss_of, said_passing}
 use Rattle.gitconf_state.specs.State.{SectionState, State}
 use Rattle.gitconf_lookups.specs.declared.existing.Error.{Error}
@@ -71,7 +72,7 @@ AreStrings key keeps state result = IsFound texts_of result (if_any (values_at k
 
 -- the result is what the key's last entry means, if there is one
 abbrev pub IsImplicit : {E : Type 0} → Key → (keeps : Meta → Bool) → State → Result (Option (Option BString)) E → Type 0
-IsImplicit key keeps state result = IsFound (option_map bstring_bytes) result (implicit_at key keeps state)
+IsImplicit key keeps state result = IsFoundImplicit result (implicit_at key keeps state)
 
 -- the result is the last value of the key, or what is missing
 abbrev pub IsRawValue : Key → (keeps : Meta → Bool) → State → Result BString Error → Type 0

@@ -1,5 +1,5 @@
 //! A place that a lookup found, and what is there.
-ghost use Rattle.std.specs.Prelude.{◌≡◌, IfOk};
+ghost use Rattle.std.specs.Prelude.{◌≡◌, ℕ, List, Some, IfOk, OnErr};
 
 use bstr::BString;
 use gitconf_body::meanings::{entry_meaning, entry_value};
@@ -57,7 +57,8 @@ impl<'a> Found<'a> {
 
     /// What the entry's value means, if it has one.
     pub fn value(&self, alloc: Global) -> Result<Option<BString>, NoMemory>
-        ensures { IfOk result (λ value. option_map bstring_bytes value ≡ option_map plain (place_of self.now).1.raw) }
+        ensures ok { IfOk result (λ value. option_map bstring_bytes value ≡ option_map plain (place_of self.now).1.raw) }
+        ensures err { OnErr result ((bytes : List ℕ) × ((place_of self.now).1.raw ≡ Some bytes)) }
     {
         entry_value(alloc, self.section.buffer, self.entry)
     }

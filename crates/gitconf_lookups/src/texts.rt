@@ -4,6 +4,7 @@ ghost use Rattle.std.specs.Prelude.{◌≡◌, List, map, IfOk};
 ghost use Rattle.bstr.specs.Owned.{bstring_bytes};
 ghost use Rattle.gitconf_text.specs.Value.{plain};
 ghost use Rattle.gitconf_state.specs.Lookup.{meaning as meant};
+ghost use Rattle.gitconf_body.specs.Bodies.{IsFoundImplicit};
 ghost use Rattle.gitconf_lookups.specs.Finding.{AreFound, Place, place_of};
 ghost use Rattle.gitconf_lookups.specs.Lookups.{IsFound, shown_with, texts_of, if_any};
 
@@ -47,7 +48,7 @@ pub fn implicit_text(
     alloc: Global,
     found: &Option<Found<'_>>,
 ) -> Result<Option<Option<BString>>, NoMemory>
-    ensures { IsFound (option_map bstring_bytes) result (option_map (λ (p : Place). option_map plain p.1.raw) (option_map place_of found.now)) }
+    ensures { IsFoundImplicit result (option_map (λ (p : Place). option_map plain p.1.raw) (option_map place_of found.now)) }
 {
     match found {
         Some(place) => Ok(Some(place.value(alloc)?)),

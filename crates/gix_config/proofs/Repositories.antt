@@ -35,7 +35,7 @@ use Rattle.gitconf_loaders.proofs.Several.{IsAppendRefusal, open_room, shut_room
 use Rattle.gix_config.specs.Environment.{IsOverridesCause}
 use Rattle.gix_config.specs.Repository.{has_worktree, IsExpanded, IsGitCause, IsIncludeCause, IsJoined, IsOverridingCause, IsPutBehind, IsReadCause, IsReadOf, IsRepository, IsRepositoryCause, AreOwnAndOverridesBehind, is_set_true, IsWorktree, folder_of, local_path, parts_of, repository_rules, RepositoryFiles, worktree_path}
 use Rattle.gix_config.specs.declared.file.init.repository.Parts.{Parts}
-use Rattle.gix_config.specs.Typed.{boolean_or_refusal, IsTyped}
+use Rattle.gix_config.specs.Typed.{boolean_or_refusal, IsEntryBoolean}
 use Rattle.gix_config.proofs.Entries.{expanded_number}
 
 -- refusals keep their numbers
@@ -76,15 +76,15 @@ of_span n = go (n == 27) refl
     go false is = rw is refl
 
 -- a boolean that was told, or not
-pub told_on : (value : Option (Option (List ℕ))) (on : Bool) → IsTyped {T = Bool} boolean_or_refusal (λ b. b) value (Ok (Some on)) → is_set_true (option_map boolean_or_refusal value) ≡ on
+pub told_on : (value : Option (Option (List ℕ))) (on : Bool) → IsEntryBoolean value (Ok (Some on)) → is_set_true (option_map boolean_or_refusal value) ≡ on
 told_on value on is = ap is_set_true is
 
-pub not_told : (value : Option (Option (List ℕ))) → IsTyped {T = Bool} boolean_or_refusal (λ b. b) value (Ok None) → is_set_true (option_map boolean_or_refusal value) ≡ false
+pub not_told : (value : Option (Option (List ℕ))) → IsEntryBoolean value (Ok None) → is_set_true (option_map boolean_or_refusal value) ≡ false
 not_told value is = ap is_set_true is
 
-pub refused_told : (value : Option (Option (List ℕ))) (e : ValueError) → IsTyped {T = Bool} boolean_or_refusal (λ b. b) value (Err e) → (e.number ≡ 27 → ⊥) → is_set_true (option_map boolean_or_refusal value) ≡ false
+pub refused_told : (value : Option (Option (List ℕ))) (e : ValueError) → IsEntryBoolean value (Err e) → (e.number ≡ 27 → ⊥) → is_set_true (option_map boolean_or_refusal value) ≡ false
 refused_told value e (inl is) other = ap is_set_true is
-refused_told value e (inr (some, is)) other = absurd (other (ap (λ (x : ValueError). x.number) is))
+refused_told value e (inr (text, (some, is))) other = absurd (other (ap (λ (x : ValueError). x.number) is))
 
 module _ (table : Option (List ℕ → FileReport)) (folder : List ℕ) (local : State) where
   pub no_worktree : has_worktree local ≡ false → IsWorktree table folder local (Ok None)

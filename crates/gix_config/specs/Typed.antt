@@ -32,9 +32,14 @@ IsTyped told shown value (Err e) = (option_map told value ≡ Some (Err e)) ⊎ 
 abbrev pub IsPath : {E : Type 0} → Key → (keeps : Meta → Bool) → State → Result (Option (List ℕ)) E → Type 0
 IsPath key keeps state result = IsFound (λ path. path) result (value_at key keeps state)
 
+-- What an entry means as a boolean, if there is one; or memory ran out, if it has a value.
+abbrev pub IsEntryBoolean : Option (Option (List ℕ)) → Result (Option Bool) ValueError → Type 0
+IsEntryBoolean value (Ok found) = option_map boolean_or_refusal value ≡ option_map Ok found
+IsEntryBoolean value (Err e) = (option_map boolean_or_refusal value ≡ Some (Err e)) ⊎ ((text : List ℕ) × (value ≡ Some (Some text)) × (e ≡ wanting))
+
 -- the result is what the key's last entry means as a boolean, if there is one
 abbrev pub IsBoolean : Key → (keeps : Meta → Bool) → State → Result (Option Bool) ValueError → Type 0
-IsBoolean key keeps state result = IsTyped boolean_or_refusal (λ b. b) (implicit_at key keeps state) result
+IsBoolean key keeps state result = IsEntryBoolean (implicit_at key keeps state) result
 
 -- the result is the last value of the key as an integer, if there is one
 abbrev pub IsInteger : Key → (keeps : Meta → Bool) → State → Result (Option ℤ) ValueError → Type 0

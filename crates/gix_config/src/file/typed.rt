@@ -12,7 +12,8 @@ ghost use Rattle.gitconf_values.specs.Integers.{integer_or_refusal};
 ghost use Rattle.gitconf_lookups.specs.Lookups.{IsFound, if_any, key_at, texts_of};
 ghost use Rattle.gitconf_lookups.specs.SomeSections.{Filtered};
 ghost use Rattle.gix_config.specs.Keys.{OfKey};
-ghost use Rattle.gix_config.specs.Typed.{AreIntegers, IsBoolean, IsInteger, IsPath, IsTyped, boolean_or_refusal, integers_or_refusal};
+ghost use Rattle.gitconf_body.specs.Bodies.{IsFoundImplicit};
+ghost use Rattle.gix_config.specs.Typed.{AreIntegers, IsBoolean, IsEntryBoolean, IsInteger, IsPath, IsTyped, boolean_or_refusal, integers_or_refusal};
 
 use crate::file::{File, Metadata};
 use crate::values::{Boolean, Path};
@@ -46,7 +47,7 @@ fn boolean_of(value: Option<BString>) -> Result<bool, value::Error>
 fn found_boolean(
     found: Result<Option<Option<BString>>, NoMemory>,
 ) -> Result<Option<bool>, value::Error>
-    ensures { (value : Option (Option (List ℕ))) → IsFound (option_map bstring_bytes) found value → IsTyped boolean_or_refusal (λ b. b) value result }
+    ensures { (value : Option (Option (List ℕ))) → IsFoundImplicit found value → IsEntryBoolean value result }
 {
     match found? {
         Some(value) => Ok(Some(boolean_of(value)?)),
