@@ -89,6 +89,7 @@ puts_within (edits.DeleteAt number place) state = omega arith
 puts_within (edits.Rename number name subsection) state = header_tokens name subsection
 puts_within (edits.RenameAll name subsection keeps new_name new_subsection) state = go (list_any (is_target name subsection keeps) state.sections) refl
   where
+    all : ℕ
     all = new_bytes (edits.RenameAll name subsection keeps new_name new_subsection) state
 
     go : (b : Bool) → list_any (is_target name subsection keeps) state.sections ≡ b → put_bytes (edits.RenameAll name subsection keeps new_name new_subsection) state ≤ all

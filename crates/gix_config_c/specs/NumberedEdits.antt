@@ -1,22 +1,18 @@
 -- What edits of sections by their places answer.
-use Rattle.std.specs.Prelude.{◌≡◌, ◌↔◌, ℕ, Bool, true, false, List, if◌then◌else◌, slice_get, Option, Some, None, Result, Ok, Err, IfOk, IsErrOf, OnErr, OnOk}
+use Rattle.std.specs.Prelude.{◌≡◌, ℕ, Bool, true, false, List, if◌then◌else◌, slice_get, Option, Some, None, Result, Ok, Err, IfOk}
 use Rattle.std.specs.Option.{option_map}
 use Rattle.bstr.specs.Owned.{bstring_bytes}
 use Rattle.bstr.specs.declared.bstring.BString.{BString}
 use Rattle.gitconf_body.specs.ValueErrors.{value_number}
 use Rattle.gitconf_body.specs.declared.value.Error.{Error}
 use Rattle.gitconf_sources.specs.declared.source.Trust.{Trust}
-use Rattle.gitconf_state.specs.Edit.{with_used}
 use Rattle.gitconf_state.specs.Editors.{Editor, editor_of}
 use Rattle.gitconf_state.specs.Edits.{Entry, Pop, Push, Raw, RemoveNumbered, Rename, SetTrust, SetValue, answer, apply}
 use Rattle.gitconf_state.specs.State.{SectionState, State}
-use Rattle.gitconf_store.specs.Renamings.{HeaderGrows}
-use Rattle.gitconf_text.specs.HeaderErrors.{header_number}
-use Rattle.gitconf_text.specs.Names.{is_made_name, is_valid_or_none}
 use Rattle.gitconf_text.specs.SectionKeys.{SectionKey, as_utf8}
 use Rattle.gitconf_text.specs.declared.parse.section.header.Error.{Error as HeaderError}
-use Rattle.gitconf_text.specs.declared.parse.section.header.Error.TheVariants.{InvalidName, InvalidSubSection}
-use Rattle.gix_config.specs.Edited.{IsEdited}
+use Rattle.gitconf_body.specs.Refusals.{header_refusal, value_refusal}
+use Rattle.gitconf_store.specs.Edited.{IsEdited}
 use Rattle.gix_config_c.specs.Answers.{OfSection}
 use Rattle.gix_config_c.specs.Blocks.{Holds}
 use Rattle.gix_config_c.specs.Entries.{IsEntryRemoved, answered}
@@ -46,7 +42,7 @@ line_comment line = if line.has_comment then Some line.comment.now else None
 
 -- the line was pushed to the section of a number, by an editor that writes this, or refused
 pub record IsLinePushed (section : ℕ) (editor : Editor) (name : List ℕ) (line : Line) (old new : State) (number : ℕ) : Type 0 where
-  pub pushed : (r : Result (Unit {0}) Error) × IsEdited (Push section editor name (line_value line) (line_comment line)) value_number r old new × (number ≡ answered r)
+  pub pushed : (r : Result (Unit {0}) Error) × IsEdited value_refusal (Push section editor name (line_value line) (line_comment line)) r old new × (number ≡ answered r)
 
 -- the same for a section, with the blanks that it uses, if the name is text; memory may run out before
 pub record IsPushedTo (s : SectionState) (line : Line) (old new : State) (number : ℕ) : Type 0 where
@@ -64,7 +60,7 @@ TellsOld (Err refusal) number had block = number ≡ value_number refusal
 
 -- the last entry of the name in the section of a number was given the value, or refused; there is room for what is handed out
 pub record IsValueSet (section : ℕ) (editor : Editor) (name value : List ℕ) (old new : State) (number : ℕ) (had : Bool) (block : Block) : Type 0 where
-  pub set : (number ≡ 27 → ⊥) → (r : Result (Option BString) Error) × IsEdited (SetValue section editor name value) value_number r old new
+  pub set : (number ≡ 27 → ⊥) → (r : Result (Option BString) Error) × IsEdited value_refusal (SetValue section editor name value) r old new
       × IfOk r (λ was. ◌≡◌ (Raw (option_map bstring_bytes was)) (answer (SetValue section editor name value) old)) × TellsOld r number had block
 
 -- the same for a section, with the blanks that it uses, if the name is text
@@ -95,18 +91,10 @@ pub record IsPopped (section : ℕ) (old new : State) (number : ℕ) (name value
 pub record IsPoppedAt (place : ℕ) (old new : State) (number : ℕ) (name value : Block) : Type 0 where
   pub told : AtPlace place old number (λ s. IsPopped s.number old new number name value)
 
--- the section of a number was given the name and the subsection, or refused
-pub record IsNamedAs (section : ℕ) (name : List ℕ) (subsection : Option (List ℕ)) (r : Result (Unit {0}) HeaderError) (old new : State) : Type 0 where
-  pub done : OnOk r (new ≡ with_used new.used (apply (Rename section name subsection) old))
-  pub kept : OnErr r (new ≡ old)
-  pub invalid_name : IsErrOf r InvalidName ↔ (is_made_name name ≡ false)
-  pub invalid_subsection : IsErrOf r InvalidSubSection ↔ ((is_made_name name ≡ true) × (is_valid_or_none subsection ≡ false))
-  pub used : HeaderGrows name subsection r old.used new.used
-
--- the same with its number, if the name is text; memory may run out before
+-- a section was given the name and the subsection, or refused, if the name is text; memory may run out before
 pub record IsRenamedAs (s : SectionState) (names : Option SectionKey) (old new : State) (number : ℕ) : Type 0 where
   pub told : OfSection names number (λ key. (number ≡ 27 → ⊥)
-      → (r : Result (Unit {0}) HeaderError) × IsNamedAs s.number key.section key.subsection r old new × (number ≡ new_number r))
+      → (r : Result (Unit {0}) HeaderError) × IsEdited header_refusal (Rename s.number key.section key.subsection) r old new × (number ≡ new_number r))
 
 -- the same for the section at a place
 pub record IsRenamedAt (place : ℕ) (names : Option SectionKey) (old new : State) (number : ℕ) : Type 0 where

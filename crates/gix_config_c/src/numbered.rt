@@ -1,7 +1,9 @@
 //! Sections of a file by their places in the list of gix_config_sections, edited.
 ghost use Rattle.std.specs.Prelude.{◌≡◌, ℕ, slice_get, false, None, Some, Result, option_map};
 ghost use Rattle.bstr.specs.Owned.{bstring_bytes};
-ghost use Rattle.gitconf_state.specs.Edits.{SetTrust, apply, numbered};
+ghost use Rattle.gitconf_body.specs.Refusals.{header_refusal};
+ghost use Rattle.gitconf_state.specs.Edits.{Rename, SetTrust, apply, numbered};
+ghost use Rattle.gitconf_store.specs.Edited.{IsEdited};
 ghost use Rattle.gitconf_state.specs.State.{SectionState, State};
 ghost use Rattle.gitconf_text.specs.declared.parse.section.header.Error.{Error as HeaderError};
 ghost use Rattle.gix_config.specs.SectionEditors.{edited, editor, lent, number_of};
@@ -9,7 +11,7 @@ ghost use Rattle.gix_config_c.specs.Answers.{OfFile};
 ghost use Rattle.gix_config_c.specs.Blocks.{IsKept};
 ghost use Rattle.gix_config_c.specs.Edited.{IsEditedFile};
 ghost use Rattle.gix_config_c.specs.Keys.{section_names_of};
-ghost use Rattle.gix_config_c.specs.NumberedEdits.{IsGone, IsGoneAt, IsLinePushed, IsNamedAs, IsPopped, IsPoppedAt, IsPushedAt, IsPushedTo, IsRemovedAt, IsRemovedFrom, IsRenamedAs, IsRenamedAt, IsSetAt, IsSetIn, IsTrusted, IsTrustedAt, IsValueSet};
+ghost use Rattle.gix_config_c.specs.NumberedEdits.{IsGone, IsGoneAt, IsLinePushed, IsPopped, IsPoppedAt, IsPushedAt, IsPushedTo, IsRemovedAt, IsRemovedFrom, IsRenamedAs, IsRenamedAt, IsSetAt, IsSetIn, IsTrusted, IsTrustedAt, IsValueSet};
 ghost use Rattle.gix_config_c.specs.Sections.{new_number};
 ghost use Rattle.gix_config_c.specs.declared.object.Object.TheVariants as object;
 
@@ -430,7 +432,8 @@ fn rename_section(section: &mut SectionMut<'_>, name: &str, subsection: Option<B
     ensures same_file { lent section.new ≡ lent section.old }
     ensures edited { IsEditedFile result (edited section.old) (edited section.new) }
     ensures answer { (r : Result (Unit {0}) HeaderError)
-        × IsNamedAs (number_of section.old) name.now (option_map bstring_bytes subsection) r (edited section.old) (edited section.new) × (result ≡ new_number r) }
+        × IsEdited header_refusal (Rename (number_of section.old) name.now (option_map bstring_bytes subsection)) r (edited section.old) (edited section.new)
+        × (result ≡ new_number r) }
 {
     match section.rename(name, subsection) {
         Ok(()) => DONE,
