@@ -21,7 +21,7 @@ impl Side {
     ghost use Rattle.gitconf_diff.specs.declared.setting.Side.TheVariants.{Other};
 
     /// Whether it is the second.
-    pub fn is_other(self) -> bool
+    pub(crate) fn is_other(self) -> bool
         ensures { result ≡ same_side Other self }
     {
         matches!(self, Side::Other)
