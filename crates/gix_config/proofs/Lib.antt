@@ -9,3 +9,4 @@ pub mod ValueEditors
 pub mod MultiValueEditors
 pub mod Standing
 pub mod NewEditors
+pub mod Headline

@@ -12,3 +12,4 @@ pub mod MultiValueEditors
 pub mod AloneEditors
 pub mod Environment
 pub mod Repository
+pub mod Headline

@@ -1,19 +1,36 @@
 //! What holds of editors and of loaded files, for all of them: each law is a function that does nothing.
-ghost use Rattle.std.specs.Prelude.{◌≡◌, ◌≤◌, ℕ, Bool, true, List, [], Ok, Option, Some};
+ghost use Rattle.std.specs.List.{AllByRecursion};
+ghost use Rattle.std.specs.Prelude.{◌≡◌, ◌≤◌, ℕ, Bool, true, List, [], map, Result, Ok, Option, Some};
 ghost use Rattle.gitconf_sources.specs.Metadata.{Meta};
 ghost use Rattle.gitconf_sources.specs.Reports.{FileReport, VariableReport};
 ghost use Rattle.gitconf_sources.specs.declared.host.Places.{Places};
 ghost use Rattle.gitconf_state.specs.Clean.{IsClean};
+ghost use Rattle.gitconf_state.specs.Equality.{AreEqual};
+ghost use Rattle.gitconf_state.specs.Made.{IsMade};
+ghost use Rattle.gitconf_state.specs.Printing.{printed};
+ghost use Rattle.gitconf_text.specs.Document.{IsText, Reads, unmarked};
+ghost use Rattle.gitconf_text.specs.Part.{Part};
+ghost use Rattle.gitconf_text.specs.Token.{spelled_token, tokens_of};
 ghost use Rattle.gitconf_state.specs.Edit.{new_section};
-ghost use Rattle.gitconf_state.specs.Edits.{Edit, has_blank_leading, new_bytes, numbered, IsEditor};
+ghost use Rattle.gitconf_state.specs.Edits.{AreCleanEdits, Edit, has_blank_leading, new_bytes, numbered, IsEditor};
 ghost use Rattle.gitconf_state.specs.Editors.{Editor, editor_of};
-ghost use Rattle.gitconf_state.specs.State.{entries_of, HasItems, SectionState, State};
+ghost use Rattle.gitconf_state.specs.State.{document_of, entries_of, HasItems, SectionState, State};
 ghost use Rattle.gitconf_includes.specs.Expansion.{Asks};
 ghost use Rattle.gitconf_includes.specs.Laws.{AreHeaded};
 ghost use Rattle.gitconf_lookups.specs.Picks.{picked};
 ghost use Rattle.gitconf_lookups.specs.ValuePlaces.{editor_of_numbered};
+ghost use Rattle.gix_config.specs.Headline.{AreAlike, Ending, Ends, IsCall, Runs};
+ghost use Rattle.bstr.specs.declared.bstring.BString.{BString};
+ghost use Rattle.gitconf_body.specs.Refusals.{header_refusal, span_refusal, value_refusal};
+ghost use Rattle.gitconf_body.specs.declared.value.Error.{Error as ValueError};
+ghost use Rattle.gitconf_store.specs.RenameErrors.{rename_refusal};
+ghost use Rattle.gitconf_store.specs.SetErrors.{set_refusal};
+ghost use Rattle.gitconf_store.specs.declared.rename_section.Error.{Error as RenameError};
+ghost use Rattle.gitconf_store.specs.declared.set_raw_value.Error.{Error as SetError};
+ghost use Rattle.gitconf_text.specs.declared.parse.section.header.Error.{Error as HeaderError};
+ghost use Rattle.gitconf_state.specs.Inserted.{Inserted, IsByteForByte};
 ghost use Rattle.gix_config.specs.Environment.{AreNamed, IsFromEnv, IsOverrides};
-ghost use Rattle.gitconf_store.specs.Edited.{put_bytes};
+ghost use Rattle.gitconf_store.specs.Edited.{put_bytes, IsEdited};
 ghost use Rattle.gix_config.specs.Repository.{IsRepository};
 ghost use Rattle.gix_config.specs.SectionEditors.{with_leading};
 
@@ -66,4 +83,42 @@ pub fn repositories_are_clean()
     ensures { (variables : List ℕ → VariableReport) (places : Places) (files : List ℕ → FileReport) (dir : List ℕ) (real : Option (List ℕ))
         (file : State) → AreNamed variables → AreHeaded files
         → IsRepository (Some variables) places (Some files) dir real (Ok file) → IsClean file × (entries_of file.front ≡ []) }
+{}
+
+/// What the contract of a call that edits a file says is what [`headline`] asks of a call, for each kind of result: it ends with its answer, or
+/// refused for the cause that its refusal tells.
+pub fn calls_end_as_their_contracts_say()
+    ensures pushes { (edit : Edit) (result : Result (Unit {0}) ValueError) (old new : State) → IsEdited value_refusal edit result old new
+        → (ending : Ending) × Ends edit old ending new × AreAlike value_refusal ending result }
+    ensures values { (edit : Edit) (result : Result (Option BString) ValueError) (old new : State) → IsEdited value_refusal edit result old new
+        → (ending : Ending) × Ends edit old ending new × AreAlike value_refusal ending result }
+    ensures line_ends { (edit : Edit) (result : Result (Unit {0}) ℕ) (old new : State) → IsEdited span_refusal edit result old new
+        → (ending : Ending) × Ends edit old ending new × AreAlike span_refusal ending result }
+    ensures headers { (edit : Edit) (result : Result (Unit {0}) HeaderError) (old new : State) → IsEdited header_refusal edit result old new
+        → (ending : Ending) × Ends edit old ending new × AreAlike header_refusal ending result }
+    ensures raw_values { (edit : Edit) (result : Result (Option BString) SetError) (old new : State) → IsEdited set_refusal edit result old new
+        → (ending : Ending) × Ends edit old ending new × AreAlike set_refusal ending result }
+    ensures renamings { (edit : Edit) (result : Result (Unit {0}) RenameError) (old new : State) → IsEdited rename_refusal edit result old new
+        → (ending : Ending) × Ends edit old ending new × AreAlike rename_refusal ending result }
+{}
+
+/// After every list of calls that edit a file, done or refused, each as its contract says, what is written of the file reads back.
+///
+/// The file was loaded whole, or has items such as a text may have and is clean. Three things are asked of the calls: what they are handed is
+/// what the library makes ([`new_editors_are_editors`]); no header has an empty name and no subsection; and blanks before names that were set
+/// are spaces and tabs, and an appended file has no entry before its first section. Then the file after them is such a one again, the text
+/// that is written of it has exactly its document, and a file that is loaded from this text has the same document and is equal to it.
+pub fn headline()
+    ensures kept { (calls : List Edit) (endings : List Ending) (old new : State) → AllByRecursion IsCall calls → AreCleanEdits calls
+        → HasItems old → IsClean old → Runs calls old endings new → HasItems new × IsClean new }
+    ensures reads { (calls : List Edit) (endings : List Ending) (old new : State) → AllByRecursion IsCall calls → AreCleanEdits calls
+        → HasItems old → IsClean old → Runs calls old endings new → Reads (printed new) (document_of new) }
+    ensures loaded { (text : List ℕ) (parts : List Part) (place : Meta) (bytes : ℕ) (calls : List Edit) (endings : List Ending) (old new : State)
+        → IsText text parts → IsMade (tokens_of parts) place bytes old → AllByRecursion IsCall calls → AreCleanEdits calls
+        → Runs calls old endings new → Reads (printed new) (document_of new) }
+    ensures unedited { (text : List ℕ) (parts : List Part) (place : Meta) (bytes : ℕ) (file : State) → IsText text parts
+        → IsMade (tokens_of parts) place bytes file
+        → Inserted (map spelled_token (tokens_of parts)) (printed file) × (IsByteForByte parts → printed file ≡ unmarked text) }
+    ensures again { (parts : List Part) (place : Meta) (bytes : ℕ) (new again : State) → Reads (printed new) (document_of new)
+        → IsText (printed new) parts → IsMade (tokens_of parts) place bytes again → (document_of again ≡ document_of new) × AreEqual again new }
 {}

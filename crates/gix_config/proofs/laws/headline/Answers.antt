@@ -1,0 +1,30 @@
+use Rattle.std.proofs.Common.{map, subst}
+use Rattle.gitconf_text.specs.Token.{spelled_token}
+use Rattle.gitconf_state.specs.Inserted.{Inserted}
+use Rattle.gitconf_state.specs.Printing.{printed}
+use Rattle.gitconf_state.proofs.Loading.Clean.{full_has_items, full_is_clean}
+use Rattle.gitconf_state.proofs.Exact.Printing.{byte_for_byte}
+use Rattle.gitconf_state.proofs.Printing.InsertingLineEnds.{printed_inserted}
+use Rattle.gix_config.proofs.Headline.{loads_equal, made_is_load, runs_keep, runs_read}
+use Rattle.gix_config.proofs.laws.headline.Goals as goal
+
+pub returns-clause-kept : goal.returns-clause-kept
+returns-clause-kept c = runs_keep
+
+pub returns-clause-reads : goal.returns-clause-reads
+returns-clause-reads c = runs_read
+
+pub returns-clause-loaded : goal.returns-clause-loaded
+returns-clause-loaded c = λ text parts place bytes calls endings old new is made are clean runs.
+    let load = made_is_load parts place bytes old made in
+    runs_read calls endings old new are clean (full_has_items parts old is.fits load) (full_is_clean parts old is.fits load) runs
+
+pub returns-clause-again : goal.returns-clause-again
+returns-clause-again c = λ parts place bytes new again. loads_equal new again parts place bytes
+
+pub returns-clause-unedited : goal.returns-clause-unedited
+returns-clause-unedited c = λ text parts place bytes file is made.
+    let load = made_is_load parts place bytes file made in (
+      subst (λ tokens. Inserted (map spelled_token tokens) (printed file)) load.tokens (printed_inserted file load.held),
+      byte_for_byte text parts file is load,
+    )
