@@ -9,4 +9,5 @@ pub mod ValueEditors
 pub mod MultiValueEditors
 pub mod Standing
 pub mod NewEditors
+pub mod SameLookups
 pub mod Headline

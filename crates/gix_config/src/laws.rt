@@ -17,7 +17,9 @@ ghost use Rattle.gitconf_state.specs.Editors.{Editor, editor_of};
 ghost use Rattle.gitconf_state.specs.State.{document_of, entries_of, HasItems, SectionState, State};
 ghost use Rattle.gitconf_includes.specs.Expansion.{Asks};
 ghost use Rattle.gitconf_includes.specs.Laws.{AreHeaded};
+ghost use Rattle.gitconf_lookups.specs.Lookups.{implicit_at, value_at, values_at};
 ghost use Rattle.gitconf_lookups.specs.Picks.{picked};
+ghost use Rattle.gitconf_sources.specs.Key.{Key};
 ghost use Rattle.gitconf_lookups.specs.ValuePlaces.{editor_of_numbered};
 ghost use Rattle.gix_config.specs.Headline.{AreAlike, Ending, Ends, IsCall, Runs};
 ghost use Rattle.bstr.specs.declared.bstring.BString.{BString};
@@ -121,4 +123,6 @@ pub fn headline()
         → Inserted (map spelled_token (tokens_of parts)) (printed file) × (IsByteForByte parts → printed file ≡ unmarked text) }
     ensures again { (parts : List Part) (place : Meta) (bytes : ℕ) (new again : State) → Reads (printed new) (document_of new)
         → IsText (printed new) parts → IsMade (tokens_of parts) place bytes again → (document_of again ≡ document_of new) × AreEqual again new }
+    ensures lookups { (one other : State) (key : Key) → document_of one ≡ document_of other → (value_at key (λ _. true) one ≡ value_at key (λ _. true) other)
+        × (values_at key (λ _. true) one ≡ values_at key (λ _. true) other) × (implicit_at key (λ _. true) one ≡ implicit_at key (λ _. true) other) }
 {}

@@ -1,4 +1,5 @@
-use Rattle.std.proofs.Common.{map, subst}
+use Rattle.std.proofs.Common.{ap, map, subst}
+use Rattle.gitconf_text.specs.Document.{Document}
 use Rattle.gitconf_text.specs.Token.{spelled_token}
 use Rattle.gitconf_state.specs.Inserted.{Inserted}
 use Rattle.gitconf_state.specs.Printing.{printed}
@@ -6,6 +7,7 @@ use Rattle.gitconf_state.proofs.Loading.Clean.{full_has_items, full_is_clean}
 use Rattle.gitconf_state.proofs.Exact.Printing.{byte_for_byte}
 use Rattle.gitconf_state.proofs.Printing.InsertingLineEnds.{printed_inserted}
 use Rattle.gix_config.proofs.Headline.{loads_equal, made_is_load, runs_keep, runs_read}
+use Rattle.gix_config.proofs.SameLookups.{same_implicit, same_value, same_values}
 use Rattle.gix_config.proofs.laws.headline.Goals as goal
 
 pub returns-clause-kept : goal.returns-clause-kept
@@ -28,3 +30,7 @@ returns-clause-unedited c = λ text parts place bytes file is made.
       subst (λ tokens. Inserted (map spelled_token tokens) (printed file)) load.tokens (printed_inserted file load.held),
       byte_for_byte text parts file is load,
     )
+
+pub returns-clause-lookups : goal.returns-clause-lookups
+returns-clause-lookups c = λ one other key same.
+    let sections = ap (λ (d : Document). d.sections) same in (same_value one other sections key, same_values one other sections key, same_implicit one other sections key)
