@@ -11,7 +11,6 @@ use Rattle.gitconf_state.specs.Editors.{Editor, editor_of}
 use Rattle.gitconf_state.specs.Edits.{Entry, Pop, Push, Raw, RemoveNumbered, Rename, SetTrust, SetValue, answer, apply}
 use Rattle.gitconf_state.specs.State.{SectionState, State}
 use Rattle.gitconf_store.specs.Renamings.{HeaderGrows}
-use Rattle.gitconf_text.specs.HeaderErrors.{header_number}
 use Rattle.gitconf_text.specs.Names.{is_made_name, is_valid_or_none}
 use Rattle.gitconf_text.specs.SectionKeys.{SectionKey, as_utf8}
 use Rattle.gitconf_text.specs.declared.parse.section.header.Error.{Error as HeaderError}
