@@ -1,6 +1,5 @@
 -- What loads by what was told answer.
-use Rattle.std.specs.Prelude.{◌≡◌, ◌⊎◌, if◌then◌else◌, ℕ, Bool, true, false, List, [], ◌∷◌, Option, Some, None, Result, Ok, Err, string_bytes}
-use Rattle.gitconf_includes.specs.Errors.{includes_number}
+use Rattle.std.specs.Prelude.{◌≡◌, if◌then◌else◌, ℕ, true, false, List, [], ◌∷◌, Option, Some, None, Result, Ok, Err, string_bytes}
 use Rattle.gitconf_includes.specs.Expansion.{Asks}
 use Rattle.gitconf_includes.specs.Rules.{Rules}
 use Rattle.gitconf_includes.specs.declared.includes.Error.{Error as IncludesError}

@@ -1,5 +1,5 @@
 -- What a program told of files.
-use Rattle.std.specs.Prelude.{ℕ, Bool, true, false, List, Option, is_some}
+use Rattle.std.specs.Prelude.{ℕ, Bool, false, List, is_some}
 use Rattle.std.specs.Map.{lookup}
 use Rattle.std.specs.Str.{bytes_eq}
 use Rattle.std.specs.declared.alloc.Global.{Global}
