@@ -9,11 +9,6 @@ use Rattle.gitconf_sources.specs.declared.source.Trust.{Trust}
 use Rattle.gitconf_state.specs.Editors.{Editor, editor_of}
 use Rattle.gitconf_state.specs.Edits.{Entry, Pop, Push, Raw, RemoveNumbered, Rename, SetTrust, SetValue, answer, apply}
 use Rattle.gitconf_state.specs.State.{SectionState, State}
-<<<<<<< HEAD
-=======
-use Rattle.gitconf_store.specs.Renamings.{HeaderGrows}
-use Rattle.gitconf_text.specs.Names.{is_made_name, is_valid_or_none}
->>>>>>> h57/main
 use Rattle.gitconf_text.specs.SectionKeys.{SectionKey, as_utf8}
 use Rattle.gitconf_text.specs.declared.parse.section.header.Error.{Error as HeaderError}
 use Rattle.gitconf_body.specs.Refusals.{header_refusal, value_refusal}
