@@ -54,8 +54,11 @@ abbrev pub causes : Edit → State → List (Bool × Cause)
 causes (SetRawValue name subsection key keeps value) state =
     (not (is_value_name key), InvalidKey)
     ∷ (header_causes (has_no_target name subsection keeps state) name subsection
-    ++ ((is_full state.used (put_bytes (SetRawValue name subsection key keeps value) state)
-    || (has_no_target name subsection keeps state && (state.next == no_number)), TooLarge) ∷ []))
+    ++ ((
+      is_full state.used (put_bytes (SetRawValue name subsection key keeps value) state)
+          || (has_no_target name subsection keeps state && (state.next == no_number)),
+      TooLarge,
+    ) ∷ []))
 causes (Push number editor key value comment) state = key_causes key state.used (put_bytes (Push number editor key value comment) state)
 causes (PushAfterLast number editor key value) state = key_causes key state.used (put_bytes (PushAfterLast number editor key value) state)
 causes (PushLineEnd number editor) state = room_causes state.used (length editor.line_end)

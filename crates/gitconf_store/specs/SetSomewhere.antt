@@ -18,12 +18,12 @@ use Rattle.gitconf_store.specs.SetErrors.{set_refusal}
 abbrev pub IsSetChosen : (chosen : Option ℕ) → (name : List ℕ) → (subsection : Option (List ℕ)) → (key value : List ℕ) → Result (Option BString) Error → (old new : State) → Type 0
 IsSetChosen None name subsection key value result old new =
     IsDone ((not (is_value_name key), InvalidKey) ∷ made_causes name subsection (new_section_bytes (file_line_end old) name subsection key value) old) set_refusal result
-        (with_used (old.used + new_section_bytes (file_line_end old) name subsection key value) (set_new name subsection key value old)) old new
+    (with_used (old.used + new_section_bytes (file_line_end old) name subsection key value) (set_new name subsection key value old)) old new
     × IfOk result (λ o. o ≡ None)
 IsSetChosen (Some at) name subsection key value result old new =
     (s : SectionState) × (slice_get old.sections at ≡ Some s) × (is_named name subsection (listing s) ≡ true)
     × IsDone (key_causes key old.used (set_bytes (file_line_end old) key value s.items)) set_refusal result
-        (with_used (old.used + set_bytes (file_line_end old) key value s.items) (set_at at key value old)) old new
+    (with_used (old.used + set_bytes (file_line_end old) key value s.items) (set_at at key value old)) old new
     × IfOk result (λ o. option_map bstring_bytes o ≡ old_value key s.items)
 
 -- the same in some section that has the names, or in one that is made

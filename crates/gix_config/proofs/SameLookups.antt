@@ -36,10 +36,10 @@ said_is name subsection key (l ∷ ls) = go (is_named name subsection l) refl (s
         → map (λ (s : Said). s.entries) (said name subsection key ls) ≡ flat_map (one_said name subsection key) (map (λ (l : Listed). l.document) ls)
         → map (λ (s : Said). s.entries) (said name subsection key (l ∷ ls)) ≡ flat_map (one_said name subsection key) (map (λ (l : Listed). l.document) (l ∷ ls))
     go true is rest = rw is (
-      map-append (λ (s : Said). s.entries) (said_by key l) (said name subsection key ls)
-      ∙ ap (λ xs. xs ++ map (λ (s : Said). s.entries) (said name subsection key ls)) (grouped l.number l.meta (filter (λ e. is_same_name key e.name) l.document.entries))
-      ∙ ap (λ ys. group (filter (λ e. is_same_name key e.name) l.document.entries) ++ ys) rest
-    )
+        map-append (λ (s : Said). s.entries) (said_by key l) (said name subsection key ls)
+        ∙ ap (λ xs. xs ++ map (λ (s : Said). s.entries) (said name subsection key ls)) (grouped l.number l.meta (filter (λ e. is_same_name key e.name) l.document.entries))
+        ∙ ap (λ ys. group (filter (λ e. is_same_name key e.name) l.document.entries) ++ ys) rest
+        )
     go false is rest = rw is rest
 
 -- no filter

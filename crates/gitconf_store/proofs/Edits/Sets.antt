@@ -228,35 +228,53 @@ answer_at name subsection key keeps value old at o bytes l was same =
 -- Whatever a filter answers, where no section was chosen: a name that is none, a section that can't be made, and one that is made.
 pub unnamed_somewhere : (name : List ℕ) (subsection : Option (List ℕ)) (key value : List ℕ) (old : State) (e : Error) → is_value_name key ≡ false → e ≡ ValueName 6
     → IsSetSomewhere name subsection key value (Err e) old old
-unnamed_somewhere name subsection key value old e none six = (None, (record {
-    ok = tt;
-    err = refl;
-    told = subst (λ k. IsRefusedFor {T = Option BString} set_refusal (first_cause ((not k, InvalidKey) ∷ made_causes name subsection (new_section_bytes (file_line_end old) name subsection key value) old)) (Err e))
-        (sym none) (ap Err six);
-  }, tt))
+unnamed_somewhere name subsection key value old e none six = (
+  None,
+  (
+    record {
+      ok = tt;
+      err = refl;
+      told = subst (λ k. IsRefusedFor {T = Option BString} set_refusal (first_cause ((not k, InvalidKey) ∷ made_causes name subsection (new_section_bytes (file_line_end old) name subsection key value) old)) (Err e))
+          (sym none) (ap Err six);
+    },
+    tt,
+  ),
+)
 
 pub unmade_somewhere : (name : List ℕ) (subsection : Option (List ℕ)) (key value : List ℕ) (old new : State) (e : HeaderError) → is_value_name key ≡ true → new ≡ old
     → IsRefusedFor {T = Unit {0}} header_refusal (first_cause (made_causes name subsection (new_section_bytes (file_line_end old) name subsection key value) old)) (Err e)
     → IsSetSomewhere name subsection key value (Err (of_header e)) old new
-unmade_somewhere name subsection key value old new e keyed same told = (None, (record {
-    ok = tt;
-    err = same;
-    told = subst (λ k. IsRefusedFor {T = Option BString} set_refusal (first_cause ((not k, InvalidKey) ∷ made_causes name subsection (new_section_bytes (file_line_end old) name subsection key value) old)) (Err (of_header e)))
-        (sym keyed)
-        (made_refusal (Unit {0}) (Option BString) (is_made_name name) (is_valid_or_none subsection) (is_full old.used (new_section_bytes (file_line_end old) name subsection key value)) (old.next == no_number) e _ refl told);
-  }, tt))
+unmade_somewhere name subsection key value old new e keyed same told = (
+  None,
+  (
+    record {
+      ok = tt;
+      err = same;
+      told = subst (λ k. IsRefusedFor {T = Option BString} set_refusal (first_cause ((not k, InvalidKey) ∷ made_causes name subsection (new_section_bytes (file_line_end old) name subsection key value) old)) (Err (of_header e)))
+          (sym keyed)
+          (made_refusal (Unit {0}) (Option BString) (is_made_name name) (is_valid_or_none subsection) (is_full old.used (new_section_bytes (file_line_end old) name subsection key value)) (old.next == no_number) e _ refl told);
+    },
+    tt,
+  ),
+)
 
 pub made_somewhere : (name : List ℕ) (subsection : Option (List ℕ)) (key value : List ℕ) (old new : State) → is_value_name key ≡ true → new ≡ with_used new.used (set_new name subsection key value old)
     → new.used ≡ old.used + new_section_bytes (file_line_end old) name subsection key value
     → IsRefusedFor header_refusal (first_cause (made_causes name subsection (new_section_bytes (file_line_end old) name subsection key value) old)) (Ok (tt {0}))
     → IsSetSomewhere name subsection key value (Ok None) old new
-made_somewhere name subsection key value old new keyed made put told = (None, (record {
-    ok = made ∙ ap (λ n. with_used n (set_new name subsection key value old)) put;
-    err = tt;
-    told = subst (λ k. IsRefusedFor {T = Option BString} set_refusal (first_cause ((not k, InvalidKey) ∷ made_causes name subsection (new_section_bytes (file_line_end old) name subsection key value) old)) (Ok None))
-        (sym keyed)
-        (made_none (is_made_name name) (is_valid_or_none subsection) (is_full old.used (new_section_bytes (file_line_end old) name subsection key value)) (old.next == no_number) (tt {0}) None _ refl told);
-  }, refl))
+made_somewhere name subsection key value old new keyed made put told = (
+  None,
+  (
+    record {
+      ok = made ∙ ap (λ n. with_used n (set_new name subsection key value old)) put;
+      err = tt;
+      told = subst (λ k. IsRefusedFor {T = Option BString} set_refusal (first_cause ((not k, InvalidKey) ∷ made_causes name subsection (new_section_bytes (file_line_end old) name subsection key value) old)) (Ok None))
+          (sym keyed)
+          (made_none (is_made_name name) (is_valid_or_none subsection) (is_full old.used (new_section_bytes (file_line_end old) name subsection key value)) (old.next == no_number) (tt {0}) None _ refl told);
+    },
+    refl,
+  ),
+)
 
 -- where one was chosen
 chosen : (test : SectionState → Bool) (o : Option SectionState) → option_map test o ≡ Some true → (s : SectionState) × (o ≡ Some s) × (test s ≡ true)
@@ -271,11 +289,20 @@ pub found_somewhere : {T : Type 0} (name : List ℕ) (subsection : Option (List 
 found_somewhere {T} name subsection key value old new at t o bytes keyed has set was same used =
     let s = chosen (λ s. is_named name subsection (listing s)) (slice_get old.sections at) has in
     let grows = subst (λ o. IfSome o (λ s. UsedGrows {T = T} (Ok t) (set_bytes (file_line_end old) key value s.items) old.used new.used)) s.1 used in
-    let value_was = subst (λ o. IfSome o (λ s. bytes ≡ old_value key s.items)) s.1 was in (Some at, (s.0, s.1, s.2, record {
-        ok = set ∙ ap (λ n. with_used n (set_at at key value old)) grows.put;
-        err = tt;
-        told = key_ok set_refusal t o key old.used new.used (set_bytes (file_line_end old) key value s.0.items) keyed grows;
-      }, same ∙ value_was))
+    let value_was = subst (λ o. IfSome o (λ s. bytes ≡ old_value key s.items)) s.1 was in (
+      Some at,
+      (
+        s.0,
+        s.1,
+        s.2,
+        record {
+          ok = set ∙ ap (λ n. with_used n (set_at at key value old)) grows.put;
+          err = tt;
+          told = key_ok set_refusal t o key old.used new.used (set_bytes (file_line_end old) key value s.0.items) keyed grows;
+        },
+        same ∙ value_was,
+      ),
+    )
 
 pub unset_somewhere : (T : Type 0) (name : List ℕ) (subsection : Option (List ℕ)) (key value : List ℕ) (old new : State) (at : ℕ) (e : ℕ) → is_value_name key ≡ true
     → option_map (λ s. is_named name subsection (listing s)) (slice_get old.sections at) ≡ Some true → new ≡ old
@@ -283,8 +310,17 @@ pub unset_somewhere : (T : Type 0) (name : List ℕ) (subsection : Option (List 
     → IsSetSomewhere name subsection key value (Err (of_span e)) old new
 unset_somewhere T name subsection key value old new at e keyed has same used =
     let s = chosen (λ s. is_named name subsection (listing s)) (slice_get old.sections at) has in
-    let grows = subst (λ o. IfSome o (λ s. UsedGrows {T = T} (Err e) (set_bytes (file_line_end old) key value s.items) old.used new.used)) s.1 used in (Some at, (s.0, s.1, s.2, record {
-        ok = tt;
-        err = same;
-        told = key_err {T = T} (Option BString) set_refusal e (of_span e) key old.used new.used (set_bytes (file_line_end old) key value s.0.items) keyed grows (ap of_span) (ap of_span);
-      }, tt))
+    let grows = subst (λ o. IfSome o (λ s. UsedGrows {T = T} (Err e) (set_bytes (file_line_end old) key value s.items) old.used new.used)) s.1 used in (
+      Some at,
+      (
+        s.0,
+        s.1,
+        s.2,
+        record {
+          ok = tt;
+          err = same;
+          told = key_err {T = T} (Option BString) set_refusal e (of_span e) key old.used new.used (set_bytes (file_line_end old) key value s.0.items) keyed grows (ap of_span) (ap of_span);
+        },
+        tt,
+      ),
+    )
