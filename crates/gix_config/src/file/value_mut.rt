@@ -54,7 +54,8 @@ impl<S: Drop> Drop for ValueMut<'_, S> {
 impl<'a> ValueMut<'a> {
     ghost use Rattle.std.specs.Prelude.{◌≡◌, false, true, OnErr, OnOk, Some};
     ghost use Rattle.bstr.specs.Owned.{bstring_bytes};
-    ghost use Rattle.gitconf_state.specs.Edits.{numbered};
+    ghost use Rattle.gitconf_state.specs.Edits.{numbered, IsEditor};
+    ghost use Rattle.gitconf_text.specs.Names.{is_value_name};
     ghost use Rattle.gitconf_state.specs.Lookup.{KeyMissing};
     ghost use Rattle.gitconf_lookups.specs.Misses.{IsExisting};
     ghost use Rattle.gitconf_views.specs.Views.{shown};
@@ -150,10 +151,16 @@ impl<'a> ValueMut<'a> {
         }
     }
 
-    /// The section as it now is. Constant time, and no memory.
+    /// The section as it now is. The name that the editor writes is that of a value, and what it writes besides may be in a text, whoever made
+    /// it. Constant time, and no memory.
     pub fn section(&self) -> SectionRef<'_>
-        ensures { numbered (place_of self.now).0 (edited self.now) ≡ Some (shown result) }
+        ensures section { numbered (place_of self.now).0 (edited self.now) ≡ Some (shown result) }
+        ensures key { is_value_name (key_of self.now) ≡ true }
+        ensures editor { IsEditor (editor self.now) }
     {
+        // For what their contracts say of the name and of the blanks.
+        let _ = self.spelling.key();
+        let _ = self.spelling.editor(self.line_end);
         self.file.section_of(self.id)
     }
 

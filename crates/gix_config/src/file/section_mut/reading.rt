@@ -11,7 +11,7 @@ impl<'a> SectionMut<'a> {
     ghost use Rattle.std.specs.Option.{option_copied};
     ghost use Rattle.std.specs.Prelude.{◌≡◌, [], length, map, IfOk, IfSome, Some};
     ghost use Rattle.bstr.specs.Owned.{bstring_bytes};
-    ghost use Rattle.gitconf_state.specs.Edits.{items_of_numbered, numbered};
+    ghost use Rattle.gitconf_state.specs.Edits.{items_of_numbered, numbered, IsEditor};
     ghost use Rattle.gitconf_state.specs.Printing.{printed_section};
     ghost use Rattle.gitconf_state.specs.State.{entries_of};
     ghost use Rattle.gitconf_body.specs.Bodies.{has_key, implicit_value_in, value_in, values_in, AreFound, IsFoundImplicit};
@@ -27,11 +27,15 @@ impl<'a> SectionMut<'a> {
         self.id
     }
 
-    /// The section as it now is. Constant time, and no memory.
+    /// The section as it now is. What the editor writes besides names and values may be in a text, whoever made it. Constant time, and no
+    /// memory.
     pub fn section(&self) -> SectionRef<'_>
         ensures section { numbered (number_of self.now) (edited self.now) ≡ Some (shown result) }
         ensures items { (shown result).items ≡ items_of_numbered (number_of self.now) (edited self.now) }
+        ensures editor { IsEditor (editor self.now) }
     {
+        // For what its contract says of the blanks.
+        let _ = self.blanks.editor(self.line_end, self.ends);
         self.file.section_of(self.id)
     }
 
