@@ -1,8 +1,8 @@
 -- What the program's edits make of a text.
 -- Source: the manual page of `git-config`: `rename-section`, `remove-section`.
-use Rattle.std.specs.Prelude.{◌≡◌, ◌⊎◌, ◌^◌, ◌+◌, ℕ, Bool, true, not, ◌==◌, nat_eq, ltb, List, ◌++◌, length, Option, Some, None, Result, Ok, Err, IfOk, IfErr, if◌then◌else◌}
+use Rattle.std.specs.Prelude.{◌≡◌, ◌⊎◌, ℕ, Bool, true, not, ◌==◌, nat_eq, List, ◌++◌, length, Option, Some, None, Result, Ok, Err, IfOk, IfErr, if◌then◌else◌}
 use Rattle.std.specs.List.{list_any, starts_with}
-use Rattle.std.specs.Option.{option_copied}
+use Rattle.std.specs.Option.{option_copied, option_map}
 use Rattle.bstr.specs.Owned.{bstring_bytes}
 use Rattle.bstr.specs.declared.bstring.BString.{BString}
 use Rattle.gitconf_text.specs.Part.{Part}
@@ -10,8 +10,6 @@ use Rattle.gitconf_text.specs.Document.{IsText}
 use Rattle.gitconf_text.specs.Token.{tokens_of}
 use Rattle.gitconf_sources.specs.Metadata.{api_meta}
 use Rattle.gitconf_state.specs.Made.{IsMade}
-use Rattle.gitconf_text.specs.Names.{is_made_name, is_valid_or_none}
-use Rattle.gitconf_state.specs.Edit.{header_bytes, is_target}
 use Rattle.gitconf_state.specs.Edits.{RenameAll, apply}
 use Rattle.gitconf_state.specs.Lookup.{is_named, listed, listing}
 use Rattle.gitconf_state.specs.Printing.{printed, printed_kept}
@@ -21,6 +19,9 @@ use Rattle.gitconf_text.specs.declared.parse.section.header.Error.TheVariants.{I
 use Rattle.gitconf_store.specs.declared.rename_section.Error.{Error}
 use Rattle.gitconf_store.specs.declared.rename_section.Error.TheVariants as renamings
 use Rattle.gitconf_store.specs.declared.rename_section.Error.TheVariants.{Lookup, Section}
+use Rattle.gitconf_body.specs.Done as reasons
+use Rattle.gitconf_body.specs.Done.{Cause, first_cause}
+use Rattle.gitconf_store.specs.Edited.{causes}
 use Rattle.gitconf_layout.specs.Layout.{IsLayout}
 use Rattle.gixcfg_core.specs.Line.{mark}
 use Rattle.gixcfg_core.specs.Answers.{Answers, IsRefusedText}
@@ -48,14 +49,18 @@ abbrev pub removal_of : (name : List ℕ) (subsection : Option (List ℕ)) → S
 removal_of name subsection file =
     if list_any (is_named name subsection) (listed file) then Ok (others_of name subsection file) else Err NoSection
 
+-- the trouble for a cause that keeps sections from being renamed
+abbrev pub trouble_for : Cause → Trouble
+trouble_for (reasons.Missing miss) = NoSection
+trouble_for reasons.InvalidName = BadName 4
+trouble_for reasons.InvalidSubsection = BadName 5
+trouble_for reasons.OutOfMemory = Memory
+trouble_for cause = Refused 3
+
 -- why sections of these names don't get those names: there is none; a section can't have them; there is no room for them
 abbrev pub unrenamed : (name : List ℕ) (subsection : Option (List ℕ)) (new_name : List ℕ) (new_subsection : Option (List ℕ)) → State → Option Trouble
 unrenamed name subsection new_name new_subsection file =
-    if not (list_any (is_target name subsection (λ _. true)) file.sections) then Some NoSection
-    else if not (is_made_name new_name) then Some (BadName 4)
-    else if not (is_valid_or_none new_subsection) then Some (BadName 5)
-    else if ltb (file.used + header_bytes new_name new_subsection) (2 ^ 32) then None
-    else Some (Refused 3)
+    option_map trouble_for (first_cause (causes (RenameAll name subsection (λ _. true) new_name new_subsection) file))
 
 -- the trouble where there is no room, by the number of the refusal: 3 for a text that would be too long
 abbrev pub no_room : (number : ℕ) → Trouble
@@ -71,9 +76,9 @@ trouble_of_renaming (Section headers.Memory) = Memory
 trouble_of_renaming renamings.Memory = Memory
 
 -- An edit of a file is done, and what is printed of it then is what this makes of it; or it is refused for that reason; else memory ran out.
-abbrev pub IsDone : (refusal : Option Trouble) (done : State → State) → Result (Unit {0}) Trouble → (old new : State) → Type 0
-IsDone refusal done (Ok _) old new = (refusal ≡ None) × (printed new ≡ printed (done old))
-IsDone refusal done (Err trouble) old new = (trouble ≡ Memory) ⊎ (refusal ≡ Some trouble)
+abbrev pub IsCarriedOut : (refusal : Option Trouble) (done : State → State) → Result (Unit {0}) Trouble → (old new : State) → Type 0
+IsCarriedOut refusal done (Ok _) old new = (refusal ≡ None) × (printed new ≡ printed (done old))
+IsCarriedOut refusal done (Err trouble) old new = (trouble ≡ Memory) ⊎ (refusal ≡ Some trouble)
 
 -- what is printed of an edited file, or why there is nothing
 abbrev pub edited_text : (refusal : Option Trouble) (done : State → State) → State → Result (List ℕ) Trouble

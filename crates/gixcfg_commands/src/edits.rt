@@ -11,7 +11,7 @@ ghost use Rattle.gitconf_state.specs.Edits.{RenameAll, apply};
 ghost use Rattle.gitconf_state.specs.Printing.{printed};
 ghost use Rattle.gixcfg_core.specs.Answers.{Answers, IsRefusedText};
 ghost use Rattle.gixcfg_commands.specs.Edits as spec;
-ghost use Rattle.gixcfg_commands.specs.Edits.{EditsTo, IsDone, IsOfText, marked_answer, no_room, others_of, removal_of, renaming_of, trouble_of_renaming, unrenamed};
+ghost use Rattle.gixcfg_commands.specs.Edits.{EditsTo, IsCarriedOut, IsOfText, marked_answer, no_room, others_of, removal_of, renaming_of, trouble_of_renaming, unrenamed};
 ghost use Rattle.gitconf_store.specs.declared.rename_section.Error.TheVariants.{Section};
 
 use crate::layouts::laid_out;
@@ -469,7 +469,7 @@ fn text_of_others(alloc: Global, file: &File, names: &Names<'_>) -> Result<Vec<u
 /// Gives the sections of a name another one.
 fn rename(alloc: Global, file: &mut File, renaming: &Renaming<'_>) -> Result<(), Trouble>
     ensures { let old = renaming.now.old in let new = renaming.now.new in
-        IsDone (unrenamed old.name.now (option_copied old.subsection_name) new.name.now (option_copied new.subsection_name) file.old)
+        IsCarriedOut (unrenamed old.name.now (option_copied old.subsection_name) new.name.now (option_copied new.subsection_name) file.old)
         (apply (RenameAll old.name.now (option_copied old.subsection_name) (λ _. true) new.name.now (option_copied new.subsection_name)))
         result file.old file.new }
 {
