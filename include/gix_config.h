@@ -418,6 +418,17 @@ void gix_config_list_close(gix_config_list *list);
 uint32_t gix_config_load_told(gix_config_told *told, const gix_config_load *load, gix_config_file *file,
     gix_config_bytes *path);
 
+/* Reads the files that a file's sections include, from what a program told, and puts each after the section that
+ * includes it.
+ *
+ * 103 if a file is needed of which nothing was told: its path is then in the block, whose bytes from before are
+ * freed; tell it, and call again. 19 if one was told not to open: its path is then in the block, too; 20 if one
+ * can't be read. 1, 2, 3 and 12 to 18 if a file or an include is refused. 101 if a text that has to be UTF-8
+ * isn't, 102 if a handle is not one for what is told or has no file, 27 when out of memory. The file is as it
+ * was after any number but 0, and the block after any but 19, 21 and 103. */
+uint32_t gix_config_resolve_includes_told(gix_config_told *told, gix_config_file *file,
+    const gix_config_includes *includes, gix_config_bytes *path);
+
 /* Hands out what the last value of a key means. What the block had is freed.
  *
  * 7, 8 or 9 if there is none: no section has the name, none of these has the subsection, or these have no such

@@ -1,4 +1,4 @@
-/* Files that are loaded with what they include, by what a program tells. */
+/* Files that are loaded with what they include, and includes of a file that is there, by what a program tells. */
 #include "checking.h"
 
 static gix_config_includes in_repository(void)
@@ -104,6 +104,40 @@ static void refused(void)
     gix_config_told_close(&told);
 }
 
+/* A file that is there gets what it includes, or stays as it was. */
+static void resolved(void)
+{
+    gix_config_told told = { NULL };
+    gix_config_file file = { NULL };
+    gix_config_bytes path = { NULL, 0, NULL }, text = { NULL, 0, NULL };
+    gix_config_place place = { 0, 0, 0 };
+    gix_config_includes includes = in_repository();
+    CHECK(gix_config_told_new(&told) == GIX_CONFIG_DONE);
+    CHECK(parse("[include]\n\tpath = /b\n\tpath = /c\n[x]\n\tk = 1\n", false, &file, &place) == GIX_CONFIG_DONE);
+    CHECK(gix_config_resolve_includes_told(&told, &file, &includes, &path) == GIX_CONFIG_NOT_TOLD && is_text(path.at, path.len, "/b"));
+    CHECK(tell(&told, "/b", "[y]\n\tk = 2 ; two\n") == GIX_CONFIG_DONE);
+    CHECK(gix_config_resolve_includes_told(&told, &file, &includes, &path) == GIX_CONFIG_NOT_TOLD && is_text(path.at, path.len, "/c"));
+    CHECK(gix_config_file_text(&file, &text) == GIX_CONFIG_DONE && is_text(text.at, text.len, "[include]\n\tpath = /b\n\tpath = /c\n[x]\n\tk = 1\n"));
+    CHECK(tell(&told, "/c", "[z]\n") == GIX_CONFIG_DONE);
+    CHECK(gix_config_resolve_includes_told(&told, &file, &includes, &path) == GIX_CONFIG_DONE && is_text(path.at, path.len, "/c"));
+    CHECK(gix_config_file_text(&file, &text) == GIX_CONFIG_DONE);
+    CHECK(is_text(text.at, text.len, "[include]\n\tpath = /b\n\tpath = /c\n[y]\n\tk = 2 ; two\n[z]\n[x]\n\tk = 1\n"));
+
+    CHECK(parse("[include]\n\tpath = b\n", false, &file, &place) == GIX_CONFIG_DONE);
+    CHECK(gix_config_resolve_includes_told(&told, &file, &includes, &path) == 16);
+    CHECK(parse("[include]\n\tpath = /b\n", false, &file, &place) == GIX_CONFIG_DONE);
+    includes.branch = text_of("\xff");
+    CHECK(gix_config_resolve_includes_told(&told, &file, &includes, &path) == GIX_CONFIG_NOT_UTF8);
+    includes.has_branch = false;
+    includes.lossy = true;
+    CHECK(gix_config_resolve_includes_told(&told, &file, &includes, &path) == GIX_CONFIG_DONE);
+    CHECK(gix_config_file_text(&file, &text) == GIX_CONFIG_DONE && text.len != 0 && memchr(text.at, ';', text.len) == NULL);
+    gix_config_bytes_free(&text);
+    gix_config_bytes_free(&path);
+    gix_config_file_close(&file);
+    gix_config_told_close(&told);
+}
+
 /* Handles that are empty or hold something else. */
 static void misused(void)
 {
@@ -114,7 +148,10 @@ static void misused(void)
     gix_config_load load = { text_of("/a"), GIX_CONFIG_SOURCE_LOCAL, GIX_CONFIG_TRUST_FULL, in_repository() };
     CHECK(tell(&told, "/a", "") == GIX_CONFIG_WRONG_HANDLE && tell_missing(&told, "/a") == GIX_CONFIG_WRONG_HANDLE);
     CHECK(tell_fault(&told, "/a", true) == GIX_CONFIG_WRONG_HANDLE && gix_config_load_told(&told, &load, &file, &path) == GIX_CONFIG_WRONG_HANDLE);
+    gix_config_includes includes = in_repository();
+    CHECK(gix_config_resolve_includes_told(&told, &file, &includes, &path) == GIX_CONFIG_WRONG_HANDLE);
     CHECK(parse("[kept]\n", false, &file, &place) == GIX_CONFIG_DONE);
+    CHECK(gix_config_resolve_includes_told(&told, &file, &includes, &path) == GIX_CONFIG_WRONG_HANDLE);
     /* (moved, and not copied) */
     told.at = file.at;
     file.at = NULL;
@@ -129,6 +166,7 @@ int main(void)
 {
     loaded();
     refused();
+    resolved();
     misused();
     return 0;
 }

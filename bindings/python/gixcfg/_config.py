@@ -150,6 +150,13 @@ class Config:
         made._follow(Asked(lambda told, asked: int(c.LIBRARY.gix_config_load_told(told, load, made._file, asked))))
         return made
 
+    def resolve_includes(self, includes: Includes = Includes()) -> None:
+        """Reads the files that the sections include, and puts the sections of each where it is included. A file that was parsed from a text has
+        no path, so that relative paths of includes are refused. Raises as `load_with_includes`; the file is then as it was."""
+        given = _includes(includes)
+        self._follow(Asked(lambda told, asked: int(c.LIBRARY.gix_config_resolve_includes_told(told, self._file, given, asked))))
+        self.path = None
+
     @staticmethod
     def _follow(asked: Asked) -> None:
         """Raises what stands for the answer of a call that followed includes."""

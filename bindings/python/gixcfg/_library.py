@@ -111,6 +111,7 @@ CALLS = {
     "told_missing": [ctypes.POINTER(Handle), ctypes.c_char_p, ctypes.c_size_t],
     "told_fault": [ctypes.POINTER(Handle), ctypes.c_char_p, ctypes.c_size_t, ctypes.c_bool],
     "load_told": [ctypes.POINTER(Handle), ctypes.POINTER(Load), ctypes.POINTER(Handle), ctypes.POINTER(Block)],
+    "resolve_includes_told": [ctypes.POINTER(Handle), ctypes.POINTER(Handle), ctypes.POINTER(Includes), ctypes.POINTER(Block)],
 }
 FREEING = {"file_close": Handle, "list_close": Handle, "told_close": Handle, "bytes_free": Block}
 

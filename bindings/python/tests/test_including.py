@@ -68,6 +68,17 @@ class Loads(unittest.TestCase):
         self.assertEqual(caught.exception.number, 19)
         self.assertIn(str(self.folder / "b"), str(caught.exception))
 
+    def test_file_that_is_there(self) -> None:
+        self.put("b", "[y]\n\tk = 2\n")
+        config = Config.parse(f"[include]\n\tpath = {self.folder}/b\n[x]\n\tk = 1\n")
+        config.resolve_includes()
+        self.assertEqual([it.name for it in config.sections()], ["include", "y", "x"])
+        relative = Config.parse("[include]\n\tpath = b\n")
+        with self.assertRaises(IncludeError) as caught:
+            relative.resolve_includes()
+        self.assertEqual(caught.exception.number, 16)
+        self.assertEqual(relative.text, "[include]\n\tpath = b\n")
+
 
 if __name__ == "__main__":
     unittest.main()

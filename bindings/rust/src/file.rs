@@ -405,6 +405,36 @@ impl File {
         Ok(file)
     }
 
+    /// Reads the files that the sections include, from the disk, and puts the sections of each where it is included.
+    ///
+    /// # Errors
+    ///
+    /// A file can't be opened or read, or an include is refused. The file is then as it was.
+    pub fn resolve_includes(
+        &mut self,
+        options: includes::Options<'_>,
+    ) -> Result<(), includes::Error> {
+        self.resolve_includes_of(options, &mut includes::Disk)
+    }
+
+    /// As [`File::resolve_includes`], with files from elsewhere.
+    ///
+    /// # Errors
+    ///
+    /// Those of [`File::resolve_includes`].
+    pub fn resolve_includes_of(
+        &mut self,
+        options: includes::Options<'_>,
+        files: &mut impl includes::Files,
+    ) -> Result<(), includes::Error> {
+        let real = options.real_git_dir();
+        let given = options.given(real.as_bstr());
+        // SAFETY: what is told is another handle than the file's, which no other call has now.
+        includes::ask(files, |told, asked| unsafe {
+            sys::gix_config_resolve_includes_told(told, self.handle(), &given, asked)
+        })
+    }
+
     /// Gives a key a value: in the last section of its names, whose last entry of the name gets it; entry and section are made if there are
     /// none. Returns the raw text of the value that was there, if there was an entry.
     ///

@@ -437,6 +437,12 @@ extern "C" {
         file: *mut Handle,
         path: *mut Block,
     ) -> u32;
+    pub(crate) fn gix_config_resolve_includes_told(
+        told: *mut Handle,
+        file: *mut Handle,
+        includes: *const Includes<'_>,
+        path: *mut Block,
+    ) -> u32;
     pub(crate) fn gix_config_section_rename(
         file: *mut Handle,
         section: *const Section<'_>,

@@ -239,6 +239,13 @@ fn includes_are_put_where_they_stand() {
     assert_eq!(names, texts(&["include", "y", "x"]));
     assert_eq!(files.1, 3);
 
+    let mut other = File::try_from("[include]\n\tpath = /b\n[x]\n").expect("a text");
+    assert_eq!(other.resolve_includes_of(options, &mut files), Ok(()));
+    assert_eq!(
+        other.to_string(),
+        "[include]\n\tpath = /b\n[y]\n\tk = 2\n[x]\n"
+    );
+
     files.0[1].1 = Found::Unopened;
     let refused = File::from_files(Path::new("/a"), options, &mut files)
         .expect_err("a file that doesn't open");

@@ -1,5 +1,5 @@
 -- Which file a refused load is about.
-use Rattle.std.proofs.Common.{◌≡◌, ℕ, true, List, Some, Result, Err, inl, inr, sym, subst}
+use Rattle.std.proofs.Common.{◌≡◌, ℕ, true, List, Option, Some, None, Result, Err, inl, inr, sym, subst}
 use Rattle.gitconf_includes.specs.Outcomes.{IsCause}
 use Rattle.gitconf_includes.specs.declared.includes.Error.{Error as IncludesError}
 use Rattle.gitconf_includes.specs.declared.includes.Error.TheVariants as includes
@@ -11,7 +11,10 @@ use Rattle.gitconf_loaders.specs.declared.from_paths.Error.TheVariants as paths
 use Rattle.gitconf_sources.specs.Metadata.{Meta}
 use Rattle.gitconf_sources.specs.Reports.{read_of}
 use Rattle.gitconf_sources.specs.declared.fault.FileFault.{FileFault}
-use Rattle.gix_config_c.specs.Loaded.{IsFaulty, include_path, load_path}
+use Rattle.gix_config_c.specs.Loaded.{IsAnswered, IsFaulty, OfRules, include_path, load_path}
+use Rattle.gix_config_c.specs.declared.block.Block.{Block}
+use Rattle.gitconf_includes.specs.Errors.{includes_number}
+use Rattle.gitconf_includes.specs.Rules.{Rules}
 use Rattle.gix_config_c.specs.Told.{Tells, told_at}
 
 -- a file that the refusal of an include names can't be opened
@@ -41,3 +44,20 @@ faulty_path told options path paths.Memory cause = tt
 pub faulty_load : (told : Tells) (options : Options) (metas : List Meta) (e : PathsError) → IsLoadCause true options (Some (told_at told)) metas e → IsFaulty told (load_path e)
 faulty_load told options metas e (inl memory) = subst (λ (x : PathsError). IsFaulty told (load_path x)) (sym memory) tt
 faulty_load told options metas e (inr cause) = faulty_path told options cause.0 e cause.2
+
+-- what is said of the rules that a program gives
+pub of_rules : {said : Rules → Type 0} (given : Option Rules) (number : ℕ) (rules : Rules) → Some rules ≡ given → said rules → OfRules given number said
+of_rules {said} given number rules is told = record {
+  rules = λ others at. let same : rules ≡ others = cc in subst said same told;
+  other = λ none. absurd (cc);
+}
+
+-- out of memory is told by its number
+pub memory_number : (told : Tells) (e : IncludesError) (number : ℕ) (old new : Block) → e ≡ includes.Memory
+    → IsAnswered told (include_path e) (includes_number e) number old new → number ≡ 27
+memory_number told e number old new is answered =
+    (subst (λ (x : IncludesError). IsAnswered told (include_path x) (includes_number x) number old new) is answered).0
+
+-- the right side of an equation
+abbrev pub right_of : {A : Type 0} {x y : A} → x ≡ y → A
+right_of {A} {x} {y} same = y

@@ -1,6 +1,7 @@
 -- What loads by what was told answer.
-use Rattle.std.specs.Prelude.{◌≡◌, if◌then◌else◌, ℕ, true, false, List, [], ◌∷◌, Option, Some, None, Result, Ok, Err, string_bytes}
-use Rattle.gitconf_includes.specs.Expansion.{Asks}
+use Rattle.std.specs.Prelude.{◌≡◌, ◌⊎◌, if◌then◌else◌, ℕ, Bool, true, false, List, [], ◌∷◌, Option, Some, None, Result, Ok, Err, string_bytes}
+use Rattle.gitconf_includes.specs.Errors.{includes_number}
+use Rattle.gitconf_includes.specs.Expansion.{Asks, Resolves}
 use Rattle.gitconf_includes.specs.Rules.{Rules}
 use Rattle.gitconf_includes.specs.declared.includes.Error.{Error as IncludesError}
 use Rattle.gitconf_includes.specs.declared.includes.Error.TheVariants as includes
@@ -14,6 +15,7 @@ use Rattle.gitconf_sources.specs.declared.fault.FileFault.{FileFault}
 use Rattle.gitconf_state.specs.State.{State}
 use Rattle.gix_config_c.specs.Blocks.{Holds, IsKept}
 use Rattle.gix_config_c.specs.Loads.{PlainWanted}
+use Rattle.gix_config_c.specs.Telling.{OfTold}
 use Rattle.gix_config_c.specs.Told.{Tells, is_told, told_at}
 use Rattle.gix_config_c.specs.declared.block.Block.{Block}
 use Rattle.gix_config_c.specs.declared.object.Object.{Object}
@@ -23,6 +25,11 @@ use Rattle.gix_config_c.specs.declared.object.Object.TheVariants.{File}
 pub record OfWanted (given : Result PlainWanted ℕ) (number : ℕ) (said : PlainWanted → Type 0) : Type 0 where
   pub wanted : (wanted : PlainWanted) → given ≡ Ok wanted → said wanted
   pub other : (why : ℕ) → given ≡ Err why → number ≡ why
+
+-- what is said of the rules that a program gives, if their texts are text; else the number is 101
+pub record OfRules (given : Option Rules) (number : ℕ) (said : Rules → Type 0) : Type 0 where
+  pub rules : (rules : Rules) → given ≡ Some rules → said rules
+  pub other : given ≡ None → number ≡ 101
 
 -- what an expansion depends on: the rules, and what was told
 abbrev pub asks_by : Tells → Rules → Asks
@@ -60,3 +67,18 @@ TellsLoad told (Err e) number file old new = IsAnswered told (load_path e) (path
 pub record IsLoadedBy (told : Tells) (wanted : PlainWanted) (number : ℕ) (file : Option Object) (old new : Block) : Type 0 where
   pub load : (number ≡ 27 → ⊥) → (r : Result (Option State) PathsError)
       × IsLoadOfPaths true false (asks_by told wanted.rules) (wanted.meta ∷ []) (numbered paths_number r) × TellsLoad told r number file old new
+
+-- what is told of includes that were resolved: that the file has them, or the number of the refusal
+abbrev pub TellsResolved : Tells → Rules → (f g : State) → Result (Unit {0}) IncludesError → (number : ℕ) → (old new : Block) → Type 0
+TellsResolved told rules f g (Ok done) number old new = (number ≡ 0) × Resolves includes_number (asks_by told rules) f (Ok done) g × IsKept old new
+TellsResolved told rules f g (Err e) number old new =
+    ((left : State) × Resolves includes_number (asks_by told rules) f (Err e) left)
+    × IsAnswered told (include_path e) (includes_number e) number old new × IsFaulty told (include_path e)
+
+-- the file has what it includes, from what was told, or that was refused; or memory ran out
+pub record IsResolvedBy (told : Tells) (rules : Rules) (f g : State) (number : ℕ) (old new : Block) : Type 0 where
+  pub resolved : (number ≡ 27 → ⊥) → (r : Result (Unit {0}) IncludesError) × TellsResolved told rules f g r number old new
+
+-- the same for what was told in a handle, and the rules that a program gives
+pub record IsResolvedFrom (it : Option Object) (given : Option Rules) (f g : State) (number : ℕ) (old new : Block) : Type 0 where
+  pub told : OfTold it number (λ told. OfRules given number (λ rules. IsResolvedBy told rules f g number old new))

@@ -1,26 +1,36 @@
-//! Files, loaded with what they include, by what a program told.
+//! Files, loaded with what they include, and includes of files, by what a program told.
 ghost use Rattle.std.specs.Prelude.{◌≡◌, ◌⊎◌, ◌∷◌, [], if◌then◌else◌, true, false, IfErr, IfOk, Ok, Err, Some};
 ghost use Rattle.gitconf_includes.specs.Errors.{includes_number};
+ghost use Rattle.gitconf_includes.specs.Expansion.{Resolves};
+ghost use Rattle.gitconf_includes.specs.Rules.{rules_of_includes};
+ghost use Rattle.gitconf_includes.specs.declared.includes.Error.TheVariants as refusals;
 ghost use Rattle.gitconf_loaders.specs.Errors.{paths_number};
 ghost use Rattle.gitconf_loaders.specs.Paths.{IsLoadOfPaths, numbered};
 ghost use Rattle.gitconf_sources.specs.Metadata.{meta_of_file};
+ghost use Rattle.gitconf_state.specs.State.{State};
+ghost use Rattle.gix_config_c.specs.Answers.{OfFile};
 ghost use Rattle.gix_config_c.specs.Blocks.{Holds, IsKept};
-ghost use Rattle.gix_config_c.specs.Loaded.{IsAnswered, IsFaulty, IsLoadedBy, OfWanted, asks_by, include_path, load_path};
+ghost use Rattle.gix_config_c.specs.Edited.{IsEditedFile};
+ghost use Rattle.gix_config_c.specs.Followed.{rules_of};
+ghost use Rattle.gix_config_c.specs.Loaded.{IsAnswered, IsFaulty, IsLoadedBy, IsResolvedBy, IsResolvedFrom, OfRules, OfWanted, asks_by, include_path, load_path};
 ghost use Rattle.gix_config_c.specs.Loads.{plain_wanted, wanted_of};
 ghost use Rattle.gix_config_c.specs.Telling.{OfTold};
 ghost use Rattle.gix_config_c.specs.Told.{is_told};
+ghost use Rattle.gix_config_c.specs.declared.object.Object.TheVariants as object;
 
 use crate::block::{Block, room};
+use crate::includes::{Includes, followed};
 use crate::lists::put_list;
 use crate::load::{Load, Wanted, want};
 use crate::object::Object;
 use crate::slot::Slot;
 use crate::told::Told;
-use crate::{NOT_TOLD, NOTHING_THERE, OUT_OF_MEMORY, WRONG_HANDLE};
+use crate::{DONE, NOT_TOLD, NOT_UTF8, NOTHING_THERE, OUT_OF_MEMORY, WRONG_HANDLE};
 use gitconf_includes::{includes, init};
 use gitconf_loaders::from_paths;
 use gitconf_sources::meta::Metadata;
 use gitconf_sources::source::{Source, Trust};
+use gix_config::host::{Host, MemEnv, Places};
 use gix_config::refusals::Refusal as _;
 use gix_config::{File, NoMemory};
 use std::alloc::Global;
@@ -167,4 +177,125 @@ fn ask(alloc: Global, told: &Told, at: &str, refusal: u32, path: &mut Block) -> 
     };
     path.put(room, copy);
     if told.knows(at) { refusal } else { NOT_TOLD }
+}
+
+/// Reads the files that a file's sections include, from what a program told, and puts each after the section that includes it.
+///
+/// 103 if a file is needed of which nothing was told: its path is then in the block, whose bytes from before are freed; tell it, and call
+/// again. 19 if one was told not to open: its path is then in the block, too; 20 if one can't be read. 1, 2, 3 and 12 to 18 if a file or an
+/// include is refused. 101 if a text that has to be UTF-8 isn't, 102 if a handle is not one for what is told or has no file, 27 when out of
+/// memory. The file is as it was after any number but 0, and the block after any but 19, 21 and 103.
+#[unsafe(no_mangle)]
+pub extern "C" fn gix_config_resolve_includes_told(
+    alloc: Global,
+    told: &mut Slot,
+    file: &mut Slot,
+    includes: &Includes<'_>,
+    path: &mut Block,
+) -> u32
+    ensures answer { OfFile file.old.it result (λ f. (g : State) × (file.new.it ≡ Some (object.File g)) × IsEditedFile result f g
+        × IsResolvedFrom told.old.it (rules_of includes.now) f g result path.old path.new) }
+    ensures other { ((f : State) → file.old.it ≡ Some (object.File f) → ⊥) → file.new.it ≡ file.old.it }
+    ensures kept_path { (result ≡ 19 → ⊥) → (result ≡ 21 → ⊥) → (result ≡ 103 → ⊥) → IsKept path.old path.new }
+    ensures same { told.new.it ≡ told.old.it }
+{
+    let Some(mut object) = file.take(alloc) else {
+        return WRONG_HANDLE;
+    };
+    let answer = match &mut *object {
+        Object::File(f) => resolve_from(alloc, told, f, includes, path),
+        _ => WRONG_HANDLE,
+    };
+    file.put(object);
+    answer
+}
+
+/// Resolves the includes of a file by what was told in a handle.
+fn resolve_from(
+    alloc: Global,
+    told: &mut Slot,
+    file: &mut File,
+    includes: &Includes<'_>,
+    path: &mut Block,
+) -> u32
+    ensures edited { IsEditedFile result file.old file.new }
+    ensures answer { IsResolvedFrom told.old.it (rules_of includes.now) file.old file.new result path.old path.new }
+    ensures kept_path { (result ≡ 19 → ⊥) → (result ≡ 21 → ⊥) → (result ≡ 103 → ⊥) → IsKept path.old path.new }
+    ensures same { told.new.it ≡ told.old.it }
+{
+    let Some(object) = told.take(alloc) else {
+        return WRONG_HANDLE;
+    };
+    let answer = match &*object {
+        Object::Told(it) => resolve_by(alloc, it, file, includes, path),
+        _ => WRONG_HANDLE,
+    };
+    told.put(object);
+    answer
+}
+
+/// Resolves the includes of a file as a program says it.
+fn resolve_by(
+    alloc: Global,
+    told: &Told,
+    file: &mut File,
+    includes: &Includes<'_>,
+    path: &mut Block,
+) -> u32
+    ensures edited { IsEditedFile result file.old file.new }
+    ensures answer { OfRules (rules_of includes.now) result (λ rules. IsResolvedBy told.now rules file.old file.new result path.old path.new) }
+    ensures kept_path { (result ≡ 19 → ⊥) → (result ≡ 21 → ⊥) → (result ≡ 103 → ⊥) → IsKept path.old path.new }
+{
+    let Some(options) = followed(includes) else {
+        return NOT_UTF8;
+    };
+    match resolved(alloc, told, file, options, includes.lossy) {
+        Ok(made) => {
+            *file = made;
+            DONE
+        }
+        Err(refusal) => refused_include(alloc, told, &refusal, path),
+    }
+}
+
+/// A box of a value.
+fn boxed<T: Drop>(alloc: Global, value: T) -> Result<Box<T>, NoMemory>
+    ensures { IfOk result (λ boxed. boxed.value ≡ value) }
+{
+    Ok(Box::new(alloc, value)?)
+}
+
+/// A copy of a file, with what it includes.
+fn resolved(
+    alloc: Global,
+    told: &Told,
+    file: &File,
+    includes: includes::Options<'_>,
+    lossy: bool,
+) -> Result<File, includes::Error>
+    ensures made { IfOk result (λ made. Resolves includes_number (asks_by told.now (record (rules_of_includes includes.entry) { lossy = lossy })) file.now (Ok tt) made) }
+    ensures refused { IfErr result (λ e. (e ≡ refusals.Memory)
+        ⊎ ((left : State) × Resolves includes_number (asks_by told.now (record (rules_of_includes includes.entry) { lossy = lossy })) file.now (Err e) left)) }
+    ensures faulty { IfErr result (λ e. IsFaulty told.now (include_path e)) }
+{
+    let mut made = file.try_clone()?;
+    let mut host = Host {
+        files: boxed(alloc, told.try_clone()?)?,
+        env: boxed(alloc, MemEnv::new(alloc))?,
+        places: Places {
+            installation_config: None,
+            system_prefix: String::new(alloc),
+            home: None,
+            homes: None,
+        },
+    };
+    let options = init::Options {
+        includes,
+        lossy,
+        ignore_io_errors: false,
+    };
+    match made.resolve_includes(options, &mut host) {
+        Ok(()) => Ok(made),
+        Err(refusal) => Err(refusal),
+    }
 }
