@@ -1,5 +1,5 @@
 -- Which file a refused load is about.
-use Rattle.std.proofs.Common.{◌≡◌, ℕ, true, List, Option, Some, None, Result, Err, inl, inr, sym, subst}
+use Rattle.std.proofs.Common.{◌≡◌, ℕ, true, List, Option, Some, Result, Err, inl, inr, sym, subst}
 use Rattle.gitconf_includes.specs.Outcomes.{IsCause}
 use Rattle.gitconf_includes.specs.declared.includes.Error.{Error as IncludesError}
 use Rattle.gitconf_includes.specs.declared.includes.Error.TheVariants as includes

@@ -1,5 +1,5 @@
 -- What loads by what was told answer.
-use Rattle.std.specs.Prelude.{◌≡◌, ◌⊎◌, if◌then◌else◌, ℕ, Bool, true, false, List, [], ◌∷◌, Option, Some, None, Result, Ok, Err, string_bytes}
+use Rattle.std.specs.Prelude.{◌≡◌, if◌then◌else◌, ℕ, true, false, List, [], ◌∷◌, Option, Some, None, Result, Ok, Err, string_bytes}
 use Rattle.gitconf_includes.specs.Errors.{includes_number}
 use Rattle.gitconf_includes.specs.Expansion.{Asks, Resolves}
 use Rattle.gitconf_includes.specs.Rules.{Rules}
