@@ -1,12 +1,12 @@
 //! The commands, by what they ask for.
 
+use script_commands::answer::{Answer, Outcome};
 use script_commands::changes::{edit_outcome, loader_outcome, outside_outcome, state_outcome};
 use script_commands::looks::{
     look_up_outcome, part_outcome, print_outcome, section_outcome, text_outcome, typed_outcome,
     value_outcome, view_outcome,
 };
-use script_session::answer::{Answer, Outcome};
-use script_session::session::Session;
+use script_commands::session::Session;
 use script_words::commands::Command;
 use script_words::words::Word;
 use std::alloc::Global;

@@ -3,8 +3,8 @@ ghost use Rattle.std.specs.Prelude.{◌≡◌, ◌≤◌, false};
 
 use crate::blocks::play_block;
 use crate::commands::outcome_of;
-use script_session::rendering::line_of;
-use script_session::session::Session;
+use script_commands::rendering::line_of;
+use script_commands::session::Session;
 use script_words::bracket::Bracket;
 use script_words::commands::{Command, StateCommand, command_of};
 use script_words::editors::opening_of;

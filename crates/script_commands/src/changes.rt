@@ -1,8 +1,8 @@
 //! The commands that change a file or make one, by groups.
 
+use crate::answer::Outcome;
+use crate::session::Session;
 use crate::{edits, expanding, files, loading, outside};
-use script_session::answer::Outcome;
-use script_session::session::Session;
 use script_words::commands::{EditCommand, LoaderCommand, OutsideCommand, StateCommand};
 use script_words::words::Word;
 use std::alloc::Global;

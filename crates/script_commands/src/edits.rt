@@ -1,11 +1,11 @@
 //! Commands that change a file.
 
-use script_session::answer::{Answer, Outcome};
-use script_session::arguments::{bytes_of_all, id_of, owned};
-use script_session::gix_config::file::Section;
-use script_session::gix_config::{File, KeyRef};
-use script_session::refusal::Refusal;
-use script_session::session::Session;
+use crate::answer::{Answer, Outcome};
+use crate::arguments::{bytes_of_all, id_of, owned};
+use crate::gix_config::file::Section;
+use crate::gix_config::{File, KeyRef};
+use crate::refusal::Refusal;
+use crate::session::Session;
 use script_words::arguments::{
     names_and_bytes, names_and_rest, number_and_place, renaming, renaming_and_flag, section_names,
     section_names_and_place, section_names_place_and_flag, two_texts,

@@ -3,13 +3,13 @@
 // A host is made in each call that needs one, and passed to no other function of ours: the check refuses a function that takes one
 // and could put another box into it.
 
-use script_session::answer::{Answer, Outcome};
-use script_session::gix_config::File;
-use script_session::gix_config::file::Metadata;
-use script_session::gix_config::host::Host;
-use script_session::outside::{Outside, Parts};
-use script_session::refusal::Refusal;
-use script_session::session::Session;
+use crate::answer::{Answer, Outcome};
+use crate::gix_config::File;
+use crate::gix_config::file::Metadata;
+use crate::gix_config::host::Host;
+use crate::refusal::Refusal;
+use crate::session::Session;
+use crate::surroundings::{Outside, Parts};
 use script_words::arguments::{bytes, no_words};
 use script_words::words::Word;
 use std::alloc::Global;

@@ -2,14 +2,14 @@
 //!
 //! A command that is refused leaves that state as it was, except that `append` takes a file; and one that loads changes no other file.
 ghost use Rattle.std.specs.Prelude.{◌≡◌, OnErr};
-ghost use Rattle.script_session.specs.Session.{LoadsFile};
+ghost use Rattle.script_commands.specs.Session.{LoadsFile};
 
-use script_session::answer::{Answer, Outcome};
-use script_session::gix_config::File;
-use script_session::gix_config::file::{Metadata, init};
-use script_session::kinds::kept_events;
-use script_session::refusal::Refusal;
-use script_session::session::{Loaded, Session};
+use crate::answer::{Answer, Outcome};
+use crate::gix_config::File;
+use crate::gix_config::file::{Metadata, init};
+use crate::kinds::kept_events;
+use crate::refusal::Refusal;
+use crate::session::{Loaded, Session};
 use script_words::arguments::{bytes, no_words, slot, switch};
 use script_words::words::Word;
 use std::alloc::Global;

@@ -1,7 +1,7 @@
 //! The command on the layout of texts, which needs no file.
 
-use script_session::answer::{Answer, Outcome};
-use script_session::gix_config::format::{Indent, Newline, Options, normalize};
+use crate::answer::{Answer, Outcome};
+use crate::gix_config::format::{Indent, Newline, Options, normalize};
 use script_words::layouts::{self, LineEnd, layout_of};
 use script_words::words::Word;
 use std::alloc::Global;

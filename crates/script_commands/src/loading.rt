@@ -3,13 +3,13 @@
 //
 // A host is made in each call that needs one, and passed to no other function of ours, as in `expanding`.
 
-use script_session::answer::{Answer, Outcome};
-use script_session::gix_config::file::{Metadata, init};
-use script_session::gix_config::host::{Host, StorageLocation};
-use script_session::gix_config::{File, Source};
-use script_session::outside::{Outside, Parts, owned_text};
-use script_session::refusal::Refusal;
-use script_session::session::Session;
+use crate::answer::{Answer, Outcome};
+use crate::gix_config::file::{Metadata, init};
+use crate::gix_config::host::{Host, StorageLocation};
+use crate::gix_config::{File, Source};
+use crate::refusal::Refusal;
+use crate::session::Session;
+use crate::surroundings::{Outside, Parts, owned_text};
 use script_words::arguments::{no_words, text};
 use script_words::loading::{name, path_and_name, paths_of};
 use script_words::words::{NotUnderstood, Word, named_in};

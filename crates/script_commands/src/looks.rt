@@ -1,10 +1,10 @@
 //! The commands that change nothing, by groups.
 
+use crate::answer::Outcome;
+use crate::gix_config::File;
+use crate::session::Session;
+use crate::writers::Failure;
 use crate::{layout, lookups, parsing, paths, printing, sections, typed, values, views};
-use script_session::answer::Outcome;
-use script_session::gix_config::File;
-use script_session::session::Session;
-use script_session::writers::Failure;
 use script_words::commands::{
     LookUpCommand, PartCommand, PrintCommand, SectionCommand, TextCommand, TypedCommand,
     ValueCommand, ViewCommand,

@@ -1,8 +1,8 @@
 //! Commands that look up values of a key.
 
+use crate::answer::{Answer, Outcome};
+use crate::gix_config::File;
 use bstr::BString;
-use script_session::answer::{Answer, Outcome};
-use script_session::gix_config::File;
 use script_words::arguments::{bytes, names};
 use script_words::words::Word;
 

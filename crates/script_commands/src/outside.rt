@@ -2,14 +2,14 @@
 //! include others are expanded.
 ghost use Rattle.std.specs.Prelude.{◌≡◌, OnErr};
 
+use crate::answer::{Answer, Outcome};
+use crate::failing::Failure;
 use crate::files::file_of;
-use script_session::answer::{Answer, Outcome};
-use script_session::failing::Failure;
-use script_session::gix_config::file::Metadata;
-use script_session::gix_config::host::Stage;
-use script_session::outside::{Content, Expansion, owned_text};
-use script_session::refusal::Refusal;
-use script_session::session::Session;
+use crate::gix_config::file::Metadata;
+use crate::gix_config::host::Stage;
+use crate::refusal::Refusal;
+use crate::session::Session;
+use crate::surroundings::{Content, Expansion, owned_text};
 use script_words::editor_arguments::text_and_bytes;
 use script_words::loading::turn_and_name;
 use script_words::outside::{expansion_of, level, optional_text, path_and_fault, variable};

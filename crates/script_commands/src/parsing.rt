@@ -1,10 +1,10 @@
 //! Commands on texts and names, which need no file.
 
-use script_session::answer::{Answer, Outcome};
-use script_session::gix_config::parse::Events;
-use script_session::gix_config::parse::section::{Name, ValueName};
-use script_session::kinds::kept_events;
-use script_session::refusal::Refusal;
+use crate::answer::{Answer, Outcome};
+use crate::gix_config::parse::Events;
+use crate::gix_config::parse::section::{Name, ValueName};
+use crate::kinds::kept_events;
+use crate::refusal::Refusal;
 use script_words::arguments::bytes;
 use script_words::words::Word;
 use std::alloc::Global;

@@ -1,10 +1,10 @@
 //! Commands on path patterns, and on paths.
 
+use crate::answer::{Answer, Outcome};
+use crate::gix_config::Path;
+use crate::gix_config::glob::wildmatch;
+use crate::gix_config::path::interpolate::Context;
 use bstr::BString;
-use script_session::answer::{Answer, Outcome};
-use script_session::gix_config::Path;
-use script_session::gix_config::glob::wildmatch;
-use script_session::gix_config::path::interpolate::Context;
 use script_words::arguments::{path_with_folders, pattern_match};
 use script_words::words::Word;
 use std::alloc::Global;

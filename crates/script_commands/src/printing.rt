@@ -1,10 +1,10 @@
 //! Commands that write a file.
 
-use script_session::answer::{Answer, Outcome};
-use script_session::gix_config::File;
-use script_session::gix_config::file::SectionId;
-use script_session::refusal::Refusal;
-use script_session::writers::{FailingOnce, Failure};
+use crate::answer::{Answer, Outcome};
+use crate::gix_config::File;
+use crate::gix_config::file::SectionId;
+use crate::refusal::Refusal;
+use crate::writers::{FailingOnce, Failure};
 use script_words::arguments::{all_bytes, count_before, no_words};
 use script_words::words::{Word, is_one_of};
 use std::alloc::Global;

@@ -1,9 +1,9 @@
 //! Commands that show a file's parts.
 
-use script_session::answer::{Answer, Outcome};
-use script_session::gix_config::File;
-use script_session::gix_config::file::SectionRef;
-use script_session::refusal::Refusal;
+use crate::answer::{Answer, Outcome};
+use crate::gix_config::File;
+use crate::gix_config::file::SectionRef;
+use crate::refusal::Refusal;
 use script_words::arguments::{no_words, number};
 use script_words::words::Word;
 use std::borrow::CowSlice;

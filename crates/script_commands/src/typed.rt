@@ -1,10 +1,10 @@
 //! Commands that look up values of a key with their sections, or in a type that the caller names: [`Boolean`].
 
+use crate::answer::{Answer, Outcome};
+use crate::gix_config::file::{SectionId, SectionRef};
+use crate::gix_config::{Boolean, File};
+use crate::refusal::Refusal;
 use bstr::BString;
-use script_session::answer::{Answer, Outcome};
-use script_session::gix_config::file::{SectionId, SectionRef};
-use script_session::gix_config::{Boolean, File};
-use script_session::refusal::Refusal;
 use script_words::arguments::names;
 use script_words::words::Word;
 use std::alloc::Global;

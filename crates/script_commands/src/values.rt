@@ -1,10 +1,10 @@
 //! Commands on values, which need no file.
 
+use crate::answer::{Answer, Outcome};
+use crate::gix_config::value::normalize;
+use crate::gix_config::{Boolean, File, Integer};
+use crate::refusal::Refusal;
 use bstr::BString;
-use script_session::answer::{Answer, Outcome};
-use script_session::gix_config::value::normalize;
-use script_session::gix_config::{Boolean, File, Integer};
-use script_session::refusal::Refusal;
 use script_words::arguments::bytes;
 use script_words::words::Word;
 use std::alloc::{AllocError, Global};

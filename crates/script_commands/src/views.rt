@@ -1,12 +1,12 @@
 //! Commands that look up sections and compare files, and those that look at one section.
 
+use crate::answer::{Answer, Outcome};
+use crate::gix_config::File;
+use crate::gix_config::file::{SectionId, SectionRef};
+use crate::refusal::Refusal;
 use crate::sections::section_at;
+use crate::session::Session;
 use bstr::BString;
-use script_session::answer::{Answer, Outcome};
-use script_session::gix_config::File;
-use script_session::gix_config::file::{SectionId, SectionRef};
-use script_session::refusal::Refusal;
-use script_session::session::Session;
 use script_words::arguments::{
     SectionNames, bytes, no_words, number_and_text, section_names, section_names_and_flag, slot,
     text, text_and_flag,

@@ -1,11 +1,11 @@
 //! The editor of a section, in a file or in none.
 
 use bstr::BString;
-use script_session::gix_config::NoMemory;
-use script_session::gix_config::file::section::value;
-use script_session::gix_config::file::{DetachedSectionMut, SectionMut};
-use script_session::gix_config::parse::section::header;
-use script_session::gix_config::parse::span;
+use script_commands::gix_config::NoMemory;
+use script_commands::gix_config::file::section::value;
+use script_commands::gix_config::file::{DetachedSectionMut, SectionMut};
+use script_commands::gix_config::parse::section::header;
+use script_commands::gix_config::parse::span;
 use script_words::editor_arguments::PushedLine;
 
 /// What the lines of a block ask of the editor of a section.
@@ -14,7 +14,7 @@ pub trait SectionEditor {
     ghost use Rattle.std.specs.Borrow.{GName};
     ghost use Rattle.std.specs.List.{list_all};
     ghost use Rattle.std.specs.Prelude.{◌≡◌, true, IfSome};
-    ghost use Rattle.script_session.specs.SectionEditors.{is_whitespace};
+    ghost use Rattle.script_commands.specs.SectionEditors.{is_whitespace};
 
     ghost held: { Self → GName };
 
@@ -65,7 +65,7 @@ pub trait SectionEditor {
 }
 
 impl SectionEditor for SectionMut<'_> {
-    ghost use Rattle.script_session.specs.SectionEditors.{lent};
+    ghost use Rattle.script_commands.specs.SectionEditors.{lent};
 
     ghost held = { lent };
 
@@ -143,7 +143,7 @@ impl SectionEditor for SectionMut<'_> {
 }
 
 impl SectionEditor for DetachedSectionMut<'_> {
-    ghost use Rattle.script_session.specs.AloneEditors.{lent};
+    ghost use Rattle.script_commands.specs.AloneEditors.{lent};
 
     ghost held = { lent };
 

@@ -1,12 +1,12 @@
 //! The lines of the editor of one value.
 ghost use Rattle.std.specs.Prelude.{◌≡◌};
-ghost use Rattle.script_session.specs.ValueEditors.{lent};
+ghost use Rattle.script_commands.specs.ValueEditors.{lent};
 
 use super::tell;
-use script_session::answer::{Answer, Outcome};
-use script_session::gix_config::file::ValueMut;
-use script_session::refusal::Refusal;
-use script_session::rendering::line_of;
+use script_commands::answer::{Answer, Outcome};
+use script_commands::gix_config::file::ValueMut;
+use script_commands::refusal::Refusal;
+use script_commands::rendering::line_of;
 use script_words::arguments::{bytes, no_words};
 use script_words::blocks::next_asked;
 use script_words::bracket::Bracket;

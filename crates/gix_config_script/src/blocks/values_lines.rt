@@ -1,13 +1,13 @@
 //! The lines of the editor of all values of a key.
 ghost use Rattle.std.specs.Prelude.{◌≡◌};
-ghost use Rattle.script_session.specs.MultiValueEditors.{lent};
+ghost use Rattle.script_commands.specs.MultiValueEditors.{lent};
 
 use super::tell;
-use script_session::answer::{Answer, Outcome};
-use script_session::arguments::bytes_of_all;
-use script_session::gix_config::file::MultiValueMut;
-use script_session::refusal::Refusal;
-use script_session::rendering::line_of;
+use script_commands::answer::{Answer, Outcome};
+use script_commands::arguments::bytes_of_all;
+use script_commands::gix_config::file::MultiValueMut;
+use script_commands::refusal::Refusal;
+use script_commands::rendering::line_of;
 use script_words::arguments::{bytes, no_words, number};
 use script_words::blocks::next_asked;
 use script_words::bracket::Bracket;

@@ -1,5 +1,5 @@
 use Rattle.std.proofs.Common.{◌≡◌}
-use Rattle.script_session.specs.MultiValueEditors.{lent}
+use Rattle.script_commands.specs.MultiValueEditors.{lent}
 use Rattle.gix_config_script.proofs.blocks.values_lines.play.Given as goal
 
 -- the editor still holds the same file

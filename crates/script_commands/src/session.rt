@@ -2,9 +2,9 @@
 //! is outside.
 
 ghost use Rattle.std.specs.Prelude.{◌≡◌, None, OnErr, OnOk};
-ghost use Rattle.script_session.specs.Session.{ChangesFile, LoadsFile};
+ghost use Rattle.script_commands.specs.Session.{ChangesFile, LoadsFile};
 
-use crate::outside::Outside;
+use crate::surroundings::Outside;
 use gix_config::File;
 use gix_config::file::{Metadata, Section};
 use script_words::words::{Place, Slot};

@@ -1,6 +1,6 @@
 -- What a call keeps of a session.
 use Rattle.std.specs.Prelude.{◌≡◌}
-use Rattle.script_session.specs.declared.session.Session.{Session}
+use Rattle.script_commands.specs.declared.session.Session.{Session}
 use Rattle.script_words.specs.declared.words.Slot.{Slot}
 use Rattle.script_words.specs.declared.words.Slot.TheVariants.{F, G, H, I}
 
