@@ -95,7 +95,7 @@ puts_within (edits.RenameAll name subsection keeps new_name new_subsection) stat
     go : (b : Bool) → list_any (is_target name subsection keeps) state.sections ≡ b → put_bytes (edits.RenameAll name subsection keeps new_name new_subsection) state ≤ all
     go true is = subst (λ b. (if not b then 0 else header_bytes new_name new_subsection) ≤ all) (sym is)
         (headers_tokens (is_target name subsection keeps) state.sections (spelled_header (made_header new_name new_subsection)) (header_bytes new_name new_subsection) (header_tokens new_name new_subsection) is)
-    go false is = subst (λ b. (if not b then 0 else header_bytes new_name new_subsection) ≤ all) (sym is) (zero-le all)
+    go false is = subst (λ b. (if not b then 0 else header_bytes new_name new_subsection) ≤ all) (sym is) zero-le
 puts_within (edits.NewSection name subsection) state = let h = header_tokens name subsection in omega (arith, h)
 puts_within (edits.PushSection detached) state = omega arith
 puts_within (edits.RemoveSection name subsection keeps) state = omega arith

@@ -84,7 +84,7 @@ not_told value is = ap is_set_true is
 
 pub refused_told : (value : Option (Option (List ℕ))) (e : ValueError) → IsEntryBoolean value (Err e) → (e.number ≡ 27 → ⊥) → is_set_true (option_map boolean_or_refusal value) ≡ false
 refused_told value e (inl is) other = ap is_set_true is
-refused_told value e (inr (text, (some, is))) other = absurd (other (ap (λ (x : ValueError). x.number) is))
+refused_told value e (inr (text, some, is)) other = absurd (other (ap (λ (x : ValueError). x.number) is))
 
 module _ (table : Option (List ℕ → FileReport)) (folder : List ℕ) (local : State) where
   pub no_worktree : has_worktree local ≡ false → IsWorktree table folder local (Ok None)

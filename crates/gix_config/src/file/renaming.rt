@@ -37,6 +37,7 @@ impl File {
     ) -> Result<(), rename_section::Error>
         ensures exact { IsEdited rename_refusal (RenameAll name.now (option_copied subsection_name.entry) (λ _. true) new_name.now
             (option_map bstring_bytes new_subsection_name)) result self.old self.new }
+        ensures err { OnErr result (self.new ≡ self.old) }
     {
         self.rename_section_filter(name, subsection_name, new_name, new_subsection_name, |_| {
             true
