@@ -5,3 +5,4 @@ pub mod LineStart
 pub mod ToldLemmas
 pub mod PlaceLemmas
 pub mod FaultLemmas
+pub mod ValueLemmas

@@ -23,7 +23,6 @@ Tells (Ok (Some was)) number had block = (number ≡ 0) × (had ≡ true) × Hol
 Tells (Err refusal) number had block = number ≡ set_number refusal
 
 -- the value was set, or refused
-abbrev pub IsSetTo : Key → (value : List ℕ) → (old new : State) → (number : ℕ) → (had : Bool) → Block → Type 0
-IsSetTo key value old new number had block = (number ≡ 27 → ⊥)
-    → (r : Result (Option BString) set_raw_value.Error) × IsSetByKey key (λ _. true) value r old new
-    × IfOk r (λ o. Raw (option_map bstring_bytes o) ≡ answer (set_by_key key (λ _. true) value) old) × Tells r number had block
+pub record IsSetTo (key : Key) (value : List ℕ) (old new : State) (number : ℕ) (had : Bool) (block : Block) : Type 0 where
+  pub told : (number ≡ 27 → ⊥) → (r : Result (Option BString) set_raw_value.Error) × IsSetByKey key (λ _. true) value r old new
+      × IfOk r (λ o. Raw (option_map bstring_bytes o) ≡ answer (set_by_key key (λ _. true) value) old) × Tells r number had block

@@ -7,7 +7,7 @@ use Rattle.gix_config_c.specs.Blocks.{Holds}
 use Rattle.gix_config_c.specs.declared.block.Block.{Block}
 use Rattle.gitconf_body.specs.declared.value.Error.{Error}
 use Rattle.gitconf_state.specs.Edits.{Push, Raw, Remove, answer, apply}
-use Rattle.gitconf_state.specs.Editors.{editor_of}
+use Rattle.gitconf_state.specs.Editors.{Editor, editor_of}
 use Rattle.gitconf_state.specs.Lookup.{listed, miss_of}
 use Rattle.gitconf_state.specs.State.{SectionState, State}
 use Rattle.gitconf_body.specs.Refusals.{value_refusal}
@@ -27,11 +27,14 @@ abbrev pub answered : {T : Type 0} → Result T Error → ℕ
 answered (Ok _) = 0
 answered (Err refusal) = value_number refusal
 
--- an entry was put into the section, with the blanks that the section uses, or refused
+-- an entry was put into the section of a number, by an editor that writes this, or refused
+pub record IsEntryPushed (section : ℕ) (editor : Editor) (name : List ℕ) (value : Option (List ℕ)) (old new : State) (number : ℕ) : Type 0 where
+  pub pushed : (r : Result (Unit {0}) Error) × IsEdited value_refusal (Push section editor name value None) r old new × (number ≡ answered r)
+
+-- the same for the section of a key, with the blanks that the section uses
 pub record IsPushed (key : Key) (value : Option (List ℕ)) (old new : State) (number : ℕ) : Type 0 where
   pub nowhere : section_of key old ≡ None → number ≡ missing_number key old
-  pub pushed : (s : SectionState) → section_of key old ≡ Some s → (number ≡ 27 → ⊥)
-      → (r : Result (Unit {0}) Error) × IsEdited value_refusal (Push s.number (editor_of old s) key.name value None) r old new × (number ≡ answered r)
+  pub pushed : (s : SectionState) → section_of key old ≡ Some s → (number ≡ 27 → ⊥) → IsEntryPushed s.number (editor_of old s) key.name value old new number
 
 -- Number 0 where the last entry of the name was removed from the section of a number, and the block holds the raw text of its value; 100
 -- where there was none to remove; else memory ran out, and nothing changed.

@@ -1,19 +1,22 @@
 //! Entries, put into sections and removed from them.
+ghost use Rattle.std.specs.Option.{option_copied};
 ghost use Rattle.std.specs.Prelude.{◌≡◌, if◌then◌else◌, None, Some};
+ghost use Rattle.gitconf_sources.specs.Key.{key_of};
 ghost use Rattle.gix_config_c.specs.Blocks.{IsKept};
 ghost use Rattle.gix_config_c.specs.Keys.{names_of};
 ghost use Rattle.gix_config_c.specs.declared.object.Object.TheVariants as object;
 ghost use Rattle.gitconf_state.specs.State.{State};
-ghost use Rattle.gix_config.specs.SectionEditors.{edited, lent, number_of};
+ghost use Rattle.gix_config.specs.SectionEditors.{edited, editor, lent, number_of};
 ghost use Rattle.gix_config_c.specs.Answers.{OfFile, OfKey};
 ghost use Rattle.gix_config_c.specs.Edited.{IsEditedFile};
-ghost use Rattle.gix_config_c.specs.Entries.{IsEntryRemoved, IsPushed, IsValueRemoved};
+ghost use Rattle.gix_config_c.specs.Entries.{IsEntryPushed, IsEntryRemoved, IsPushed, IsValueRemoved};
 
 use crate::block::{Block, room};
 use crate::key::{Key, names};
 use crate::object::Object;
 use crate::slot::Slot;
 use crate::{DONE, NOT_UTF8, NOTHING_THERE, OUT_OF_MEMORY, WRONG_HANDLE};
+use gitconf_sources::key::KeyRef;
 use gix_config::File;
 use gix_config::file::SectionMut;
 use gix_config::refusals::Refusal as _;
@@ -56,11 +59,30 @@ fn push(file: &mut File, key: &Key<'_>, has_value: bool, value: &[u8]) -> u32
         return NOT_UTF8;
     };
     let value = if has_value { Some(value) } else { None };
+    push_value(file, key, value)
+}
+
+/// Adds an entry to the section of a key.
+#[tactic(auto, using(crate::proofs::ValueLemmas::pushed_in))]
+fn push_value(file: &mut File, key: KeyRef<'_>, value: Option<&[u8]>) -> u32
+    ensures edited { IsEditedFile result file.old file.new }
+    ensures answer { IsPushed (key_of key.entry) (option_copied value.entry) file.old file.new result }
+{
     match file.section_mut(key.section_name, key.subsection_name) {
-        Ok(mut section) => match section.push(key.value_name, value) {
-            Ok(()) => DONE,
-            Err(refusal) => u32::from(refusal.number()),
-        },
+        Ok(mut section) => push_entry(&mut section, key.value_name, value),
+        Err(refusal) => u32::from(refusal.number()),
+    }
+}
+
+/// Adds an entry to a section.
+fn push_entry(section: &mut SectionMut<'_>, name: &str, value: Option<&[u8]>) -> u32
+    ensures same_file { lent section.new ≡ lent section.old }
+    ensures edited { IsEditedFile result (edited section.old) (edited section.new) }
+    ensures answer { IsEntryPushed (number_of section.old) (editor section.old) name.now (option_copied value.entry) (edited section.old)
+        (edited section.new) result }
+{
+    match section.push(name, value) {
+        Ok(()) => DONE,
         Err(refusal) => u32::from(refusal.number()),
     }
 }

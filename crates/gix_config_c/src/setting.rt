@@ -50,6 +50,7 @@ pub extern "C" fn gix_config_set_value(
 }
 
 /// Gives a key of a file a value.
+#[tactic(auto, using(crate::proofs::ValueLemmas::set_with_old))]
 fn put_value(
     alloc: Global,
     file: &mut File,

@@ -1,0 +1,30 @@
+-- A value that was set and an entry that was pushed, by what the library returned.
+use Rattle.std.proofs.Common.{◌≡◌, ℕ, List, Option, Some, None, Ok, option_map, true, false, refl, ap, sym, subst, ◌∙◌}
+use Rattle.bstr.specs.declared.bstring.BString.{BString}
+use Rattle.bstr.specs.Owned.{bstring_bytes}
+use Rattle.gitconf_sources.specs.Key.{Key}
+use Rattle.gitconf_state.specs.Edits.{Raw, answer}
+use Rattle.gitconf_state.specs.Editors.{Editor, editor_of}
+use Rattle.gitconf_state.specs.State.{SectionState, State}
+use Rattle.gix_config.specs.SectionEditors.{editor_at}
+use Rattle.gix_config.specs.Keys.{set_by_key, IsSetByKey}
+use Rattle.gix_config_c.specs.Blocks.{Holds}
+use Rattle.gix_config_c.specs.Edited.{IsSetTo}
+use Rattle.gix_config_c.specs.Entries.{IsEntryPushed, IsPushed, section_of}
+use Rattle.gix_config_c.specs.declared.block.Block.{Block}
+
+pub set_with_old : (key : Key) (value : List ℕ) (old new : State) (was : BString) (block : Block) → IsSetByKey key (λ _. true) value (Ok (Some was)) old new
+    → Raw (Some (bstring_bytes was)) ≡ answer (set_by_key key (λ _. true) value) old → Holds (bstring_bytes was) block → IsSetTo key value old new 0 true block
+set_with_old key value old new was block is told holds = record { told = λ no. (Ok (Some was), is, told, (refl, refl, holds)) }
+
+pub pushed_in : (key : Key) (value : Option (List ℕ)) (old new : State) (number : ℕ) (told : ℕ × Editor) → option_map (editor_at old) (section_of key old) ≡ Some told
+    → IsEntryPushed told.0 told.1 key.name value old new number → IsPushed key value old new number
+pushed_in key value old new number told found pushed = record {
+  nowhere = λ none. absurd (let no = sym (ap (option_map (editor_at old)) none) ∙ found in cc);
+  pushed = λ s is out.
+      let same : editor_at old s ≡ told = some_same (editor_at old s) told (sym (ap (option_map (editor_at old)) is) ∙ found) in
+      subst (λ (t : ℕ × Editor). IsEntryPushed t.0 t.1 key.name value old new number) (sym same) pushed;
+}
+  where
+    some_same : (a b : ℕ × Editor) → Some a ≡ Some b → a ≡ b
+    some_same a b is = cc
