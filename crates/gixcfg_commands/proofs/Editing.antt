@@ -40,8 +40,8 @@ module _ (name : List ℕ) (subsection : Option (List ℕ)) (new_name : List ℕ
       → IsCarriedOut (unrenamed name subsection new_name new_subsection old) (apply (RenameAll name subsection (λ _. true) new_name new_subsection)) (Ok tt) old new
   done_so result is ok = go (subst (λ r. IsEdited rename_refusal (RenameAll name subsection (λ _. true) new_name new_subsection) r old new) ok is)
     where
-      go : IsEdited rename_refusal (RenameAll name subsection (λ _. true) new_name new_subsection) (Ok tt) old new
-          → IsCarriedOut (unrenamed name subsection new_name new_subsection old) (apply (RenameAll name subsection (λ _. true) new_name new_subsection)) (Ok tt) old new
+      go : IsEdited {T = Unit {0}} {E = Error} rename_refusal (RenameAll name subsection (λ _. true) new_name new_subsection) (Ok (tt {0})) old new
+          → IsCarriedOut (unrenamed name subsection new_name new_subsection old) (apply (RenameAll name subsection (λ _. true) new_name new_subsection)) (Ok (tt {0})) old new
       go is = (no_cause (first_cause (causes (RenameAll name subsection (λ _. true) new_name new_subsection) old)) is.told, ap printed is.ok)
 
   -- one that isn't tells its cause
@@ -64,7 +64,7 @@ module _ (name : List ℕ) (subsection : Option (List ℕ)) (new_name : List ℕ
       → IsCarriedOut (unrenamed name subsection new_name new_subsection old) (apply (RenameAll name subsection (λ _. true) new_name new_subsection)) (Err (trouble_of_renaming refusal)) old new
   refused_so result refusal is err = go (subst (λ r. IsEdited rename_refusal (RenameAll name subsection (λ _. true) new_name new_subsection) r old new) err is)
     where
-      go : IsEdited rename_refusal (RenameAll name subsection (λ _. true) new_name new_subsection) (Err refusal) old new
+      go : IsEdited {T = Unit {0}} {E = Error} rename_refusal (RenameAll name subsection (λ _. true) new_name new_subsection) (Err refusal) old new
           → IsCarriedOut (unrenamed name subsection new_name new_subsection old) (apply (RenameAll name subsection (λ _. true) new_name new_subsection)) (Err (trouble_of_renaming refusal)) old new
       go is = why (first_cause (causes (RenameAll name subsection (λ _. true) new_name new_subsection) old)) refusal is.told
 
