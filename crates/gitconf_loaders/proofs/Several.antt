@@ -17,10 +17,12 @@ use Rattle.gitconf_includes.specs.declared.init.Error.TheVariants as init
 use Rattle.gitconf_includes.specs.declared.init.Options.{Options}
 use Rattle.gitconf_includes.specs.Errors.{init_number}
 use Rattle.gitconf_text.specs.Sections.{no_number}
-use Rattle.gitconf_state.specs.Edit.{with_used}
-use Rattle.gitconf_state.specs.Edits.{Append, apply}
+use Rattle.gitconf_state.specs.Edits.{Append}
 use Rattle.gitconf_state.specs.State.{State}
+use Rattle.gitconf_body.specs.Refusals.{span_refusal}
 use Rattle.gitconf_store.specs.Appends.{appended_bytes}
+use Rattle.gitconf_store.specs.Edited.{IsEdited}
+use Rattle.gitconf_store.proofs.Files.Appended.{append_told}
 use Rattle.gitconf_includes.specs.Expansion.{Asks, Ended, On}
 use Rattle.gitconf_includes.specs.Outcomes.{CountsFault}
 use Rattle.gitconf_loaders.specs.Resolving.{IsMadeCause, IsMadeOf}
@@ -55,10 +57,10 @@ shut_room target other large = go (target.used + appended_bytes other target) (t
         second false y is = refl
 
 -- a file that goes after another one
-pub joined : (target other now : State) → now ≡ with_used now.used (apply (Append other) target) → now.used ≡ target.used + appended_bytes other target
-    → ((2 ^ 32 ≤ target.used + appended_bytes other target) ⊎ (no_number < target.next + length other.sections) → ⊥) → Joins (Some target) other (Ok (Some now))
-joined target other now is put not_large =
-    rw (open_room target other not_large, Joins) (now, is ∙ ap (λ n. with_used n (apply (Append other) target)) put, refl)
+pub joined : (target other now : State) → IsEdited span_refusal (Append other) (Ok tt) target now → Joins (Some target) other (Ok (Some now))
+joined target other now appended =
+    let told = append_told other (Ok tt) target now appended in
+    rw (open_room target other (λ large. let no = told.too_large.1 large in cc), Joins) (now, appended.ok, refl)
 
 -- a refusal of a span keeps its number
 pub span_number : (n : ℕ) → paths_number (paths_of_span n) ≡ n
@@ -71,6 +73,9 @@ span_number n = go (n == 27) refl
 -- what an append says of its refusals
 abbrev pub IsAppendRefusal : (target other : State) → (n : ℕ) → Type 0
 IsAppendRefusal target other n = ((n ≡ 3) ⊎ (n ≡ 27)) × (n ≡ 3 → (2 ^ 32 ≤ target.used + appended_bytes other target) ⊎ (no_number < target.next + length other.sections))
+
+pub append_refused : (target other now : State) (n : ℕ) → IsEdited {T = Unit {0}} span_refusal (Append other) (Err n) target now → IsAppendRefusal target other n
+append_refused target other now n appended = let told = append_told other (Err n) target now appended in (told.known, λ three. told.too_large.0 (ap Err three))
 
 -- one for which there is no room, or for which memory ran out
 pub not_joined : (target other : State) (n : ℕ) (result : Result Unit Error) (now : Option State) → IsAppendRefusal target other n → IsErrAnd result (λ r. r ≡ paths_of_span n)

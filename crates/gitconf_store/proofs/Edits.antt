@@ -8,3 +8,5 @@ pub mod Existing
 pub mod Trusting
 pub mod LeavingOut
 pub mod ItemsEdits
+pub mod Numbered
+pub mod Refused

@@ -2,4 +2,5 @@
 pub mod Cloning
 pub mod Appending
 pub mod AppendedFiles
+pub mod Appended
 pub mod Woven

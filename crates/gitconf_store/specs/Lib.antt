@@ -2,7 +2,6 @@ pub mod Removals
 pub mod Edits
 pub mod SetErrors
 pub mod Several
-pub mod Editors
 pub mod Existing
 pub mod RenameErrors
 pub mod Renamings

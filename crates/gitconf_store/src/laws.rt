@@ -21,7 +21,7 @@ ghost use Rattle.gitconf_body.specs.declared.editor.Editor.{Editor};
 ghost use Rattle.gitconf_body.specs.Editors.{line_put, set_put};
 ghost use Rattle.gitconf_body.specs.ValuesAt.{rewritten_put, written_put};
 ghost use Rattle.gitconf_store.specs.Appends.{appended_bytes};
-ghost use Rattle.gitconf_store.specs.Editors.{given_editor};
+ghost use Rattle.gitconf_body.specs.Blanks.{given_editor};
 ghost use Rattle.gitconf_store.specs.Several.{meaning_of_place, moved_up};
 ghost use Rattle.gitconf_lookups.specs.ValuePlaces.{editor_of_numbered, meaning_at};
 

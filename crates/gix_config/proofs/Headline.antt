@@ -1,17 +1,20 @@
 -- What calls leave of a file that reads back, and what is written of it.
-use Rattle.std.proofs.Common.{◌≡◌, ◌==◌, ◌||◌, ◌&&◌, ℕ, Bool, true, false, not, List, [], ◌∷◌, map, Option, Some, None, Result, Ok, Err, refl, ap, sym, subst, ◌∙◌}
-use Rattle.std.specs.Prelude.{IsErrOf}
+use Rattle.std.proofs.Common.{◌≡◌, ◌==◌, ◌+◌, ◌||◌, ◌&&◌, ℕ, Bool, true, false, not, List, [], ◌∷◌, map, Option, Some, None, Result, Ok, Err, inl, inr, refl, ap, sym, subst, ◌∙◌, arith}
+use Rattle.std.specs.Prelude.{IfErr, IfOk, IsErrOf, OnErr, OnOk}
 use Rattle.std.specs.List.{AllByRecursion, list_any}
 use Rattle.gitconf_text.specs.Document.{DocumentSection, IsText, Reads, gathered, unmarked}
 use Rattle.gitconf_text.specs.Names.{is_made_name, is_valid_or_none, is_value_name}
 use Rattle.gitconf_text.specs.Part.{Part}
 use Rattle.gitconf_text.specs.Sections.{no_number}
 use Rattle.gitconf_text.specs.Token.{tokens_of}
+use Rattle.gitconf_sources.specs.Key.{Key}
 use Rattle.gitconf_sources.specs.Metadata.{Meta}
+use Rattle.gitconf_sources.specs.Reports.{FileReport}
 use Rattle.gitconf_state.specs.Clean.{IsClean}
 use Rattle.gitconf_state.specs.Edit.{header_bytes, is_target, with_used}
 use Rattle.gitconf_state.specs.Edits as edits
-use Rattle.gitconf_state.specs.Edits.{Answer, AreCleanEdits, Edit, IsCleanEdit, IsEdit, answer, apply}
+use Rattle.gitconf_state.specs.Edits.{Answer, Edit, IsCleanEdit, IsEdit, answer, apply}
+use Rattle.gitconf_state.specs.Editors.{InsteadOf, OfEntry, OfEntryButLineEnd}
 use Rattle.gitconf_state.specs.Equality.{AreEqual, compared}
 use Rattle.gitconf_state.specs.Loads.{IsFullLoad}
 use Rattle.gitconf_state.specs.Made.{IsMade}
@@ -23,8 +26,22 @@ use Rattle.gitconf_state.proofs.Loading.Document.{full_document}
 use Rattle.gitconf_state.proofs.Printing.ReadsBack.{all_reads_back}
 use Rattle.gitconf_read.proofs.OneDocument as one
 use Rattle.gitconf_body.specs.Done.{Cause, InvalidKey, InvalidName, InvalidSubsection, IsRefusedFor, Missing, OutOfMemory, TooLarge, first_cause, is_full, key_causes}
-use Rattle.gitconf_store.specs.Edited.{IsEdited, causes, done, put_bytes}
-use Rattle.gix_config.specs.Headline.{AreAlike, Ending, Ends, IsCall, Runs}
+use Rattle.gitconf_body.specs.Refusals.{span_refusal}
+use Rattle.gitconf_body.specs.ValuesAt.{rewritten_put}
+use Rattle.gitconf_includes.specs.declared.includes.Error.{Error as IncludesError}
+use Rattle.gitconf_includes.specs.Errors.{includes_number}
+use Rattle.gitconf_includes.specs.Expansion as expansions
+use Rattle.gitconf_includes.specs.Expansion.{Asks, Ended, Expands, On, Reached}
+use Rattle.gitconf_includes.specs.Laws.{AreHeaded, file_of}
+use Rattle.gitconf_includes.proofs.States.{clean_stays, items_stay}
+use Rattle.gitconf_lookups.specs.ValuePlaces.{value_place}
+use Rattle.gitconf_store.specs.declared.set_raw_value.Error.{Error as SetError}
+use Rattle.gitconf_store.specs.Edited.{IsEdited, bytes_in, causes, put_bytes}
+use Rattle.gitconf_store.specs.Existing.{IsRewritten, IsSetWhere, rewriting}
+use Rattle.gitconf_store.specs.SetErrors.{set_refusal}
+use Rattle.gitconf_store.specs.Several.{AreRewritten}
+use Rattle.gix_config.specs.Headline.{AreAlike, Call, Edits, Ending, Ends, IsCleanCall, IsHanded, Leaves, Resolves, Runs, SetsAllExisting, SetsExisting, SetsValues}
+use Rattle.gix_config.proofs.NewEditors.{editor_of_value}
 
 -- If none of the causes holds, the names are valid.
 keyed : (key full : Bool) → first_cause ((not key, InvalidKey) ∷ (full, TooLarge) ∷ []) ≡ None → key ≡ true
@@ -49,7 +66,7 @@ set_names true false true true full used_up is = refl
 set_names true false true false full used_up is = absurd (cc)
 set_names true false false valid full used_up is = absurd (cc)
 
-pub done_is_edit : (edit : Edit) (state : State) → IsCall edit → first_cause (causes edit state) ≡ None → IsEdit edit state
+pub done_is_edit : (edit : Edit) (state : State) → IsHanded edit → first_cause (causes edit state) ≡ None → IsEdit edit state
 done_is_edit (edits.SetRawValue name subsection key keeps value) state is none =
     set_names (is_value_name key) (list_any (is_target name subsection keeps) state.sections) (is_made_name name) (is_valid_or_none subsection)
     (is_full state.used (put_bytes (edits.SetRawValue name subsection key keeps value) state)) (state.next == no_number) none
@@ -66,7 +83,8 @@ done_is_edit (edits.Pop number) state is none = tt
 done_is_edit (edits.WriteAt number editor place instead key value) state is none =
     (is, keyed (is_value_name key) (is_full state.used (put_bytes (edits.WriteAt number editor place instead key value) state)) none)
 done_is_edit (edits.DeleteAt number place) state is none = tt
-done_is_edit (edits.Rename number name subsection) state is none = headed (is_made_name name) (is_valid_or_none subsection) (is_full state.used (header_bytes name subsection)) none
+done_is_edit (edits.Rename number name subsection) state is none =
+    headed (is_made_name name) (is_valid_or_none subsection) (is_full state.used (put_bytes (edits.Rename number name subsection) state)) none
 done_is_edit (edits.RenameAll name subsection keeps new_name new_subsection) state is none =
     found_headed _ (not (list_any (is_target name subsection keeps) state.sections)) (is_made_name new_name) (is_valid_or_none new_subsection)
     (is_full state.used (header_bytes new_name new_subsection)) none
@@ -81,32 +99,79 @@ done_is_edit (edits.SetTrust number trust) state is none = tt
 done_is_edit (edits.SetMeta meta) state is none = tt
 
 -- A call that is done had no cause not to be.
-no_cause : {T : Type 0} (o : Option Cause) (t : T) → IsRefusedFor (λ cause. cause) o (Ok t) → o ≡ None
-no_cause None t told = refl
-no_cause (Some cause) t told = absurd (cc)
+no_cause : {T E : Type 0} (refusal : Cause → E) (o : Option Cause) (t : T) → IsRefusedFor refusal o (Ok t) → o ≡ None
+no_cause refusal None t told = refl
+no_cause refusal (Some cause) t told = absurd (cc)
 
--- What each call keeps.
-kept_by : (edit : Edit) (old new : State) (ending : Ending) → IsCall edit → IsCleanEdit edit → HasItems old → IsClean old → Ends edit old ending new → HasItems new × IsClean new
-kept_by edit old new (Err cause) is clean items tidy ends = subst (λ s. HasItems s × IsClean s) (sym ends.0.err) (items, tidy)
-kept_by edit old new (Ok told) is clean items tidy ends =
-    let named = done_is_edit edit old is (no_cause (first_cause (causes edit old)) told ends.0.told) in
-    let all = apply_items edit old named items in
-    let neat = apply_clean edit old clean tidy in
-    subst (λ s. HasItems s × IsClean s) (sym ends.0.ok)
+-- What is kept from call to call.
+Keeps : State → Type 0
+Keeps state = HasItems state × IsClean state
+
+-- an edit that is clean keeps it, whatever the buffer then has
+kept_after : (edit : Edit) (used : ℕ) (old : State) → IsEdit edit old → IsCleanEdit edit → Keeps old → Keeps (with_used used (apply edit old))
+kept_after edit used old is clean kept =
+    let all = apply_items edit old is kept.0 in
+    let neat = apply_clean edit old clean kept.1 in
     ((record { front = all.front; sections = all.sections }), (record { sections = neat.sections; blanks = neat.blanks; names = neat.names }))
 
-pub runs_keep : (calls : List Edit) (endings : List Ending) (old new : State) → AllByRecursion IsCall calls → AreCleanEdits calls → HasItems old → IsClean old → Runs calls old endings new
-    → HasItems new × IsClean new
-runs_keep [] endings old new are clean items tidy runs = subst (λ s. HasItems s × IsClean s) (sym runs.1) (items, tidy)
-runs_keep (edit ∷ calls) [] old new are clean items tidy runs = absurd runs
-runs_keep (edit ∷ calls) (ending ∷ endings) old new are clean items tidy runs =
-    let kept = kept_by edit old runs.0 ending are.0 clean.0 items tidy runs.1 in
-    runs_keep calls endings runs.0 new are.1 clean.1 kept.0 kept.1 runs.2
+kept_by_edit : (edit : Edit) (old new : State) (ending : Ending) → IsHanded edit → IsCleanEdit edit → Keeps old → Ends edit old ending new → Keeps new
+kept_by_edit edit old new (Err cause) is clean kept ends = subst Keeps (sym ends.0.err) kept
+kept_by_edit edit old new (Ok told) is clean kept ends =
+    let named = done_is_edit edit old is (no_cause (λ cause. cause) (first_cause (causes edit old)) told ends.0.told) in
+    subst Keeps (sym ends.0.ok) (kept_after edit (old.used + put_bytes edit old) old named clean kept)
+
+-- so does an entry that is rewritten
+kept_by_rewriting : {E : Type 0} (refusal : Cause → E) (instead : InsteadOf) (place : ℕ × ℕ) (key value : List ℕ) (result : Result (Unit {0}) E) (old new : State) → Keeps old
+    → IsRewritten refusal instead place key value result old new → Keeps new
+kept_by_rewriting refusal instead place key value (Err e) old new kept is = subst Keeps (sym is.err) kept
+kept_by_rewriting refusal instead place key value (Ok done) old new kept is =
+    let count = bytes_in place.0 (rewritten_put key value) old in
+    let named = keyed (is_value_name key) (is_full old.used count) (no_cause refusal (first_cause (key_causes key old.used count)) done is.told) in
+    subst Keeps (sym is.ok) (kept_after (rewriting instead place key value old) (old.used + count) old (editor_of_value place.0 old kept.0, named) tt kept)
+
+kept_by_rewritings : {E : Type 0} (refusal : Cause → E) (key : List ℕ) (places : List (ℕ × ℕ)) (values : List (List ℕ)) (result : Result (Unit {0}) E) (old new : State) → Keeps old
+    → AreRewritten refusal key places values result old new → Keeps new
+kept_by_rewritings refusal key [] values result old new kept made = subst Keeps (sym made.1) kept
+kept_by_rewritings refusal key (place ∷ places) [] result old new kept made = subst Keeps (sym made.1) kept
+kept_by_rewritings refusal key (place ∷ places) (value ∷ values) result old new kept (inl first) =
+    kept_by_rewritings refusal key places values result first.0 new (kept_by_rewriting refusal OfEntry place key value (Ok tt) old first.0 kept first.1) first.2
+kept_by_rewritings refusal key (place ∷ places) (value ∷ values) result old new kept (inr last) = kept_by_rewriting refusal OfEntry place key value result old new kept last.1
+
+kept_where : (o : Option (ℕ × ℕ)) (key : Key) (value : List ℕ) (result : Result (Unit {0}) SetError) (old new : State) → Keeps old → IsSetWhere o key value result old new → Keeps new
+kept_where None key value result old new kept is = subst Keeps (sym is.1) kept
+kept_where (Some place) key value result old new kept is = kept_by_rewriting set_refusal OfEntryButLineEnd place key.name value result old new kept is
+
+-- so does an expansion
+kept_by_expansion : (asks : Asks) (result : Result (Unit {0}) IncludesError) (old new : State) (files : List ℕ → FileReport) → asks.table ≡ Some files → AreHeaded files → Keeps old
+    → expansions.Resolves includes_number asks old result new → Keeps new
+kept_by_expansion asks result old new files table headed kept is = left result is.0 is.2 (reached (asks.rules.max_depth == 0) is.1)
+  where
+    reached : (b : Bool) → (elim b as (λ _. Type 0) [ true ↦ is.0 ≡ On old | false ↦ Expands asks.rules.max_depth asks None old is.0 ]) → Keeps (file_of is.0)
+    reached true same = subst (λ r. Keeps (file_of r)) (sym same) kept
+    reached false all = (items_stay asks.rules.max_depth asks None old is.0 kept.0 all, clean_stays files asks.rules.max_depth asks None old is.0 table headed kept.1 all)
+
+    left : (result : Result (Unit {0}) IncludesError) (r : Reached) → expansions.Leaves includes_number result new r → Keeps (file_of r) → Keeps new
+    left (Ok done) r leaves there = subst Keeps (ap file_of leaves) there
+    left (Err e) (Ended n file) leaves there = subst Keeps (sym leaves.1) there
+    left (Err e) (On done) leaves there = absurd leaves
+
+kept_by : (call : Call) (old new : State) → IsCleanCall call → Keeps old → Leaves call old new → Keeps new
+kept_by (Edits edit ending) old new clean kept leaves = kept_by_edit edit old new ending clean.0 clean.1 kept leaves
+kept_by (SetsExisting key value result) old new clean kept leaves = kept_where (value_place key (λ _. true) old) key value result old new kept leaves
+kept_by (SetsAllExisting key values result) old new clean kept (inl unset) = subst Keeps (sym unset.3) kept
+kept_by (SetsAllExisting key values result) old new clean kept (inr set) = kept_by_rewritings set_refusal key.name set.2 values result old new kept set.4
+kept_by (SetsValues key places values result) old new clean kept leaves = kept_by_rewritings span_refusal key places values result old new kept leaves
+kept_by (Resolves asks result) old new clean kept leaves = kept_by_expansion asks result old new clean.0 clean.1 clean.2 kept leaves
+
+pub runs_keep : (calls : List Call) (old new : State) → AllByRecursion IsCleanCall calls → HasItems old → IsClean old → Runs calls old new → HasItems new × IsClean new
+runs_keep [] old new clean items tidy runs = subst Keeps (sym runs) (items, tidy)
+runs_keep (call ∷ calls) old new clean items tidy runs =
+    let kept = kept_by call old runs.0 clean.0 (items, tidy) runs.1 in
+    runs_keep calls runs.0 new clean.1 kept.0 kept.1 runs.2
 
 -- So what is written after them reads to their document.
-pub runs_read : (calls : List Edit) (endings : List Ending) (old new : State) → AllByRecursion IsCall calls → AreCleanEdits calls → HasItems old → IsClean old → Runs calls old endings new
-    → Reads (printed new) (document_of new)
-runs_read calls endings old new are clean items tidy runs = let kept = runs_keep calls endings old new are clean items tidy runs in all_reads_back new kept.0 kept.1
+pub runs_read : (calls : List Call) (old new : State) → AllByRecursion IsCleanCall calls → HasItems old → IsClean old → Runs calls old new → Reads (printed new) (document_of new)
+runs_read calls old new clean items tidy runs = let kept = runs_keep calls old new clean items tidy runs in all_reads_back new kept.0 kept.1
 
 -- A whole load has items and is clean.
 pub made_is_load : (parts : List Part) (place : Meta) (bytes : ℕ) (file : State) → IsMade (tokens_of parts) place bytes file → IsFullLoad parts file
@@ -127,22 +192,38 @@ loads_equal new again parts place bytes reads is made =
       all_mapped compared section_document again.sections ∙ ap (λ d. map compared d.sections) document ∙ sym (all_mapped compared section_document new.sections),
     )
 
--- Each call's contract says that it ends so: with its answer, or refused for the cause that its refusal tells.
-pub is_step : {T E : Type 0} (refusal : Cause → E) (edit : Edit) (result : Result T E) (old new : State) → IsEdited refusal edit result old new → (ending : Ending) × Ends edit old ending new × AreAlike refusal ending result
-is_step {T} {E} refusal edit (Ok t) old new is = (
+-- Each contract says that an edit ends so: with its answer, or refused for the cause that its refusal tells.
+pub is_step : {T E : Type 0} (shown : T → Answer) (refusal : Cause → E) (edit : Edit) (result : Result T E) (old new : State) → IfOk result (λ t. shown t ≡ answer edit old)
+    → IsEdited refusal edit result old new → (ending : Ending) × Ends edit old ending new × AreAlike shown refusal ending result
+is_step {T} {E} shown refusal edit (Ok t) old new told is = (
   Ok (answer edit old),
   (record { ok = is.ok; err = tt; told = answered (first_cause (causes edit old)) is.told }, refl),
-  tt,
+  sym told,
 )
   where
     answered : (o : Option Cause) → IsRefusedFor {T = T} {E = E} refusal o (Ok t) → IsRefusedFor (λ cause. cause) o (Ok (answer edit old))
     answered None told = tt
     answered (Some cause) told = absurd (cc)
-is_step {T} {E} refusal edit (Err e) old new is = go (first_cause (causes edit old)) refl is.told
+is_step {T} {E} shown refusal edit (Err e) old new told is = go (first_cause (causes edit old)) refl is.told
   where
     same : (cause : Cause) → IsErrOf {T = T} (Err e) (refusal cause) → e ≡ refusal cause
     same cause is = cc
 
-    go : (o : Option Cause) → first_cause (causes edit old) ≡ o → IsRefusedFor {T = T} {E = E} refusal o (Err e) → (ending : Ending) × Ends edit old ending new × AreAlike {T = T} refusal ending (Err e)
+    go : (o : Option Cause) → first_cause (causes edit old) ≡ o → IsRefusedFor {T = T} {E = E} refusal o (Err e)
+        → (ending : Ending) × Ends edit old ending new × AreAlike {T = T} shown refusal ending (Err e)
     go None at told = (Err OutOfMemory, (record { ok = tt; err = is.err; told = subst (λ o. IsRefusedFor {T = Answer} (λ cause. cause) o (Err OutOfMemory)) (sym at) refl }, tt), told)
     go (Some cause) at told = (Err cause, (record { ok = tt; err = is.err; told = subst (λ o. IsRefusedFor {T = Answer} (λ cause. cause) o (Err cause)) (sym at) refl }, tt), same cause told)
+
+-- So does one that nothing but want of memory refuses, and that adds no bytes.
+pub is_free_step : {T E : Type 0} (shown : T → Answer) (refusal : E) (edit : Edit) (result : Result T E) (old new : State) → causes edit old ≡ [] → put_bytes edit old ≡ 0
+    → (apply edit old).used ≡ old.used → IfErr result (λ e. e ≡ refusal) → IfOk result (λ t. shown t ≡ answer edit old) → OnOk result (new ≡ apply edit old) → OnErr result (new ≡ old)
+    → (ending : Ending) × Ends edit old ending new × AreAlike shown (λ _. refusal) ending result
+is_free_step {T} {E} shown refusal edit result old new none no_bytes used only told ok err = is_step shown (λ _. refusal) edit result old new told (step result only ok err)
+  where
+    step : (r : Result T E) → IfErr r (λ e. e ≡ refusal) → OnOk r (new ≡ apply edit old) → OnErr r (new ≡ old) → IsEdited (λ _. refusal) edit r old new
+    step (Ok t) only ok err = record {
+      ok = ok ∙ ap (λ n. with_used n (apply edit old)) (used ∙ (let same : old.used ≡ old.used + put_bytes edit old = omega (arith, no_bytes) in same));
+      err = tt;
+      told = subst (λ cs. IsRefusedFor (λ _. refusal) (first_cause cs) (Ok t)) (sym none) tt;
+    }
+    step (Err e) only ok err = record { ok = tt; err = err; told = subst (λ cs. IsRefusedFor (λ _. refusal) (first_cause cs) (Err e)) (sym none) only }

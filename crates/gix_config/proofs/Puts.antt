@@ -10,17 +10,17 @@ use Rattle.gitconf_state.specs.Edit.{Spacing, header_bytes, is_entry_of, is_targ
 use Rattle.gitconf_state.specs.Edits as edits
 use Rattle.gitconf_state.specs.Edits.{Edit, between, items_of_numbered, new_bytes, value_set_tokens}
 use Rattle.gitconf_state.specs.Editors as states
-use Rattle.gitconf_state.specs.Editors.{comment_made, end_made, entry_made, line_made}
-use Rattle.gitconf_state.specs.State.{State}
+use Rattle.gitconf_state.specs.Editors.{comment_made, end_made, entry_made, lacks_line_end, line_made}
+use Rattle.gitconf_state.specs.State.{SectionState, State}
 use Rattle.gitconf_body.specs.Puts as puts
-use Rattle.gitconf_body.specs.Puts.{assigned_bytes, changed_bytes, line_bytes, value_set_bytes}
+use Rattle.gitconf_body.specs.Puts.{after_last_bytes, assigned_bytes, changed_bytes, line_bytes, value_set_bytes}
 use Rattle.gitconf_body.proofs.Counts.{put_within}
 use Rattle.gitconf_state.specs.LineEnds.{file_line_end}
 use Rattle.gitconf_store.specs.Appends.{items_before}
 use Rattle.gitconf_store.proofs.Files.AppendedFiles.{line_bounded}
 use Rattle.gitconf_store.proofs.Headers.HeaderBytes.{header_tokens, headers_tokens}
 use Rattle.gitconf_views.proofs.LineBytes.{both_bytes, comment_within, items_bytes, made_bytes, one_bytes, run_bytes}
-use Rattle.gitconf_store.specs.Edited.{put_bytes}
+use Rattle.gitconf_store.specs.Edited.{bytes_in, put_bytes}
 
 -- The tokens of a line that is pushed have these bytes, and more.
 leading_fits : (o : Option (List ℕ)) → puts.run_bytes o ≤ token_bytes (flat_map item_tokens (leading_item o))
@@ -74,19 +74,33 @@ set_fits e key value items = go (last_or None (filter (is_entry_of key) items)) 
     go None at = rw (at, value_set_bytes, value_set_tokens) (line_fits e key (Some value) None)
     go (Some i) at = rw (at, value_set_bytes, value_set_tokens) (changed_fits e.spacing value i)
 
+-- So in the section of a number; where no section has it, nothing is put.
+in_within : (number : ℕ) (count bound : List Item → ℕ) (state : State) → ((items : List Item) → count items ≤ bound items) → bytes_in number count state ≤ bound (items_of_numbered number state)
+in_within number count bound state fits = go (numbered number state)
+  where
+    go : (o : Option SectionState)
+        → (elim o as (λ _. ℕ) [ None ↦ 0 | Some s ↦ count s.items ]) ≤ bound (elim o as (λ _. List Item) [ None ↦ [] | Some s ↦ s.items ])
+    go None = zero-le
+    go (Some s) = fits s.items
+
 -- What an edit of an editor puts is no more than its tokens have.
 pub puts_within : (edit : Edit) (state : State) → put_bytes edit state ≤ new_bytes edit state
 puts_within (edits.SetRawValue name subsection key keeps value) state = put_within name subsection key keeps value state
-puts_within (edits.Push number editor key value comment) state = line_fits editor key value comment
-puts_within (edits.PushAfterLast number editor key value) state = let line = line_fits editor key value None in omega (arith, line)
-puts_within (edits.PushLineEnd number editor) state = omega arith
-puts_within (edits.SetValue number editor key value) state = set_fits editor key value (items_of_numbered number state)
+puts_within (edits.Push number editor key value comment) state =
+    in_within number (λ items. line_bytes editor key value comment) (λ items. token_bytes (flat_map item_tokens (line_made editor key value comment))) state (λ items. line_fits editor key value comment)
+puts_within (edits.PushAfterLast number editor key value) state =
+    in_within number (after_last_bytes editor key value) (λ items. token_bytes (flat_map item_tokens (line_made editor key value None)) + (if lacks_line_end items then length editor.line_end else 0)) state
+    (λ items. let line = line_fits editor key value None in omega (arith, line))
+puts_within (edits.PushLineEnd number editor) state = in_within number (λ items. length editor.line_end) (λ items. length editor.line_end) state (λ items. omega arith)
+puts_within (edits.SetValue number editor key value) state = in_within number (value_set_bytes editor key value) (λ items. token_bytes (value_set_tokens editor key value items)) state (set_fits editor key value)
 puts_within (edits.Remove number key) state = omega arith
 puts_within (edits.RemoveMarked number key marks) state = omega arith
 puts_within (edits.Pop number) state = omega arith
-puts_within (edits.WriteAt number editor place instead key value) state = entry_fits editor.spacing key (Some value)
+puts_within (edits.WriteAt number editor place instead key value) state =
+    in_within number (λ items. length key + assigned_bytes editor.spacing (Some value)) (λ items. token_bytes (item_tokens (entry_made editor.spacing key (Some value)))) state (λ items. entry_fits editor.spacing key (Some value))
 puts_within (edits.DeleteAt number place) state = omega arith
-puts_within (edits.Rename number name subsection) state = header_tokens name subsection
+puts_within (edits.Rename number name subsection) state =
+    in_within number (λ items. header_bytes name subsection) (λ items. length (spelled_header (made_header name subsection))) state (λ items. header_tokens name subsection)
 puts_within (edits.RenameAll name subsection keeps new_name new_subsection) state = go (list_any (is_target name subsection keeps) state.sections) refl
   where
     all : ℕ

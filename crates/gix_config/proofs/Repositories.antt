@@ -1,5 +1,5 @@
 -- The configuration of a repository, by how the calls that put it together end.
-use Rattle.std.proofs.Common.{◌≡◌, ◌⊎◌, ◌+◌, ◌<◌, ◌≤◌, ◌^◌, ◌==◌, ℕ, Bool, true, false, List, Option, Some, None, Result, Ok, Err, inl, inr, refl, sym, ap, ◌∙◌, subst, length}
+use Rattle.std.proofs.Common.{◌≡◌, ◌⊎◌, ◌==◌, ℕ, Bool, true, false, List, Option, Some, None, Result, Ok, Err, inl, inr, refl, sym, ap, ◌∙◌, subst, length}
 use Rattle.std.specs.Prelude.{IfErr, IsErrAnd}
 use Rattle.std.specs.Option.{option_map}
 use Rattle.std.proofs.lemmas.Bool.{eqb-true}
@@ -12,11 +12,11 @@ use Rattle.gitconf_includes.specs.declared.includes.Error.TheVariants as include
 use Rattle.gitconf_includes.specs.declared.init.Options.{Options}
 use Rattle.gitconf_includes.specs.Errors.{includes_number}
 use Rattle.gitconf_includes.specs.Rules.{rules_of}
-use Rattle.gitconf_text.specs.Sections.{no_number}
-use Rattle.gitconf_state.specs.Edit.{with_used}
-use Rattle.gitconf_state.specs.Edits.{Append, apply}
+use Rattle.gitconf_state.specs.Edits.{Append}
 use Rattle.gitconf_state.specs.State.{State}
-use Rattle.gitconf_store.specs.Appends.{appended_bytes}
+use Rattle.gitconf_body.specs.Refusals.{span_refusal}
+use Rattle.gitconf_store.specs.Edited.{IsEdited}
+use Rattle.gitconf_store.proofs.Files.Appended.{append_told}
 use Rattle.gitconf_includes.specs.Expansion.{Asks}
 use Rattle.gitconf_includes.specs.Outcomes.{asks_of, IsCause}
 use Rattle.gitconf_loaders.specs.Resolving.{MakesOf}
@@ -113,12 +113,12 @@ module _ (table : Option (List ℕ → FileReport)) (folder : List ℕ) (local :
   worktree_refused e (Err r) is loaded err = from_worktree (Err (paths_number r)) is (Err (paths_number e), loaded, ap Err (ap paths_number err))
 
 -- a file after another one
-put_on : (target other now : State) → now ≡ with_used now.used (apply (Append other) target) → now.used ≡ target.used + appended_bytes other target
-    → ((2 ^ 32 ≤ target.used + appended_bytes other target) ⊎ (no_number < target.next + length other.sections) → ⊥) → IsPutBehind target other (Ok now)
-put_on target other now is put not_large = inr (go (has_room_behind target other) (open_room target other not_large))
+put_on : (target other now : State) → IsEdited span_refusal (Append other) (Ok tt) target now → IsPutBehind target other (Ok now)
+put_on target other now appended =
+    inr (go (has_room_behind target other) (open_room target other (λ large. let no = (append_told other (Ok tt) target now appended).too_large.1 large in cc)))
   where
     go : (b : Bool) → b ≡ true → elim b as (λ _. Type 0) [ true ↦ (s : State) × IsBehind target other s × (◌≡◌ {A = Result State ℕ} (Ok now) (Ok s)) | false ↦ ◌≡◌ {A = Result State ℕ} (Ok now) (Err 3) ]
-    go true e = (now, is ∙ ap (λ n. with_used n (apply (Append other) target)) put, refl)
+    go true e = (now, appended.ok, refl)
     go false e = absurd (cc)
 
 not_put : (target other : State) (n m : ℕ) → m ≡ n → IsAppendRefusal target other n → IsPutBehind target other (Err m)
@@ -135,9 +135,8 @@ module _ (first : Result State ℕ → Type 0) (target : State) where
   first_refused n e (Ok done) new is number err = absurd err
   first_refused n e (Err r) new is number err = (Err n, is, ap Err (ap git_number err ∙ number))
 
-  pub then_put : (other now : State) → first (Ok other) → now ≡ with_used now.used (apply (Append other) target) → now.used ≡ target.used + appended_bytes other target
-      → ((2 ^ 32 ≤ target.used + appended_bytes other target) ⊎ (no_number < target.next + length other.sections) → ⊥) → Then first (IsPutBehind target) (Ok now)
-  then_put other now made is put not_large = (Ok other, made, put_on target other now is put not_large)
+  pub then_put : (other now : State) → first (Ok other) → IsEdited span_refusal (Append other) (Ok tt) target now → Then first (IsPutBehind target) (Ok now)
+  then_put other now made appended = (Ok other, made, put_on target other now appended)
 
   pub then_refused : (other : State) (n : ℕ) (result : Result Unit Error) (new : State) → first (Ok other) → IsAppendRefusal target other n → IsErrAnd result (λ r. r ≡ git_of_span n)
       → Then first (IsPutBehind target) (left_by git_number result new)

@@ -20,7 +20,7 @@ use Rattle.gitconf_lookups.specs.SomeSections.{AreSome, WithSome}
 use Rattle.gix_config.specs.declared.file.section_mut.making.Error.{Error}
 use Rattle.gix_config.specs.declared.file.section_mut.making.Error.TheVariants.{NonePasses, Lookup}
 use Rattle.gitconf_store.proofs.Places.Numbering.{numbered_has}
-use Rattle.gix_config.specs.Edited.{has_number}
+use Rattle.gitconf_store.specs.Edited.{has_number}
 use Rattle.gix_config.specs.SectionEditors.{blanks_at, editor_at, IsFoundOrMadeOf, IsNumbered, IsPassing, IsPickedOf}
 
 or_right : (a b : Bool) → b ≡ true → (a || b) ≡ true

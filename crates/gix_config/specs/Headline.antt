@@ -1,39 +1,78 @@
--- Calls that edit a file, one after the other, each as its contract says.
-use Rattle.std.specs.Prelude.{◌≡◌, List, [], ◌∷◌, Result, Ok, Err, IfOk}
-use Rattle.gitconf_body.specs.Done.{Cause}
-use Rattle.gitconf_state.specs.Edits.{Answer, Append, Edit, IsEditor, Push, PushAfterLast, PushLineEnd, PushSection, SetValue, WriteAt, answer}
+-- Calls that change a file, one after the other, each as its contract says.
+use Rattle.std.specs.Prelude.{◌≡◌, ℕ, List, [], ◌∷◌, Option, Some, Result, Ok, Err, IfOk}
+use Rattle.gitconf_text.specs.declared.memory.NoMemory.{NoMemory}
+use Rattle.gitconf_sources.specs.Key.{Key}
+use Rattle.gitconf_sources.specs.Reports.{FileReport}
+use Rattle.gitconf_state.specs.Edits.{Answer, Append, Edit, IsCleanEdit, IsEditor, Push, PushAfterLast, PushLineEnd, PushSection, SetValue, WriteAt, answer}
 use Rattle.gitconf_state.specs.State.{HasItems, HasSectionItems, State}
+use Rattle.gitconf_includes.specs.declared.includes.Error.{Error as IncludesError}
+use Rattle.gitconf_includes.specs.Errors.{includes_number}
+use Rattle.gitconf_includes.specs.Expansion as expansions
+use Rattle.gitconf_includes.specs.Expansion.{Asks}
+use Rattle.gitconf_includes.specs.Laws.{AreHeaded}
+use Rattle.gitconf_body.specs.Done.{Cause}
+use Rattle.gitconf_body.specs.Refusals.{span_refusal}
+use Rattle.gitconf_store.specs.declared.set_raw_value.Error.{Error as SetError}
 use Rattle.gitconf_store.specs.Edited.{IsEdited}
+use Rattle.gitconf_store.specs.Existing.{IsSetExisting}
+use Rattle.gitconf_store.specs.Several.{AreRewritten, AreSetExisting}
 
--- how a call ends: with its answer, or refused for a cause
+-- how an edit ends: with its answer, or refused for a cause
 abbrev pub Ending : Type 0
 Ending = Result Answer Cause
 
--- One call: the edit is done and answered, or refused for the first of its causes that holds, or for want of memory. Each call's contract says
--- the same with the call's own refusal for the cause.
+-- One edit: it is done and answered, or refused for the first of its causes that holds, or for want of memory. Each contract says the same with
+-- the call's own refusal for the cause.
 abbrev pub Ends : Edit → (old : State) → Ending → (new : State) → Type 0
 Ends edit old ending new = IsEdited (λ cause. cause) edit ending old new × IfOk ending (λ told. told ≡ answer edit old)
 
--- a call ends like the result of a function: both are done, or the function's refusal is that of the cause
-abbrev pub AreAlike : {T E : Type 0} → (refusal : Cause → E) → Ending → Result T E → Type 0
-AreAlike refusal (Ok told) (Ok found) = Unit {0}
-AreAlike refusal (Err cause) (Err e) = e ≡ refusal cause
-AreAlike refusal (Ok told) (Err e) = ⊥
-AreAlike refusal (Err cause) (Ok found) = ⊥
+-- the refusal of what only want of memory refuses
+abbrev pub no_memory : NoMemory
+no_memory = record {}
+
+-- an edit ends like the result of a function: both are done, and what the function returns shows the answer; or its refusal is that of the cause
+abbrev pub AreAlike : {T E : Type 0} → (shown : T → Answer) → (refusal : Cause → E) → Ending → Result T E → Type 0
+AreAlike shown refusal (Ok told) (Ok found) = told ≡ shown found
+AreAlike shown refusal (Err cause) (Err e) = e ≡ refusal cause
+AreAlike shown refusal (Ok told) (Err e) = ⊥
+AreAlike shown refusal (Err cause) (Ok found) = ⊥
+
+-- A call on a file, and how it ended: an edit; a value of an existing entry, or of several, set by their key; those of the entries at some places
+-- set by an editor; includes resolved.
+pub data Call : Type 0 where
+  Edits : Edit → Ending → Call
+  SetsExisting : Key → (value : List ℕ) → Result (Unit {0}) SetError → Call
+  SetsAllExisting : Key → (values : List (List ℕ)) → Result (Unit {0}) SetError → Call
+  SetsValues : (key : List ℕ) → (places : List (ℕ × ℕ)) → (values : List (List ℕ)) → Result (Unit {0}) ℕ → Call
+  Resolves : Asks → Result (Unit {0}) IncludesError → Call
+
+-- what a call leaves: what its contract says
+abbrev pub Leaves : Call → (old new : State) → Type 0
+Leaves (Edits edit ending) old new = Ends edit old ending new
+Leaves (SetsExisting key value result) old new = IsSetExisting key value result old new
+Leaves (SetsAllExisting key values result) old new = AreSetExisting key values result old new
+Leaves (SetsValues key places values result) old new = AreRewritten span_refusal key places values result old new
+Leaves (Resolves asks result) old new = expansions.Resolves includes_number asks old result new
 
 -- calls, each on the file that the one before it left
-abbrev pub Runs : List Edit → (old : State) → List Ending → (new : State) → Type 0
-Runs [] old endings new = (endings ≡ []) × (new ≡ old)
-Runs (edit ∷ edits) old [] new = ⊥
-Runs (edit ∷ edits) old (ending ∷ endings) new = (mid : State) × Ends edit old ending mid × Runs edits mid endings new
+abbrev pub Runs : List Call → (old new : State) → Type 0
+Runs [] old new = new ≡ old
+Runs (call ∷ calls) old new = (next : State) × Leaves call old next × Runs calls next new
 
--- What a call is handed: an editor that was made, or a section or a file of items that a text may have.
-abbrev pub IsCall : Edit → Type 0
-IsCall (Push number editor key value comment) = IsEditor editor
-IsCall (PushAfterLast number editor key value) = IsEditor editor
-IsCall (PushLineEnd number editor) = IsEditor editor
-IsCall (SetValue number editor key value) = IsEditor editor
-IsCall (WriteAt number editor place instead key value) = IsEditor editor
-IsCall (PushSection detached) = HasSectionItems detached.section
-IsCall (Append other) = HasItems other
-IsCall _ = Unit {0}
+-- What an edit is handed: an editor that was made, or a section or a file of items that a text may have.
+abbrev pub IsHanded : Edit → Type 0
+IsHanded (Push number editor key value comment) = IsEditor editor
+IsHanded (PushAfterLast number editor key value) = IsEditor editor
+IsHanded (PushLineEnd number editor) = IsEditor editor
+IsHanded (SetValue number editor key value) = IsEditor editor
+IsHanded (WriteAt number editor place instead key value) = IsEditor editor
+IsHanded (PushSection detached) = HasSectionItems detached.section
+IsHanded (Append other) = HasItems other
+IsHanded _ = Unit {0}
+
+-- What is asked of a call, so that what is written after it reads back: a clean edit of what it is handed; and that no text that may be included
+-- has an entry before its first section.
+abbrev pub IsCleanCall : Call → Type 0
+IsCleanCall (Edits edit ending) = IsHanded edit × IsCleanEdit edit
+IsCleanCall (Resolves asks result) = (files : List ℕ → FileReport) × (asks.table ≡ Some files) × AreHeaded files
+IsCleanCall _ = Unit {0}

@@ -3,7 +3,6 @@ pub mod Errors
 pub mod Made
 pub mod Typed
 pub mod Converted
-pub mod Edited
 pub mod SectionEditors
 pub mod Spelled
 pub mod ValueEditors

@@ -1,20 +1,20 @@
 -- Editors of several values: the file, where the entries are, and the name that they write.
-use Rattle.std.specs.Prelude.{◌≡◌, ◌≢◌, ℕ, Bool, true, List, [], None, Result, Ok, Err, IsOk, OnErr, OnOk}
+use Rattle.std.specs.Prelude.{◌≡◌, ◌≢◌, ℕ, Bool, true, List, [], None, Result, Ok, Err}
 use Rattle.std.specs.Borrow.{GName}
 use Rattle.std.specs.declared.vec.Vec.{Vec}
 use Rattle.bstr.specs.declared.bstring.BString.{BString}
 use Rattle.gitconf_text.specs.Names.{is_value_name}
 use Rattle.gitconf_sources.specs.Key.{Key}
 use Rattle.gitconf_sources.specs.Metadata.{Meta}
-use Rattle.gitconf_state.specs.Edit.{with_used}
-use Rattle.gitconf_state.specs.Edits.{Edit, DeleteAt, apply, items_of_numbered, numbered}
+use Rattle.gitconf_state.specs.Edits.{Edit, DeleteAt}
+use Rattle.gitconf_state.specs.Editors.{OfEntry}
 use Rattle.gitconf_state.specs.State.{State}
-use Rattle.gitconf_body.specs.ValuesAt.{rewritten_put}
+use Rattle.gitconf_body.specs.Refusals.{span_refusal}
 use Rattle.gitconf_lookups.specs.declared.existing.Error.{Error}
 use Rattle.gitconf_lookups.specs.declared.existing.Error.TheVariants.{KeyMissing, Memory}
-use Rattle.gitconf_store.specs.Editors.{PutsIn}
+use Rattle.gitconf_store.specs.Existing.{IsRewritten}
 use Rattle.gitconf_lookups.specs.Lookups.{texts_of}
-use Rattle.gitconf_store.specs.Several.{all_meanings, one_rewriting}
+use Rattle.gitconf_store.specs.Several.{all_meanings}
 use Rattle.gitconf_lookups.specs.ValuePlaces.{AreInOrder, ArePlaces, key_places}
 use Rattle.gix_config.specs.Targeted.{Targeted, place_at}
 use Rattle.gix_config.specs.declared.file.multi_value_mut.MultiValueMut.{MultiValueMut}
@@ -39,22 +39,14 @@ key_of e = e.targets.key
 abbrev pub targets_of : MultiValueMut Targeted → Targeted
 targets_of e = e.targets
 
--- one of the entries gets a value: it is written with the name that was given and the blanks that its section then has, and nothing stays of
--- its old value
-abbrev pub writing : MultiValueMut Targeted → (index : ℕ) → (value : List ℕ) → Edit
-writing e index value = one_rewriting (key_of e) (place_at (places_of e) index) value (edited e)
-
 -- only one of the entries is deleted
 abbrev pub deleting : MultiValueMut Targeted → (index : ℕ) → Edit
 deleting e index = let place = place_at (places_of e) index in DeleteAt place.0 place.1
 
--- How one of the entries gets a value: the edit is done, with just its bytes, or it is refused and the file is as it was; refusal 3 comes if
--- and only if these would pass the limit.
-pub record IsOneSet (e : MultiValueMut Targeted) (index : ℕ) (value : List ℕ) (result : Result (Unit {0}) ℕ) (new : State) : Type 0 where
-  pub ok : OnOk result (new ≡ with_used new.used (apply (writing e index value) (edited e)))
-  pub err : OnErr result (new ≡ edited e)
-  pub used : let id = (place_at (places_of e) index).0 in PutsIn id result (rewritten_put (key_of e) value (items_of_numbered id (edited e))) (edited e) new
-  pub missing : numbered (place_at (places_of e) index).0 (edited e) ≡ None → IsOk result
+-- How one of the entries gets a value: it is written with the name that was given and the blanks that its section then has, and nothing stays of
+-- its old value; or it is refused, and the file is as it was.
+abbrev pub IsOneSet : MultiValueMut Targeted → (index : ℕ) → (value : List ℕ) → Result (Unit {0}) ℕ → (new : State) → Type 0
+IsOneSet e index value result new = IsRewritten span_refusal OfEntry (place_at (places_of e) index) (key_of e) value result (edited e) new
 
 -- What the entries mean, in order; if none is left, the key is missing. Out of memory comes only if there are some.
 abbrev pub AreMeanings : {Z : Type 0} → List (ℕ × ℕ) → State → Result (Vec BString Z) Error → Type 0

@@ -1,6 +1,7 @@
 //! What holds of editors and of loaded files, for all of them: each law is a function that does nothing.
 ghost use Rattle.std.specs.List.{AllByRecursion};
-ghost use Rattle.std.specs.Prelude.{◌≡◌, ◌≤◌, ℕ, Bool, true, List, [], map, Result, Ok, Option, Some};
+ghost use Rattle.bstr.specs.Owned.{bstring_bytes};
+ghost use Rattle.std.specs.Prelude.{◌≡◌, ◌≤◌, ℕ, Bool, true, List, [], filter, map, option_map, Result, Ok, Option, Some, IfOk, OnErr, OnOk};
 ghost use Rattle.gitconf_sources.specs.Metadata.{Meta};
 ghost use Rattle.gitconf_sources.specs.Reports.{FileReport, VariableReport};
 ghost use Rattle.gitconf_sources.specs.declared.host.Places.{Places};
@@ -12,7 +13,10 @@ ghost use Rattle.gitconf_text.specs.Document.{IsText, Reads, unmarked};
 ghost use Rattle.gitconf_text.specs.Part.{Part};
 ghost use Rattle.gitconf_text.specs.Token.{spelled_token, tokens_of};
 ghost use Rattle.gitconf_state.specs.Edit.{new_section};
-ghost use Rattle.gitconf_state.specs.Edits.{AreCleanEdits, Edit, has_blank_leading, new_bytes, numbered, IsEditor};
+ghost use Rattle.gitconf_items.specs.EventList.{keeps_token};
+ghost use Rattle.gitconf_items.specs.TokenDocument.{keeps_meaning};
+ghost use Rattle.gitconf_sources.specs.declared.source.Trust.{Trust};
+ghost use Rattle.gitconf_state.specs.Edits.{Count, Done, Edit, Raw, Remove, RemoveMarked, SetTrust, answer, apply, has_blank_leading, new_bytes, numbered, IsEditor};
 ghost use Rattle.gitconf_state.specs.Editors.{Editor, editor_of};
 ghost use Rattle.gitconf_state.specs.State.{document_of, entries_of, HasItems, SectionState, State};
 ghost use Rattle.gitconf_includes.specs.Expansion.{Asks};
@@ -21,7 +25,8 @@ ghost use Rattle.gitconf_lookups.specs.Lookups.{implicit_at, value_at, values_at
 ghost use Rattle.gitconf_lookups.specs.Picks.{picked};
 ghost use Rattle.gitconf_sources.specs.Key.{Key};
 ghost use Rattle.gitconf_lookups.specs.ValuePlaces.{editor_of_numbered};
-ghost use Rattle.gix_config.specs.Headline.{AreAlike, Ending, Ends, IsCall, Runs};
+ghost use Rattle.gix_config.specs.Headline.{AreAlike, Call, Ending, Ends, IsCleanCall, Runs, no_memory};
+ghost use Rattle.gitconf_text.specs.declared.memory.NoMemory.{NoMemory};
 ghost use Rattle.bstr.specs.declared.bstring.BString.{BString};
 ghost use Rattle.gitconf_body.specs.Refusals.{header_refusal, span_refusal, value_refusal};
 ghost use Rattle.gitconf_body.specs.declared.value.Error.{Error as ValueError};
@@ -87,37 +92,56 @@ pub fn repositories_are_clean()
         → IsRepository (Some variables) places (Some files) dir real (Ok file) → IsClean file × (entries_of file.front ≡ []) }
 {}
 
-/// What the contract of a call that edits a file says is what [`headline`] asks of a call, for each kind of result: it ends with its answer, or
+/// What the contract of an edit says is what [`headline`] asks of one, for each kind of result: it ends with its answer, which the result shows, or
 /// refused for the cause that its refusal tells.
 pub fn calls_end_as_their_contracts_say()
-    ensures pushes { (edit : Edit) (result : Result (Unit {0}) ValueError) (old new : State) → IsEdited value_refusal edit result old new
-        → (ending : Ending) × Ends edit old ending new × AreAlike value_refusal ending result }
-    ensures values { (edit : Edit) (result : Result (Option BString) ValueError) (old new : State) → IsEdited value_refusal edit result old new
-        → (ending : Ending) × Ends edit old ending new × AreAlike value_refusal ending result }
-    ensures line_ends { (edit : Edit) (result : Result (Unit {0}) ℕ) (old new : State) → IsEdited span_refusal edit result old new
-        → (ending : Ending) × Ends edit old ending new × AreAlike span_refusal ending result }
-    ensures headers { (edit : Edit) (result : Result (Unit {0}) HeaderError) (old new : State) → IsEdited header_refusal edit result old new
-        → (ending : Ending) × Ends edit old ending new × AreAlike header_refusal ending result }
-    ensures raw_values { (edit : Edit) (result : Result (Option BString) SetError) (old new : State) → IsEdited set_refusal edit result old new
-        → (ending : Ending) × Ends edit old ending new × AreAlike set_refusal ending result }
-    ensures renamings { (edit : Edit) (result : Result (Unit {0}) RenameError) (old new : State) → IsEdited rename_refusal edit result old new
-        → (ending : Ending) × Ends edit old ending new × AreAlike rename_refusal ending result }
+    ensures pushes { (edit : Edit) (result : Result (Unit {0}) ValueError) (old new : State) → IfOk result (λ _. Done ≡ answer edit old)
+        → IsEdited value_refusal edit result old new → (ending : Ending) × Ends edit old ending new × AreAlike (λ _. Done) value_refusal ending result }
+    ensures values { (edit : Edit) (result : Result (Option BString) ValueError) (old new : State)
+        → IfOk result (λ o. Raw (option_map bstring_bytes o) ≡ answer edit old) → IsEdited value_refusal edit result old new
+        → (ending : Ending) × Ends edit old ending new × AreAlike (λ o. Raw (option_map bstring_bytes o)) value_refusal ending result }
+    // Line ends, values of entries that stand, and appended files.
+    ensures spans { (edit : Edit) (result : Result (Unit {0}) ℕ) (old new : State) → IfOk result (λ _. Done ≡ answer edit old)
+        → IsEdited span_refusal edit result old new → (ending : Ending) × Ends edit old ending new × AreAlike (λ _. Done) span_refusal ending result }
+    ensures headers { (edit : Edit) (result : Result (Unit {0}) HeaderError) (old new : State) → IfOk result (λ _. Done ≡ answer edit old)
+        → IsEdited header_refusal edit result old new → (ending : Ending) × Ends edit old ending new × AreAlike (λ _. Done) header_refusal ending result }
+    ensures raw_values { (edit : Edit) (result : Result (Option BString) SetError) (old new : State)
+        → IfOk result (λ o. Raw (option_map bstring_bytes o) ≡ answer edit old) → IsEdited set_refusal edit result old new
+        → (ending : Ending) × Ends edit old ending new × AreAlike (λ o. Raw (option_map bstring_bytes o)) set_refusal ending result }
+    ensures renamings { (edit : Edit) (result : Result (Unit {0}) RenameError) (old new : State) → IfOk result (λ _. Done ≡ answer edit old)
+        → IsEdited rename_refusal edit result old new → (ending : Ending) × Ends edit old ending new × AreAlike (λ _. Done) rename_refusal ending result }
+    // What only want of memory refuses.
+    ensures removed { (number : ℕ) (key : List ℕ) (result : Result (Option BString) NoMemory) (old new : State)
+        → IfOk result (λ o. Raw (option_map bstring_bytes o) ≡ answer (Remove number key) old) → OnOk result (new ≡ apply (Remove number key) old)
+        → OnErr result (new ≡ old) → (ending : Ending) × Ends (Remove number key) old ending new
+        × AreAlike (λ o. Raw (option_map bstring_bytes o)) (λ _. no_memory) ending result }
+    ensures marked { (number : ℕ) (key : List ℕ) (marks : List Bool) (result : Result ℕ NoMemory) (old new : State)
+        → IfOk result (λ n. Count n ≡ answer (RemoveMarked number key marks) old) → OnOk result (new ≡ apply (RemoveMarked number key marks) old)
+        → OnErr result (new ≡ old) → (ending : Ending) × Ends (RemoveMarked number key marks) old ending new × AreAlike Count (λ _. no_memory) ending result }
+    ensures trusted { (number : ℕ) (trust : Trust) (result : Result (Unit {0}) NoMemory) (old new : State)
+        → OnOk result (new ≡ apply (SetTrust number trust) old) → OnErr result (new ≡ old)
+        → (ending : Ending) × Ends (SetTrust number trust) old ending new × AreAlike (λ _. Done) (λ _. no_memory) ending result }
 {}
 
-/// After every list of calls that edit a file, done or refused, each as its contract says, what is written of the file reads back.
+/// After every list of calls that change a file, done or refused, each as its contract says, what is written of the file reads back.
 ///
-/// The file was loaded whole, or has items such as a text may have and is clean. Three things are asked of the calls: what they are handed is
-/// what the library makes ([`new_editors_are_editors`]); no header has an empty name and no subsection; and blanks before names that were set
-/// are spaces and tabs, and an appended file has no entry before its first section. Then the file after them is such a one again, the text
-/// that is written of it has exactly its document, and a file that is loaded from this text has the same document and is equal to it.
+/// The calls are all edits, values of existing entries set, one or several, and includes resolved. The file was loaded, whole or lossy, or has
+/// items such as a text may have and is clean: so is one that a loader made ([`files_of_variables_are_clean`], [`repositories_are_clean`], and
+/// [`loaders`]). Of the calls it is asked that edits are handed what the library makes ([`new_editors_are_editors`]); that no header has an empty
+/// name and no subsection; that blanks before names that were set are spaces and tabs; and that no file that is appended or may be included
+/// has an entry before its first section. Then the file after them is such a one again, the text that is written of it has exactly its
+/// document, and a file that is loaded from this text has the same document and is equal to it.
 pub fn headline()
-    ensures kept { (calls : List Edit) (endings : List Ending) (old new : State) → AllByRecursion IsCall calls → AreCleanEdits calls
-        → HasItems old → IsClean old → Runs calls old endings new → HasItems new × IsClean new }
-    ensures reads { (calls : List Edit) (endings : List Ending) (old new : State) → AllByRecursion IsCall calls → AreCleanEdits calls
-        → HasItems old → IsClean old → Runs calls old endings new → Reads (printed new) (document_of new) }
-    ensures loaded { (text : List ℕ) (parts : List Part) (place : Meta) (bytes : ℕ) (calls : List Edit) (endings : List Ending) (old new : State)
-        → IsText text parts → IsMade (tokens_of parts) place bytes old → AllByRecursion IsCall calls → AreCleanEdits calls
-        → Runs calls old endings new → Reads (printed new) (document_of new) }
+    ensures kept { (calls : List Call) (old new : State) → AllByRecursion IsCleanCall calls → HasItems old → IsClean old → Runs calls old new
+        → HasItems new × IsClean new }
+    ensures reads { (calls : List Call) (old new : State) → AllByRecursion IsCleanCall calls → HasItems old → IsClean old → Runs calls old new
+        → Reads (printed new) (document_of new) }
+    ensures loaded { (text : List ℕ) (parts : List Part) (place : Meta) (bytes : ℕ) (calls : List Call) (old new : State)
+        → IsText text parts → IsMade (tokens_of parts) place bytes old → AllByRecursion IsCleanCall calls → Runs calls old new
+        → Reads (printed new) (document_of new) }
+    ensures lossy { (text : List ℕ) (parts : List Part) (place : Meta) (bytes : ℕ) (calls : List Call) (old new : State)
+        → IsText text parts → IsMade (filter (keeps_token keeps_meaning) (tokens_of parts)) place bytes old → entries_of old.front ≡ []
+        → AllByRecursion IsCleanCall calls → Runs calls old new → Reads (printed new) (document_of new) }
     ensures unedited { (text : List ℕ) (parts : List Part) (place : Meta) (bytes : ℕ) (file : State) → IsText text parts
         → IsMade (tokens_of parts) place bytes file
         → Inserted (map spelled_token (tokens_of parts)) (printed file) × (IsByteForByte parts → printed file ≡ unmarked text) }

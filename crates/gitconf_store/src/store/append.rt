@@ -2,10 +2,10 @@
 ghost use Rattle.std.specs.Prelude.{◌≡◌, ◌⊎◌, ◌↔◌, ◌+◌, ◌-◌, ◌<◌, ◌≤◌, ◌^◌, ◌++◌, length, IfErr, IfOk, IsErrOf, OnErr, OnOk};
 ghost use Rattle.gitconf_text.specs.LineEnds.{bytes_of_line_end};
 ghost use Rattle.gitconf_body.specs.Buffers.{Grows};
-ghost use Rattle.gitconf_text.specs.Sections.{no_number};
-ghost use Rattle.gitconf_state.specs.Edit.{with_used};
-ghost use Rattle.gitconf_state.specs.Edits.{Append, apply};
-ghost use Rattle.gitconf_store.specs.Appends.{appended_bytes, bytes_at, kept_at, line_at, put_at, HasNoRoomAt, IsLineAt};
+ghost use Rattle.gitconf_body.specs.Refusals.{span_refusal};
+ghost use Rattle.gitconf_state.specs.Edits.{Append};
+ghost use Rattle.gitconf_store.specs.Appends.{kept_at, line_at, put_at, HasNoRoomAt, IsLineAt};
+ghost use Rattle.gitconf_store.specs.Edited.{IsEdited};
 
 use crate::store::Store;
 use gitconf_body::buffer::{append, check_room, take_back};
@@ -209,12 +209,7 @@ impl Store {
     /// A [`span::Error`]: number 3 if and only if the buffer would be longer than 4294967295 bytes or fewer numbers are left than the other
     /// has sections, before any growth, otherwise 27 when out of memory. The other is then dropped, and the file as it was.
     pub fn append(&mut self, other: Store) -> Result<(), span::Error>
-        ensures ok { OnOk result (self.new ≡ with_used self.new.used (apply (Append other) self.old)) }
-        ensures err { OnErr result (self.new ≡ self.old) }
-        ensures too_large { IsErrOf result 3
-            ↔ ((2 ^ 32 ≤ self.old.used + appended_bytes other self.old) ⊎ (no_number < self.old.next + length other.sections)) }
-        ensures put { OnOk result (self.new.used ≡ self.old.used + appended_bytes other self.old) }
-        ensures known { IfErr result (λ e. (e ≡ 3) ⊎ (e ≡ 27)) }
+        ensures { IsEdited span_refusal (Append other) result self.old self.new }
     {
         let line_end = self.line_end();
         let last = self.sections.len().saturating_sub(1);

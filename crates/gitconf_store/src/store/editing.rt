@@ -4,21 +4,21 @@ use gitconf_body::editor::Editor;
 use gitconf_body::items_edits::{
     PopEntry, PushLine, PushLineBelow, PushNewline, RemoveEntry, RemoveMarkedEntries, SetEntry,
 };
-use gitconf_body::take_out;
+use gitconf_body::{take_out, value};
 use gitconf_table::table::SectionId;
 use gitconf_text::NoMemory;
+use gitconf_text::parse::section::ValueNameError;
+use gitconf_text::parse::section::bytes::is_value_name;
 use gitconf_text::parse::span;
 
 impl Store {
     ghost use Rattle.std.specs.Option.{option_copied};
-    ghost use Rattle.std.specs.Prelude.{◌≡◌, true, IfOk, IfSome, IsOk, None, OnOk, OnErr, length, option_map};
+    ghost use Rattle.std.specs.Prelude.{◌≡◌, true, IfOk, IfSome, IsOk, None, OnOk, OnErr, option_map};
     ghost use Rattle.gitconf_text.specs.Names.{is_value_name};
-    ghost use Rattle.gitconf_state.specs.Edit.{with_used};
-    ghost use Rattle.gitconf_state.specs.Edits.{answer, apply, items_of_numbered, Count, Entry, IsEditor, Pop, Push, PushAfterLast, PushLineEnd, Raw, Remove, RemoveMarked, SetValue};
-    ghost use Rattle.gitconf_text.specs.LineEnds.{bytes_of_line_end};
-    ghost use Rattle.gitconf_body.specs.Below.{below_put};
-    ghost use Rattle.gitconf_body.specs.Editors.{line_put, set_put};
-    ghost use Rattle.gitconf_store.specs.Editors.{given_editor, IsGiven, PutsIn};
+    ghost use Rattle.gitconf_state.specs.Edits.{answer, apply, Count, Entry, IsEditor, Pop, Push, PushAfterLast, PushLineEnd, Raw, Remove, RemoveMarked, SetValue};
+    ghost use Rattle.gitconf_body.specs.Blanks.{given_editor, IsGiven, PutsAround};
+    ghost use Rattle.gitconf_body.specs.Refusals.{span_refusal, value_refusal};
+    ghost use Rattle.gitconf_store.specs.Edited.{has_number, IsEdited};
 
     /// Pushes a line after the items of the section of a number: the editor's blanks, the key, and if a value is given `=` with the
     /// editor's blanks around it and the value as a file spells it; then the comment, if one is given, after a space and `#`, with a space
@@ -29,8 +29,8 @@ impl Store {
     ///
     /// # Errors
     ///
-    /// A [`span::Error`]: number 3 if and only if the buffer would be longer than 4294967295 bytes, before any growth, otherwise 27 when out
-    /// of memory. The file is then as it was.
+    /// Refusal 6 for a name that no value has; otherwise 3 if and only if the buffer would be longer than 4294967295 bytes, before any
+    /// growth; 27 when out of memory. The file is then as it was.
     pub fn push_entry(
         &mut self,
         id: SectionId,
@@ -38,22 +38,25 @@ impl Store {
         key: &[u8],
         value: Option<&[u8]>,
         comment: Option<&[u8]>,
-    ) -> Result<(), span::Error>
+    ) -> Result<(), value::Error>
         requires given { IsGiven editor.now }
+        requires puts { PutsAround editor.now }
         requires editor { IsEditor (given_editor editor.now) }
-        requires key { is_value_name key.now ≡ true }
-        ensures ok { OnOk result (self.new ≡ with_used self.new.used
-            (apply (Push id (given_editor editor.now) key.now (option_copied value.entry) (option_copied comment.entry)) self.old)) }
-        ensures err { OnErr result (self.new ≡ self.old) }
-        ensures used { PutsIn id result (line_put editor.now key.now (option_copied value.entry) (option_copied comment.entry)) self.old self.new }
+        ensures done { IsEdited value_refusal (Push id (given_editor editor.now) key.now (option_copied value.entry) (option_copied comment.entry))
+            result self.old self.new }
+        ensures stands { has_number id self.old ≡ true → has_number id self.new ≡ true }
     {
+        if !is_value_name(key) {
+            return Err(value::Error::ValueName(ValueNameError::invalid()));
+        }
         let line = PushLine {
             editor,
             key,
             value,
             comment,
         };
-        self.edit_items(id, &line)?
+        self.edit_items(id, &line)??;
+        Ok(())
     }
 
     /// Pushes a line below that of the last entry of the section of a number, whatever its key, or below the header's line if it has no
@@ -73,17 +76,19 @@ impl Store {
         editor: &Editor<'_>,
         key: &[u8],
         value: Option<&[u8]>,
-    ) -> Result<(), span::Error>
+    ) -> Result<(), value::Error>
         requires given { IsGiven editor.now }
+        requires puts { PutsAround editor.now }
         requires editor { IsEditor (given_editor editor.now) }
-        requires key { is_value_name key.now ≡ true }
-        ensures ok { OnOk result (self.new ≡ with_used self.new.used
-            (apply (PushAfterLast id (given_editor editor.now) key.now (option_copied value.entry)) self.old)) }
-        ensures err { OnErr result (self.new ≡ self.old) }
-        ensures used { PutsIn id result (below_put editor.now key.now (option_copied value.entry) (items_of_numbered id self.old)) self.old self.new }
+        ensures done { IsEdited value_refusal (PushAfterLast id (given_editor editor.now) key.now (option_copied value.entry)) result self.old self.new }
+        ensures stands { has_number id self.old ≡ true → has_number id self.new ≡ true }
     {
+        if !is_value_name(key) {
+            return Err(value::Error::ValueName(ValueNameError::invalid()));
+        }
         let line = PushLineBelow { editor, key, value };
-        self.edit_items(id, &line)?
+        self.edit_items(id, &line)??;
+        Ok(())
     }
 
     /// Pushes the editor's line ending after the items of the section of a number, even if it is switched off after lines. All else stays
@@ -93,12 +98,12 @@ impl Store {
     ///
     /// # Errors
     ///
-    /// Those of [`Store::push_entry`].
+    /// A [`span::Error`]: number 3 if and only if the buffer would be longer than 4294967295 bytes, before any growth, otherwise 27 when out
+    /// of memory. The file is then as it was.
     pub fn push_newline(&mut self, id: SectionId, editor: &Editor<'_>) -> Result<(), span::Error>
         requires editor { IsEditor (given_editor editor.now) }
-        ensures ok { OnOk result (self.new ≡ with_used self.new.used (apply (PushLineEnd id (given_editor editor.now)) self.old)) }
-        ensures err { OnErr result (self.new ≡ self.old) }
-        ensures used { PutsIn id result (length (bytes_of_line_end editor.now.line_end)) self.old self.new }
+        ensures done { IsEdited span_refusal (PushLineEnd id (given_editor editor.now)) result self.old self.new }
+        ensures stands { has_number id self.old ≡ true → has_number id self.new ≡ true }
     {
         self.edit_items(id, &PushNewline { editor })?
     }
@@ -120,16 +125,19 @@ impl Store {
         editor: &Editor<'_>,
         key: &[u8],
         value: &[u8],
-    ) -> Result<Option<Vec<u8>>, span::Error>
+    ) -> Result<Option<Vec<u8>>, value::Error>
         requires given { IsGiven editor.now }
+        requires puts { PutsAround editor.now }
         requires editor { IsEditor (given_editor editor.now) }
-        requires key { is_value_name key.now ≡ true }
-        ensures ok { OnOk result (self.new ≡ with_used self.new.used (apply (SetValue id (given_editor editor.now) key.now value.now) self.old)) }
+        ensures done { IsEdited value_refusal (SetValue id (given_editor editor.now) key.now value.now) result self.old self.new }
         ensures answer { IfOk result (λ o. Raw (option_map (λ v. v.items) o) ≡ answer (SetValue id (given_editor editor.now) key.now value.now) self.old) }
-        ensures err { OnErr result (self.new ≡ self.old) }
-        ensures used { PutsIn id result (set_put editor.now key.now value.now (items_of_numbered id self.old)) self.old self.new }
+        ensures stands { has_number id self.old ≡ true → has_number id self.new ≡ true }
     {
-        self.edit_items(id, &SetEntry { editor, key, value })?
+        if !is_value_name(key) {
+            return Err(value::Error::ValueName(ValueNameError::invalid()));
+        }
+        let old = self.edit_items(id, &SetEntry { editor, key, value })??;
+        Ok(old)
     }
 
     /// Removes the last entry of a key in the section of a number, with the blanks directly before it and the line endings directly after
@@ -147,6 +155,7 @@ impl Store {
         ensures answer { IfOk result (λ o. Raw (option_map (λ v. v.items) o) ≡ answer (Remove id key.now) self.old) }
         ensures none { answer (Remove id key.now) self.old ≡ Raw None → IsOk result }
         ensures err { OnErr result (self.new ≡ self.old) }
+        ensures stands { has_number id self.old ≡ true → has_number id self.new ≡ true }
     {
         self.edit_items(id, &RemoveEntry { key })?
     }
@@ -170,6 +179,7 @@ impl Store {
         ensures ok { OnOk result (self.new ≡ apply (RemoveMarked id key.now marks.now) self.old) }
         ensures answer { IfOk result (λ n. Count n ≡ answer (RemoveMarked id key.now marks.now) self.old) }
         ensures err { OnErr result (self.new ≡ self.old) }
+        ensures stands { has_number id self.old ≡ true → has_number id self.new ≡ true }
     {
         self.edit_items(id, &RemoveMarkedEntries { key, marks })?
     }
@@ -191,6 +201,7 @@ impl Store {
         ensures none { answer (Pop id) self.old ≡ Entry None → IsOk result }
         ensures name { IfOk result (λ o. IfSome o (λ t. is_value_name t.0.items ≡ true)) }
         ensures err { OnErr result (self.new ≡ self.old) }
+        ensures stands { has_number id self.old ≡ true → has_number id self.new ≡ true }
     {
         let Some(at) = self.sections.position(id) else {
             return Ok(None);

@@ -5,7 +5,7 @@ use gitconf_table::table::SectionId;
 use gitconf_text::NoMemory;
 
 impl Store {
-    ghost use Rattle.std.specs.Prelude.{◌≡◌, ◌<◌, List, true, length, slice_get, None, IfOk, IfSome, IsOk, OnErr, OnOk};
+    ghost use Rattle.std.specs.Prelude.{◌≡◌, ◌<◌, ◌^◌, List, true, length, slice_get, None, IfOk, IfSome, IsOk, OnErr, OnOk};
     ghost use Rattle.std.specs.List.{list_all};
     ghost use Rattle.gitconf_text.specs.Part as parts;
     ghost use Rattle.gitconf_state.specs.Edit.{with_used};
@@ -72,6 +72,8 @@ impl Store {
         ensures found { numbered id self.old ≡ None → IsOk result }
         ensures done { numbered id self.old ≡ None → IfOk result IsOk }
         ensures begun { OnErr result (IfSome (numbered id self.old) (λ s. E.begins edit.now s.items self.old.used)) }
+        // What holds of every file.
+        ensures room { self.old.used < 2 ^ 32 }
     {
         match self.sections.position(id) {
             Some(at) => self.edit_items_at(at, edit),

@@ -11,15 +11,12 @@ use gitconf_views::section::shared;
 
 impl Store {
     ghost use Rattle.std.specs.Option.{option_copied};
-    ghost use Rattle.std.specs.Prelude.{◌≡◌, [], ◌==◌, ◌+◌, ◌≤◌, ◌^◌, ◌↔◌, true, false, length, IfOk, IfErr, IsErrAnd, IsErrOf, OnOk, OnErr};
-    ghost use Rattle.gitconf_text.specs.HeaderErrors.{header_number, header_numbers};
-    ghost use Rattle.gitconf_text.specs.Names.{is_made_name, is_valid_or_none};
-    ghost use Rattle.gitconf_state.specs.Edit.{header_bytes, spacing_of, with_used};
-    ghost use Rattle.gitconf_state.specs.Edits.{answer, apply, NewSection, Number};
-    ghost use Rattle.gitconf_state.specs.LineEnds.{file_line_end};
-    ghost use Rattle.gitconf_body.specs.Done.{IsRefusedFor, checked, first_cause};
+    ghost use Rattle.std.specs.Prelude.{◌≡◌, [], IfOk};
+    ghost use Rattle.gitconf_state.specs.Edit.{spacing_of};
+    ghost use Rattle.gitconf_state.specs.Edits.{answer, NewSection, Number};
+    ghost use Rattle.gitconf_body.specs.Done.{checked, first_cause};
     ghost use Rattle.gitconf_body.specs.Refusals.{header_refusal};
-    ghost use Rattle.gitconf_store.specs.Edited.{causes, put_bytes};
+    ghost use Rattle.gitconf_store.specs.Edited.{causes, IsEdited};
 
     /// Makes a section after all others, whose body is one line ending, the file's; it has the file's metadata. Returns its number.
     ///
@@ -36,11 +33,8 @@ impl Store {
         name: &str,
         subsection_name: Option<&[u8]>,
     ) -> Result<SectionId, Error>
-        ensures ok { OnOk result (self.new ≡ with_used self.new.used (apply (NewSection name.now (option_copied subsection_name.entry)) self.old)) }
+        ensures done { IsEdited header_refusal (NewSection name.now (option_copied subsection_name.entry)) result self.old self.new }
         ensures answer { IfOk result (λ id. Number id ≡ answer (NewSection name.now (option_copied subsection_name.entry)) self.old) }
-        ensures err { OnErr result (self.new ≡ self.old) }
-        ensures put { OnOk result (self.new.used ≡ self.old.used + put_bytes (NewSection name.now (option_copied subsection_name.entry)) self.old) }
-        ensures told { IsRefusedFor header_refusal (first_cause (causes (NewSection name.now (option_copied subsection_name.entry)) self.old)) result }
     {
         validate(name.as_bytes(), subsection_name)?;
         if self.sections.numbers_left() == 0 {

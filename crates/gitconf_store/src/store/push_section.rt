@@ -1,8 +1,9 @@
 //! Sections added after those of a store.
-ghost use Rattle.std.specs.Prelude.{◌≡◌, ◌⊎◌, ◌↔◌, ◌+◌, ◌≤◌, ◌^◌, IfErr, IfOk, IsErrOf, OnErr, OnOk};
+ghost use Rattle.std.specs.Prelude.{◌≡◌, ◌⊎◌, ◌↔◌, ◌+◌, ◌≤◌, ◌^◌, IfErr, IfOk, IsErrOf};
 ghost use Rattle.gitconf_text.specs.Sections.{no_number};
-ghost use Rattle.gitconf_state.specs.Edit.{with_used};
-ghost use Rattle.gitconf_state.specs.Edits.{Number, PushSection, answer, apply};
+ghost use Rattle.gitconf_state.specs.Edits.{Number, PushSection, answer};
+ghost use Rattle.gitconf_body.specs.Refusals.{span_refusal};
+ghost use Rattle.gitconf_store.specs.Edited.{IsEdited};
 
 use crate::store::Store;
 use crate::store::append::put_text;
@@ -39,12 +40,8 @@ impl Store {
     /// A [`span::Error`]: number 3 if and only if the buffer would be longer than 4294967295 bytes or no number is left, before any growth,
     /// otherwise 27 when out of memory. The section is then dropped, and the file as it was.
     pub fn push_section(&mut self, section: detached::Section) -> Result<SectionId, span::Error>
-        ensures ok { OnOk result (self.new ≡ with_used self.new.used (apply (PushSection section) self.old)) }
+        ensures done { IsEdited span_refusal (PushSection section) result self.old self.new }
         ensures answer { IfOk result (λ id. Number id ≡ answer (PushSection section) self.old) }
-        ensures err { OnErr result (self.new ≡ self.old) }
-        ensures too_large { IsErrOf result 3 ↔ ((2 ^ 32 ≤ self.old.used + section.used) ⊎ (self.old.next ≡ no_number)) }
-        ensures put { OnOk result (self.new.used ≡ self.old.used + section.used) }
-        ensures known { IfErr result (λ e. (e ≡ 3) ⊎ (e ≡ 27)) }
     {
         self.check_pushed(&section)?;
         let len = self.buffer.len();

@@ -2,20 +2,19 @@
 ghost use Rattle.std.specs.Fn.{ComputesKey};
 ghost use Rattle.std.specs.List.{list_any};
 ghost use Rattle.std.specs.Option.{option_copied};
-ghost use Rattle.std.specs.Prelude.{◌≡◌, ◌==◌, ◌<◌, ◌↔◌, ◌≤◌, ◌+◌, ◌^◌, Bool, List, false, map, true, IfErr, IfOk, IfSome, IsErrOf, IsOk, None, OnErr, OnOk};
-ghost use Rattle.gitconf_text.specs.HeaderErrors.{header_number, header_numbers};
+ghost use Rattle.std.specs.Prelude.{◌≡◌, ◌+◌, Bool, List, map, true, IfOk, OnErr, OnOk};
 ghost use Rattle.gitconf_text.specs.Names.{is_made_name, is_valid_or_none};
 ghost use Rattle.gitconf_sources.specs.Metadata.{Meta};
 ghost use Rattle.gitconf_state.specs.Edit.{header_bytes, is_target, with_used};
-ghost use Rattle.gitconf_state.specs.Edits.{Rename, RenameAll, apply, numbered};
+ghost use Rattle.gitconf_state.specs.Edits.{Rename, RenameAll};
 ghost use Rattle.gitconf_state.specs.Lookup.{is_named, listing};
 ghost use Rattle.gitconf_store.specs.Edits.{UsedGrows};
 ghost use Rattle.gitconf_lookups.specs.declared.existing.Error.TheVariants.{KeyMissing};
 ghost use Rattle.gitconf_store.specs.declared.rename_section.Error.TheVariants.{Lookup};
 ghost use Rattle.gitconf_store.specs.Renamings.{marked_places, with_renamed, AreMarks, AreSomeRenamed, IsToldOfSome};
 ghost use Rattle.gitconf_store.specs.RenameErrors.{rename_refusal};
-ghost use Rattle.gitconf_store.specs.Edited.{causes, header_causes, heading_causes, IsEdited};
-ghost use Rattle.gitconf_body.specs.Done.{checked, first_cause, IsRefusedFor};
+ghost use Rattle.gitconf_store.specs.Edited.{has_number, heading_causes, IsEdited};
+ghost use Rattle.gitconf_body.specs.Done.{checked, first_cause};
 ghost use Rattle.gitconf_body.specs.Refusals.{header_refusal};
 
 use crate::headings::{passing_places, set_headers};
@@ -78,13 +77,8 @@ impl Store {
         name: &str,
         subsection_name: Option<&[u8]>,
     ) -> Result<(), HeaderError>
-        ensures ok { OnOk result (self.new ≡ with_used self.new.used (apply (Rename id name.now (option_copied subsection_name.entry)) self.old)) }
-        ensures err { OnErr result (self.new ≡ self.old) }
-        ensures put { IfSome (numbered id self.old) (λ _. OnOk result (self.new.used ≡ self.old.used + header_bytes name.now (option_copied subsection_name.entry))) }
-        ensures told { IfSome (numbered id self.old)
-            (λ _. IsRefusedFor header_refusal (first_cause (causes (Rename id name.now (option_copied subsection_name.entry)) self.old)) result) }
-        ensures missing { numbered id self.old ≡ None → self.new ≡ self.old }
-        ensures unnumbered { numbered id self.old ≡ None → result ≡ checked header_refusal (first_cause (header_causes true name.now (option_copied subsection_name.entry))) }
+        ensures done { IsEdited header_refusal (Rename id name.now (option_copied subsection_name.entry)) result self.old self.new }
+        ensures stands { has_number id self.old ≡ true → has_number id self.new ≡ true }
     {
         validate(name.as_bytes(), subsection_name)?;
         let Some(at) = self.sections.position(id) else {

@@ -15,6 +15,7 @@ impl Store {
     ghost use Rattle.gitconf_text.specs.Names.{is_value_name};
     ghost use Rattle.gitconf_sources.specs.Key.{key_of};
     ghost use Rattle.gitconf_lookups.specs.Lookups.{texts_of};
+    ghost use Rattle.gitconf_body.specs.Refusals.{span_refusal};
     ghost use Rattle.gitconf_store.specs.Several.{all_deleted, all_meanings, meaning_of_place, AreRewritten, AreSetExisting};
 
     /// Writes the entries at places again, the first one with the first value and so on, up to the end of the shorter list. A place is the
@@ -25,7 +26,7 @@ impl Store {
     ///
     /// # Errors
     ///
-    /// Those of [`Store::push_entry`]; number 3 at the first entry whose bytes, with those of the entries before it, would pass the limit.
+    /// Those of [`Store::push_newline`]; number 3 at the first entry whose bytes, with those of the entries before it, would pass the limit.
     /// The entries before the one that was refused then have their values, and no other is changed.
     pub fn rewrite_entries_at(
         &mut self,
@@ -34,10 +35,8 @@ impl Store {
         values: &[&[u8]],
     ) -> Result<(), span::Error>
         requires { is_value_name key.now ≡ true }
-        ensures { AreRewritten (λ e. e) key.now places.now (map (λ v. v.now) values.now) result self.old self.new }
+        ensures { AreRewritten span_refusal key.now places.now (map (λ v. v.now) values.now) result self.old self.new }
     {
-        // A file's buffer is below the limit.
-        let _ = &self.buffer;
         let mut left = places;
         for value in values {
             let Some((place, behind)) = left.split_first() else {
@@ -61,10 +60,8 @@ impl Store {
         value: &[u8],
     ) -> Result<(), span::Error>
         requires { is_value_name key.now ≡ true }
-        ensures { AreRewritten (λ e. e) key.now places.now (map (λ _. value.now) places.now) result self.old self.new }
+        ensures { AreRewritten span_refusal key.now places.now (map (λ _. value.now) places.now) result self.old self.new }
     {
-        // A file's buffer is below the limit.
-        let _ = &self.buffer;
         let mut left = places;
         while let Some((place, behind)) = left.split_first() {
             self.rewrite_entry_at(place.0, place.1, InPlaceOf::Entry, key, value)?;

@@ -1,6 +1,7 @@
 //! The trust of a section of a store.
-ghost use Rattle.std.specs.Prelude.{◌≡◌, IfOk, IsOk, None, OnErr, OnOk};
+ghost use Rattle.std.specs.Prelude.{◌≡◌, true, IfOk, IsOk, None, OnErr, OnOk};
 ghost use Rattle.gitconf_state.specs.Edits.{SetTrust, apply, numbered};
+ghost use Rattle.gitconf_store.specs.Edited.{has_number};
 
 use crate::store::Store;
 use gitconf_sources::source::Trust;
@@ -21,6 +22,7 @@ impl Store {
         ensures ok { OnOk result (self.new ≡ apply (SetTrust id trust) self.old) }
         ensures none { numbered id self.old ≡ None → IsOk result }
         ensures err { OnErr result (self.new ≡ self.old) }
+        ensures stands { has_number id self.old ≡ true → has_number id self.new ≡ true }
     {
         let Some(at) = self.sections.position(id) else {
             return Ok(());

@@ -17,19 +17,20 @@ use gitconf_text::parse::span;
 impl Store {
     ghost use Rattle.std.specs.Fn.{ComputesKey};
     ghost use Rattle.std.specs.Option.{option_copied};
-    ghost use Rattle.std.specs.List.{list_any};
-    ghost use Rattle.std.specs.Prelude.{◌≡◌, ◌==◌, Bool, true, IfOk, IsOk, None, OnOk, OnErr};
+    ghost use Rattle.std.specs.Prelude.{◌≡◌, Bool, true, IfOk};
     ghost use Rattle.bstr.specs.Owned.{bstring_bytes};
     ghost use Rattle.gitconf_text.specs.Names.{is_value_name};
     ghost use Rattle.gitconf_sources.specs.Metadata.{Meta};
-    ghost use Rattle.gitconf_state.specs.Edit.{with_used};
-    ghost use Rattle.gitconf_state.specs.Edits.{apply, items_of_numbered, numbered, said_in_section, DeleteAt, IsEditor, WriteAt};
-    ghost use Rattle.gitconf_body.specs.ValuesAt.{instead_of, rewritten_put, written_put};
-    ghost use Rattle.gitconf_store.specs.Editors.{given_editor, IsGiven, PutsIn};
+    ghost use Rattle.gitconf_state.specs.Edits.{apply, said_in_section, DeleteAt, IsEditor, WriteAt};
+    ghost use Rattle.gitconf_body.specs.Blanks.{given_editor, IsGiven, PutsAround};
+    ghost use Rattle.gitconf_body.specs.Refusals.{span_refusal};
+    ghost use Rattle.gitconf_body.specs.ValuesAt.{instead_of};
+    ghost use Rattle.gitconf_store.specs.Edited.{has_number, IsEdited};
+    ghost use Rattle.gitconf_store.specs.Existing.{IsRewritten};
     ghost use Rattle.gitconf_sources.specs.Key.{key_of};
     ghost use Rattle.gitconf_lookups.specs.Lookups.{IsFound};
     ghost use Rattle.gitconf_lookups.specs.SomeSections.{Filtered};
-    ghost use Rattle.gitconf_lookups.specs.ValuePlaces.{all_stand, editor_of_numbered, key_places, meaning_at, value_place, ArePlaces, IsPlace};
+    ghost use Rattle.gitconf_lookups.specs.ValuePlaces.{all_stand, key_places, meaning_at, value_place, ArePlaces, IsPlace};
 
     /// The place of the last entry of a key, with `=` or without it, in the last section that has one, of those that have the name,
     /// without ASCII case, and exactly the subsection, and whose metadata passes the filter: the number of the section, and the entry's
@@ -49,7 +50,7 @@ impl Store {
         requires { F.IsAlwaysCallable filter }
         ensures filtered { Filtered (λ keeps. ComputesKey F.FnMut keeps filter)
             (λ keeps s. IsPlace (key_of key.entry) self.now (value_place (key_of key.entry) keeps s) result) self.now }
-        ensures stands { IfOk result (λ place. list_any (λ s. s.number == place.0) self.now.sections ≡ true) }
+        ensures stands { IfOk result (λ place. has_number place.0 self.now ≡ true) }
     {
         self.check_named(key.section_name, key.subsection_name)?;
         let name = key.value_name.as_bytes();
@@ -123,7 +124,7 @@ impl Store {
     ///
     /// # Errors
     ///
-    /// Those of [`Store::push_entry`].
+    /// Those of [`Store::push_newline`].
     pub fn write_entry_at(
         &mut self,
         id: SectionId,
@@ -134,12 +135,12 @@ impl Store {
         value: &[u8],
     ) -> Result<(), span::Error>
         requires given { IsGiven editor.now }
+        requires puts { PutsAround editor.now }
         requires editor { IsEditor (given_editor editor.now) }
         requires key { is_value_name key.now ≡ true }
-        ensures ok { OnOk result (self.new ≡ with_used self.new.used
-            (apply (WriteAt id (given_editor editor.now) place (instead_of in_place_of) key.now value.now) self.old)) }
-        ensures err { OnErr result (self.new ≡ self.old) }
-        ensures used { PutsIn id result (written_put editor.now key.now value.now) self.old self.new }
+        ensures done { IsEdited span_refusal (WriteAt id (given_editor editor.now) place (instead_of in_place_of) key.now value.now)
+            result self.old self.new }
+        ensures stands { has_number id self.old ≡ true → has_number id self.new ≡ true }
     {
         let entry = WriteEntry {
             editor,
@@ -156,7 +157,7 @@ impl Store {
     ///
     /// # Errors
     ///
-    /// Those of [`Store::push_entry`].
+    /// Those of [`Store::push_newline`].
     pub fn rewrite_entry_at(
         &mut self,
         id: SectionId,
@@ -166,12 +167,7 @@ impl Store {
         value: &[u8],
     ) -> Result<(), span::Error>
         requires key { is_value_name key.now ≡ true }
-        ensures ok { OnOk result (self.new ≡ with_used self.new.used
-            (apply (WriteAt id (editor_of_numbered id self.old) place (instead_of in_place_of) key.now value.now) self.old)) }
-        ensures err { OnErr result (self.new ≡ self.old) }
-        ensures used { PutsIn id result (rewritten_put key.now value.now (items_of_numbered id self.old)) self.old self.new }
-        // If no section has the number, it can't fail.
-        ensures missing { numbered id self.old ≡ None → IsOk result }
+        ensures { IsRewritten span_refusal (instead_of in_place_of) (id, place) key.now value.now result self.old self.new }
     {
         let entry = RewriteEntry {
             place,
@@ -186,7 +182,8 @@ impl Store {
     /// stays as it is, even the blanks and line endings around it; if the section has fewer items, or no section has the number, everything
     /// does. It can't fail, and takes no memory. The section is found in constant time.
     pub fn delete_entry_at(&mut self, id: SectionId, place: usize)
-        ensures { self.new ≡ apply (DeleteAt id place) self.old }
+        ensures deleted { self.new ≡ apply (DeleteAt id place) self.old }
+        ensures stands { has_number id self.new ≡ has_number id self.old }
     {
         self.delete_run(id, &[(id, place)]);
     }

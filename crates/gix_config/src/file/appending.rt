@@ -1,10 +1,9 @@
 //! Sections and files put into a file.
-ghost use Rattle.std.specs.Prelude.{◌≡◌, ◌⊎◌, ◌↔◌, ◌+◌, ◌<◌, ◌≤◌, ◌^◌, length, true, IfErr, IfOk, IsErrOf, OnErr, OnOk};
-ghost use Rattle.gitconf_text.specs.Sections.{no_number};
-ghost use Rattle.gitconf_state.specs.Edit.{spacing_of, with_used};
-ghost use Rattle.gitconf_state.specs.Edits.{Append, PushSection, apply};
-ghost use Rattle.gitconf_store.specs.Appends.{appended_bytes};
-ghost use Rattle.gix_config.specs.Edited.{has_number};
+ghost use Rattle.std.specs.Prelude.{◌≡◌, true, IfOk};
+ghost use Rattle.gitconf_state.specs.Edit.{spacing_of};
+ghost use Rattle.gitconf_state.specs.Edits.{Append, PushSection};
+ghost use Rattle.gitconf_body.specs.Refusals.{span_refusal};
+ghost use Rattle.gitconf_store.specs.Edited.{has_number, IsEdited};
 
 use crate::file::{File, Section, SectionId};
 use gitconf_body::blanks::Blanks;
@@ -17,13 +16,9 @@ impl File {
         &mut self,
         section: Section,
     ) -> Result<(SectionId, Blanks), span::Error>
-        ensures ok { OnOk result (self.new ≡ with_used self.new.used (apply (PushSection section) self.old)) }
+        ensures done { IsEdited span_refusal (PushSection section) result self.old self.new }
         ensures told { IfOk result (λ f. f ≡ (self.old.next, spacing_of section.section.items)) }
         ensures stands { IfOk result (λ f. has_number f.0 self.new ≡ true) }
-        ensures err { OnErr result (self.new ≡ self.old) }
-        ensures too_large { IsErrOf result 3 ↔ ((2 ^ 32 ≤ self.old.used + section.used) ⊎ (self.old.next ≡ no_number)) }
-        ensures put { OnOk result (self.new.used ≡ self.old.used + section.used) }
-        ensures known { IfErr result (λ e. (e ≡ 3) ⊎ (e ≡ 27)) }
     {
         self.store.check_pushed(&section)?;
         let blanks = section.to_ref().blanks()?;
@@ -43,12 +38,7 @@ impl File {
     /// A [`span::Error`]: number 3 if and only if the buffer would be longer than 4294967295 bytes or fewer numbers are left than the other
     /// has sections, otherwise 27 when out of memory. The other is then dropped, and the file as it was.
     pub fn append(&mut self, other: File) -> Result<(), span::Error>
-        ensures ok { OnOk result (self.new ≡ with_used self.new.used (apply (Append other) self.old)) }
-        ensures err { OnErr result (self.new ≡ self.old) }
-        ensures too_large { IsErrOf result 3
-            ↔ ((2 ^ 32 ≤ self.old.used + appended_bytes other self.old) ⊎ (no_number < self.old.next + length other.sections)) }
-        ensures put { OnOk result (self.new.used ≡ self.old.used + appended_bytes other self.old) }
-        ensures known { IfErr result (λ e. (e ≡ 3) ⊎ (e ≡ 27)) }
+        ensures { IsEdited span_refusal (Append other) result self.old self.new }
     {
         self.store.append(other.store)
     }

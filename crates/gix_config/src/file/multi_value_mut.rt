@@ -1,12 +1,13 @@
 //! Editing the values of all entries of a key.
 
-mod editing;
+mod edited;
 mod making;
 pub mod targets;
 
 use crate::file::File;
 use crate::lookup::existing;
 use bstr::BString;
+use gitconf_body::value_at::InPlaceOf;
 use gitconf_text::parse::span;
 use targets::Targets;
 
@@ -35,6 +36,7 @@ impl<T: Drop> Drop for MultiValueMut<'_, T> {
 impl<'a> MultiValueMut<'a> {
     ghost use Rattle.std.specs.Prelude.{◌≡◌, ◌<◌, ◌==◌, [], length, map};
     ghost use Rattle.gitconf_state.specs.Edits.{apply};
+    ghost use Rattle.gitconf_body.specs.Refusals.{span_refusal};
     ghost use Rattle.gitconf_store.specs.Several.{all_deleted, AreRewritten};
     ghost use Rattle.gix_config.specs.MultiValueEditors.{edited, deleting, key_of, lent, places_of, AreMeanings, IsOneSet};
     ghost use Rattle.gix_config.specs.Targeted.{without_place};
@@ -50,7 +52,7 @@ impl<'a> MultiValueMut<'a> {
         if self.is_empty() {
             return Err(existing::Error::KeyMissing);
         }
-        match self.file.meanings_at(self.targets.places()) {
+        match self.file.store.meanings_at(self.targets.places()) {
             Ok(texts) => Ok(texts),
             Err(_) => Err(existing::Error::Memory),
         }
@@ -87,7 +89,13 @@ impl<'a> MultiValueMut<'a> {
         ensures done { IsOneSet self.old index value.now result (edited self.new) }
     {
         let place = self.targets.at(index);
-        self.file.rewrite_entry_at(place, self.targets.key(), value)
+        self.file.store.rewrite_entry_at(
+            place.0,
+            place.1,
+            InPlaceOf::Entry,
+            self.targets.key(),
+            value,
+        )
     }
 
     /// As [`MultiValueMut::set_at`], with the bytes of a text.
@@ -118,9 +126,10 @@ impl<'a> MultiValueMut<'a> {
         ensures same_file { lent self.new ≡ lent self.old }
         ensures same_key { key_of self.new ≡ key_of self.old }
         ensures same_places { places_of self.new ≡ places_of self.old }
-        ensures done { AreRewritten (λ e. e) (key_of self.old) (places_of self.old) (map (λ v. v.now) values.now) result (edited self.old) (edited self.new) }
+        ensures done { AreRewritten span_refusal (key_of self.old) (places_of self.old) (map (λ v. v.now) values.now) result (edited self.old) (edited self.new) }
     {
         self.file
+            .store
             .rewrite_entries_at(self.targets.places(), self.targets.key(), values)
     }
 
@@ -133,10 +142,11 @@ impl<'a> MultiValueMut<'a> {
         ensures same_file { lent self.new ≡ lent self.old }
         ensures same_key { key_of self.new ≡ key_of self.old }
         ensures same_places { places_of self.new ≡ places_of self.old }
-        ensures done { AreRewritten (λ e. e) (key_of self.old) (places_of self.old) (map (λ _. value.now) (places_of self.old)) result
+        ensures done { AreRewritten span_refusal (key_of self.old) (places_of self.old) (map (λ _. value.now) (places_of self.old)) result
             (edited self.old) (edited self.new) }
     {
         self.file
+            .store
             .rewrite_all_entries_at(self.targets.places(), self.targets.key(), value)
     }
 
@@ -154,7 +164,7 @@ impl<'a> MultiValueMut<'a> {
         ensures deleted { edited self.new ≡ apply (deleting self.old index) (edited self.old) }
     {
         let gone = self.targets.take(index);
-        self.file.delete_entry_at(gone.0, gone.1);
+        self.file.store.delete_entry_at(gone.0, gone.1);
     }
 
     /// Deletes all entries that are left, each as [`MultiValueMut::delete`] does, the last one first. It can't fail, and takes no memory.
@@ -166,7 +176,7 @@ impl<'a> MultiValueMut<'a> {
         ensures left { places_of self.new ≡ [] }
         ensures deleted { edited self.new ≡ all_deleted (places_of self.old) (edited self.old) }
     {
-        self.file.delete_entries_at(self.targets.places());
+        self.file.store.delete_entries_at(self.targets.places());
         self.targets.clear();
     }
 }

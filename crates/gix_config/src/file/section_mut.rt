@@ -1,7 +1,7 @@
 //! Editing one section of a file.
 ghost use Rattle.std.proofs.Math.Bool.{Bool-set};
 ghost use Rattle.std.specs.Prelude.{◌≡◌, true};
-ghost use Rattle.gix_config.specs.Edited.{has_number};
+ghost use Rattle.gitconf_store.specs.Edited.{has_number};
 
 mod making;
 mod reading;
@@ -80,6 +80,7 @@ impl<'a> SectionMut<'a> {
     {
         let editor = self.blanks.editor(self.line_end, self.ends);
         self.file
+            .store
             .push_entry(self.id, &editor, value_name.as_bytes(), value, comment)
     }
 
@@ -149,6 +150,7 @@ impl<'a> SectionMut<'a> {
     {
         let editor = self.blanks.editor(self.line_end, self.ends);
         self.file
+            .store
             .push_entry_after_last(self.id, &editor, value_name.as_bytes(), value)
     }
 
@@ -164,7 +166,7 @@ impl<'a> SectionMut<'a> {
         ensures done { IsEdited span_refusal (PushLineEnd (number_of self.old) (editor self.old)) result (edited self.old) (edited self.new) }
     {
         let editor = self.blanks.editor(self.line_end, self.ends);
-        self.file.push_newline(self.id, &editor)
+        self.file.store.push_newline(self.id, &editor)
     }
 
     /// Gives the last entry of the name another value: what follows `=` is replaced, and `=` is added if there is none, with
@@ -189,6 +191,7 @@ impl<'a> SectionMut<'a> {
         let editor = self.blanks.editor(self.line_end, self.ends);
         match self
             .file
+            .store
             .set_entry(self.id, &editor, value_name.as_bytes(), value)
         {
             Ok(Some(old)) => Ok(Some(BString::new(old))),
@@ -214,7 +217,11 @@ impl<'a> SectionMut<'a> {
         ensures none { answer (Remove (number_of self.old) value_name.now) (edited self.old) ≡ Raw None → IsOk result }
         ensures err { OnErr result (edited self.new ≡ edited self.old) }
     {
-        match self.file.remove_entry(self.id, value_name.as_bytes())? {
+        match self
+            .file
+            .store
+            .remove_entry(self.id, value_name.as_bytes())?
+        {
             Some(old) => Ok(Some(BString::new(old))),
             None => Ok(None),
         }
@@ -239,6 +246,7 @@ impl<'a> SectionMut<'a> {
         ensures err { OnErr result (edited self.new ≡ edited self.old) }
     {
         self.file
+            .store
             .remove_marked_entries(self.id, value_name.as_bytes(), marks)
     }
 
@@ -261,7 +269,7 @@ impl<'a> SectionMut<'a> {
         ensures none { answer (Pop (number_of self.old)) (edited self.old) ≡ Entry None → IsOk result }
         ensures err { OnErr result (edited self.new ≡ edited self.old) }
     {
-        let popped = self.file.pop_entry(self.id)?;
+        let popped = self.file.store.pop_entry(self.id)?;
         Ok(texts_of(popped))
     }
 
@@ -287,7 +295,8 @@ impl<'a> SectionMut<'a> {
             (edited self.new) }
     {
         self.file
-            .rename_numbered(self.id, name, bytes_of(&subsection_name))
+            .store
+            .rename(self.id, name, bytes_of(&subsection_name))
     }
 
     /// Sets how far the section is trusted. If it shared its metadata with others, it has its own from then on. Takes memory for that.
@@ -302,7 +311,7 @@ impl<'a> SectionMut<'a> {
         ensures ok { OnOk result (edited self.new ≡ apply (SetTrust (number_of self.old) trust) (edited self.old)) }
         ensures err { OnErr result (edited self.new ≡ edited self.old) }
     {
-        self.file.set_trust_of(self.id, trust)
+        self.file.store.set_trust(self.id, trust)
     }
 
     /// Sets other blanks before names, or none. Only white space may be given ([`is_whitespace`](crate::file::is_whitespace)).

@@ -1,9 +1,9 @@
 //! Editing the value of one entry of a file.
 ghost use Rattle.std.proofs.Math.Bool.{Bool-set};
 ghost use Rattle.std.specs.Prelude.{◌≡◌, true};
-ghost use Rattle.gix_config.specs.Edited.{has_number};
+ghost use Rattle.gitconf_store.specs.Edited.{has_number};
 
-mod editing;
+mod edited;
 mod making;
 pub mod spelling;
 
@@ -75,7 +75,7 @@ impl<'a> ValueMut<'a> {
         if !self.stands {
             return Err(existing::Error::KeyMissing);
         }
-        match self.file.meaning_at(self.id, self.place) {
+        match self.file.store.meaning_at(self.id, self.place) {
             Ok(Some(text)) => Ok(text),
             Ok(None) => Err(existing::Error::KeyMissing),
             Err(_) => Err(existing::Error::Memory),
@@ -106,7 +106,7 @@ impl<'a> ValueMut<'a> {
             InPlaceOf::Nothing
         };
         let editor = self.spelling.editor(self.line_end);
-        self.file.write_entry_at(
+        self.file.store.write_entry_at(
             self.id,
             &editor,
             self.place,
@@ -146,7 +146,7 @@ impl<'a> ValueMut<'a> {
         ensures stands { stands_there self.new ≡ false }
     {
         if self.stands {
-            self.file.delete_entry_at(self.id, self.place);
+            self.file.store.delete_entry_at(self.id, self.place);
             self.stands = false;
         }
     }

@@ -1,9 +1,12 @@
 use Rattle.std.proofs.Common.{ap, map, subst}
 use Rattle.gitconf_text.specs.Document.{Document}
-use Rattle.gitconf_text.specs.Token.{spelled_token}
+use Rattle.gitconf_text.specs.Token.{spelled_token, tokens_of}
 use Rattle.gitconf_state.specs.Inserted.{Inserted}
 use Rattle.gitconf_state.specs.Printing.{printed}
-use Rattle.gitconf_state.proofs.Loading.Clean.{full_has_items, full_is_clean}
+use Rattle.gitconf_items.specs.TokenDocument.{keeps_meaning}
+use Rattle.gitconf_items.proofs.TextLaws.{lossy_keeps_entries}
+use Rattle.gitconf_state.specs.Loads.{IsLoad}
+use Rattle.gitconf_state.proofs.Loading.Clean.{full_has_items, full_is_clean, kept_has_items, lossy_is_clean}
 use Rattle.gitconf_state.proofs.Exact.Printing.{byte_for_byte}
 use Rattle.gitconf_state.proofs.Printing.InsertingLineEnds.{printed_inserted}
 use Rattle.gix_config.proofs.Headline.{loads_equal, made_is_load, runs_keep, runs_read}
@@ -17,9 +20,14 @@ pub returns-clause-reads : goal.returns-clause-reads
 returns-clause-reads c = runs_read
 
 pub returns-clause-loaded : goal.returns-clause-loaded
-returns-clause-loaded c = λ text parts place bytes calls endings old new is made are clean runs.
+returns-clause-loaded c = λ text parts place bytes calls old new is made clean runs.
     let load = made_is_load parts place bytes old made in
-    runs_read calls endings old new are clean (full_has_items parts old is.fits load) (full_is_clean parts old is.fits load) runs
+    runs_read calls old new clean (full_has_items parts old is.fits load) (full_is_clean parts old is.fits load) runs
+
+pub returns-clause-lossy : goal.returns-clause-lossy
+returns-clause-lossy c = λ text parts place bytes calls old new is made none clean runs.
+    let load : IsLoad keeps_meaning parts old = record { tokens = made.tokens_are; held = made.held } in
+    runs_read calls old new clean (kept_has_items keeps_meaning parts old (lossy_keeps_entries (tokens_of parts)) is.fits load) (lossy_is_clean parts old is.fits load none) runs
 
 pub returns-clause-again : goal.returns-clause-again
 returns-clause-again c = λ parts place bytes new again. loads_equal new again parts place bytes

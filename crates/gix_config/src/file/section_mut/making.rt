@@ -51,26 +51,22 @@ impl File {
     ghost use Rattle.bstr.specs.Owned.{bstring_bytes};
     ghost use Rattle.std.specs.Borrow.{sem, RestsIfErr};
     ghost use Rattle.std.specs.Fn.{ComputesKey};
-    ghost use Rattle.std.specs.List.{list_any};
     ghost use Rattle.std.specs.Option.{option_copied, option_map};
-    ghost use Rattle.std.specs.Prelude.{◌≡◌, ◌≢◌, ◌⊎◌, ◌↔◌, ◌==◌, ◌+◌, ◌≤◌, ◌^◌, Bool, false, true, IfErr, IfOk, IfSome, IsErrAnd, IsErrOf, MatchResult, None, OnErr};
-    ghost use Rattle.gitconf_text.specs.declared.parse.section.header.Error.TheVariants.{InvalidName, InvalidSubSection};
-    ghost use Rattle.gitconf_text.specs.Names.{is_made_name, is_valid_or_none};
+    ghost use Rattle.std.specs.Prelude.{◌≡◌, ◌≢◌, Bool, true, IfOk, IfSome, MatchResult, None, OnErr};
     ghost use Rattle.gitconf_text.specs.SectionKeys.{parsed_section_key};
     ghost use Rattle.gitconf_sources.specs.Metadata.{Meta};
-    ghost use Rattle.gitconf_state.specs.Edit.{new_section, with_used};
-    ghost use Rattle.gitconf_state.specs.Edits.{NewSection, PushSection, apply};
+    ghost use Rattle.gitconf_state.specs.Edit.{new_section};
+    ghost use Rattle.gitconf_state.specs.Edits.{NewSection, PushSection};
     ghost use Rattle.gitconf_state.specs.Editors.{editor_of};
     ghost use Rattle.gitconf_body.specs.Blanks.{editor_with};
-    ghost use Rattle.gitconf_text.specs.Sections.{no_number};
     ghost use Rattle.gitconf_state.specs.Lookup.{listed, miss_of};
     ghost use Rattle.gitconf_lookups.specs.Misses.{IsExisting};
     ghost use Rattle.gitconf_lookups.specs.Picks.{picked};
     ghost use Rattle.gitconf_lookups.specs.SomeSections.{Filtered};
     ghost use Rattle.gix_config.specs.contracts.file.File.{the_row};
-    ghost use Rattle.gix_config.specs.Edited.{has_number};
+    ghost use Rattle.gitconf_store.specs.Edited.{has_number};
     ghost use Rattle.gitconf_body.specs.Done.{first_cause, IsRefusedFor};
-    ghost use Rattle.gitconf_body.specs.Refusals.{header_refusal};
+    ghost use Rattle.gitconf_body.specs.Refusals.{header_refusal, span_refusal};
     ghost use Rattle.gitconf_store.specs.Edited.{causes, done};
     ghost use Rattle.gix_config.specs.SectionEditors.{blanks_at, edited, editor_at, lent, told, IsEditorOfKey, IsFoundOrMade, IsFoundOrMadeOf, IsNumbered, IsPassingEditorOfKey, IsPickedOf};
 
@@ -345,11 +341,9 @@ impl File {
     /// of memory. The section is then dropped, and the file as it was.
     pub fn push_section(&mut self, section: Section) -> Result<SectionMut<'_>, span::Error>
         ensures same_file { IfOk result (λ e. lent e ≡ self.entry.ghost_name) }
-        ensures put { IfOk result (λ e. edited e ≡ with_used (edited e).used (apply (PushSection section) self.old)) }
+        ensures put { IfOk result (λ e. edited e ≡ done (PushSection section) self.old) }
         ensures editor { IfOk result (λ e. told e ≡ (self.old.next, editor_of (edited e) section.section)) }
-        ensures too_large { IsErrOf result 3 ↔ ((2 ^ 32 ≤ self.old.used + section.used) ⊎ (self.old.next ≡ no_number)) }
-        ensures known { IfErr result (λ e. (e ≡ 3) ⊎ (e ≡ 27)) }
-        ensures added { IfOk result (λ e. (edited e).used ≡ self.old.used + section.used) }
+        ensures told { IsRefusedFor span_refusal (first_cause (causes (PushSection section) self.old)) result }
         ensures* refused { sem 𝓛 (RestsIfErr the_row self.entry lent result (λ n. n ≡ self.old)) }
     {
         let (id, blanks) = self.put_section(section)?;

@@ -1,11 +1,11 @@
 use Rattle.std.proofs.Common.{rules, ◌≡◌, Some, None, refl, sym, ap, subst, ◌∙◌, length, true, false, [], inl}
-use Rattle.std.specs.Prelude.{IfOk}
+use Rattle.std.specs.Prelude.{IfOk, OnOk}
 use Rattle.std.specs.List.{list_all, list_any}
 use Rattle.std.specs.Option.{option_map}
 use Rattle.gitconf_text.specs.Sections.{place_of}
 use Rattle.gitconf_table.proofs.SectionLemmas.{number_at-place, section_edited}
 use Rattle.gitconf_state.specs.Editors.{popped, popped_entry}
-use Rattle.gitconf_state.specs.Edits.{items_of_numbered, Entry, Pop}
+use Rattle.gitconf_state.specs.Edits.{apply, items_of_numbered, Entry, Pop}
 use Rattle.gitconf_state.specs.State.{is_item}
 use Rattle.gitconf_state.proofs.Edits.EditorItems.{popped_all}
 use Rattle.gitconf_state.proofs.Edits.Keep.{apply_items}
@@ -17,6 +17,8 @@ use Rattle.gitconf_sections.specs.Section.{Section, with_items, viewed}
 use Rattle.gitconf_views.specs.Store.{state_of, StoreFits}
 use Rattle.gitconf_store.proofs.Edits.Editing.{missing_stays, missing_told, numbered_items_at, numbered_kept, numbered_told, numbered_view, entry_inside}
 use Rattle.gitconf_views.proofs.PoppedKeys.{items_at, key_named}
+use Rattle.gitconf_store.specs.Edited.{has_number}
+use Rattle.gitconf_store.proofs.Edits.Numbered.{either_stands, items_keep_numbers}
 use Rattle.gitconf_store.proofs.Edits.Setting.{HasOthers}
 use Rattle.gitconf_store.proofs.store.Store.pop_entry.Goals as goal
 
@@ -94,3 +96,13 @@ returns-clause-name c =
     let all = subst (λ xs. list_all is_item xs ≡ true) (sym (numbered_items_at c.self.inside.buffer.items c.self.inside.front.items c.self.inside.meta.value c.self.inside.sections c.args.id c.in-Some.at s
     c.position.ensures.numbered.once c.at-section.ensures number)) (items_at c.self.inside.buffer.items s c.self.inside.sections.entries c.in-Some.at c.self.invariant.items.sections c.at-section.ensures) in
     key_named (items_of_numbered c.args.id c.args.self.now) c.in_ok-edit_items.field-0 (subst (λ state. list_all is_item (items_of_numbered c.args.id state) ≡ true) c.self.view_is all) told
+
+pub returns-in_default-last_entry-clause-stands : goal.returns-in_default-last_entry-clause-stands
+returns-in_default-last_entry-clause-stands c = λ stands.
+    ap (has_number c.args.id) (returns-in_default-last_entry-clause-ok c) ∙ items_keep_numbers c.args.id c.args.id popped c.args.self.now ∙ stands
+
+pub returns-clause-stands : goal.returns-clause-stands
+returns-clause-stands c =
+    let ok : OnOk c.in_ok-edit_items.field-0 (c.edit_items.new.self ≡ apply (Pop c.args.id) c.args.self.now) = search rules in
+    either_stands c.in_ok-edit_items.field-0 c.args.self.now c.edit_items.new.self (apply (Pop c.args.id) c.args.self.now) c.args.id
+    (items_keep_numbers c.args.id c.args.id (popped) c.args.self.now) ok c.in_ok-edit_items.ensures.err

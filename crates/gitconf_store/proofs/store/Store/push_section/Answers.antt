@@ -1,5 +1,9 @@
-use Rattle.std.proofs.Common.{rules, ◌≡◌, ◌-◌, ◌<◌, ◌^◌, [], refl, ◌++◌, length, ap, sym, subst, ◌∙◌, arith, append-nil, length-append}
-use Rattle.std.specs.Prelude.{OnOk}
+use Rattle.std.proofs.Common.{rules, ◌≡◌, ℕ, ◌+◌, ◌-◌, ◌==◌, ◌<◌, ◌≤◌, ◌^◌, [], Ok, refl, ◌++◌, length, ap, sym, subst, ◌∙◌, arith, append-nil, length-append}
+use Rattle.std.specs.Prelude.{◌⊎◌, ◌↔◌, IfErr, IsErrOf, OnOk}
+use Rattle.std.proofs.lemmas.Bool.{eq-eqb, eqb-true, le-leb, leb-true}
+use Rattle.gitconf_text.specs.Sections.{no_number}
+use Rattle.gitconf_body.specs.Done.{is_full}
+use Rattle.gitconf_store.proofs.Edits.Refused.{full_told}
 use Rattle.gitconf_items.specs.ShownEvents.{IsExtended}
 use Rattle.gitconf_state.specs.Edit.{with_used}
 use Rattle.gitconf_state.specs.Edits.{with_last}
@@ -14,6 +18,16 @@ use Rattle.gitconf_body.proofs.Outcomes.{if_err_at_all}
 use Rattle.gitconf_store.proofs.Edits.Setting.{sections_fit_in}
 use Rattle.gitconf_store.proofs.store.Store.push_section.Goals as goal
 
+pub returns-in_err-check_pushed-clause-done : goal.returns-in_err-check_pushed-clause-done
+returns-in_err-check_pushed-clause-done c = record {
+  ok = search rules;
+  err = search rules;
+  told = full_told (is_full c.args.self.now.used c.args.section.used) (c.args.self.now.next == no_number) c.from_residual.result
+      (let asked : IsErrOf c.from_residual.result 3 ↔ ((2 ^ 32 ≤ c.args.self.now.used + c.args.section.used) ⊎ (c.args.self.now.next ≡ no_number)) = search rules in asked)
+      (leb-true (2 ^ 32) (c.args.self.now.used + c.args.section.used)) (le-leb (2 ^ 32) (c.args.self.now.used + c.args.section.used))
+      (eqb-true c.args.self.now.next no_number) (eq-eqb c.args.self.now.next no_number) (let known : IfErr c.from_residual.result (λ e. (e ≡ 3) ⊎ (e ≡ 27)) = search rules in known);
+}
+
 pub invariant_of-self : goal.invariant_of-self
 invariant_of-self c =
     let inside = c.self.inside in
@@ -21,12 +35,19 @@ invariant_of-self c =
     same_fits inside.buffer.items c.take_back.new.buffer.items inside.copies.items c.put_text-text.new.copies.items inside.front.items inside.meta.value inside.sections
     (c.in_err-copies_by.ensures.err inside.buffer.items from c.put_text-text.ensures.grows.extended) ([], (let kept : c.put_text-text.new.copies.items ≡ inside.copies.items = search rules in kept) ∙ sym (append-nil inside.copies.items)) c.self.invariant
 
-pub returns-in_err-copies_by-clause-err : goal.returns-in_err-copies_by-clause-err
-returns-in_err-copies_by-clause-err c =
+pub returns-in_err-copies_by-clause-done : goal.returns-in_err-copies_by-clause-done
+returns-in_err-copies_by-clause-done c =
     let inside = c.self.inside in
     let from : length inside.buffer.items ≡ c.len-len.result = search rules in
-    rw (← c.self.view_is) (if_err_at_all c.from_residual-in_err-copies_by.result
-    (ap (λ x. state_of x inside.front.items inside.meta.value inside.sections) (c.in_err-copies_by.ensures.err inside.buffer.items from c.put_text-text.ensures.grows.extended)))
+    record {
+      ok = search rules;
+      err = rw (← c.self.view_is) (if_err_at_all c.from_residual-in_err-copies_by.result
+          (ap (λ x. state_of x inside.front.items inside.meta.value inside.sections) (c.in_err-copies_by.ensures.err inside.buffer.items from c.put_text-text.ensures.grows.extended)));
+      told = full_told (is_full c.args.self.now.used c.args.section.used) (c.args.self.now.next == no_number) c.from_residual-in_err-copies_by.result
+          (let asked : IsErrOf c.from_residual-in_err-copies_by.result 3 ↔ ((2 ^ 32 ≤ c.args.self.now.used + c.args.section.used) ⊎ (c.args.self.now.next ≡ no_number)) = search rules in asked)
+          (leb-true (2 ^ 32) (c.args.self.now.used + c.args.section.used)) (le-leb (2 ^ 32) (c.args.self.now.used + c.args.section.used))
+          (eqb-true c.args.self.now.next no_number) (eq-eqb c.args.self.now.next no_number) (let known : IfErr c.from_residual-in_err-copies_by.result (λ e. (e ≡ 3) ⊎ (e ≡ 27)) = search rules in known);
+    }
 
 pub move_list-requires : goal.move_list-requires
 move_list-requires c =
@@ -109,8 +130,8 @@ invariant_of-self-in_err-id c =
     let same : c.put_last-put.new.table ≡ inside.sections = search rules in
     rw same (same_fits b c.take_back-2.new.buffer.items copies more inside.front.items inside.meta.value inside.sections (c.in_err-id.ensures.err b from ext) (others, are) c.self.invariant)
 
-pub returns-in_err-id-clause-err : goal.returns-in_err-id-clause-err
-returns-in_err-id-clause-err c =
+pub returns-in_err-id-clause-done : goal.returns-in_err-id-clause-done
+returns-in_err-id-clause-done c =
     let inside = c.self.inside in
     let b = inside.buffer.items in
     let copies = inside.copies.items in
@@ -122,8 +143,15 @@ returns-in_err-id-clause-err c =
     let from : length b ≡ c.len-len.result = search rules in
     let ext = subst (λ x. IsExtended b x) (sym c.in_ok-copies_by.ensures.ok) c.put_text-text.ensures.grows.extended in
     let same : c.put_last-put.new.table ≡ inside.sections = search rules in
-    rw (← c.self.view_is) (if_err_at_all c.from_residual-in_err-id.result (ap (state_of c.take_back-2.new.buffer.items inside.front.items inside.meta.value) same
-    ∙ ap (λ x. state_of x inside.front.items inside.meta.value inside.sections) (c.in_err-id.ensures.err b from ext)))
+    record {
+      ok = search rules;
+      err = rw (← c.self.view_is) (if_err_at_all c.from_residual-in_err-id.result (ap (state_of c.take_back-2.new.buffer.items inside.front.items inside.meta.value) same
+          ∙ ap (λ x. state_of x inside.front.items inside.meta.value inside.sections) (c.in_err-id.ensures.err b from ext)));
+      told = full_told (is_full c.args.self.now.used c.args.section.used) (c.args.self.now.next == no_number) c.from_residual-in_err-id.result
+          (let asked : IsErrOf c.from_residual-in_err-id.result 3 ↔ ((2 ^ 32 ≤ c.args.self.now.used + c.args.section.used) ⊎ (c.args.self.now.next ≡ no_number)) = search rules in asked)
+          (leb-true (2 ^ 32) (c.args.self.now.used + c.args.section.used)) (le-leb (2 ^ 32) (c.args.self.now.used + c.args.section.used))
+          (eqb-true c.args.self.now.next no_number) (eq-eqb c.args.self.now.next no_number) (let known : IfErr c.from_residual-in_err-id.result (λ e. (e ≡ 3) ⊎ (e ≡ 27)) = search rules in known);
+    }
 
 pub invariant_of-self-2 : goal.invariant_of-self-2
 invariant_of-self-2 c =
@@ -152,8 +180,8 @@ invariant_of-self-2 c =
     pushed (rw c.deref-3.ensures.value at c.put_last-put.ensures.sections) c.put_last-put.ensures.next c.put_last-put.ensures.err in
     subst (λ x. StoreFits x more inside.front.items inside.meta.value c.put_last-put.new.table) (sym c.in_ok-id.ensures.ok) fits
 
-pub returns-clause-ok : goal.returns-clause-ok
-returns-clause-ok c =
+pub returns-clause-done : goal.returns-clause-done
+returns-clause-done c =
     let inside = c.self.inside in
     let b = inside.buffer.items in
     let copies = inside.copies.items in
@@ -178,4 +206,12 @@ returns-clause-ok c =
     (rw c.deref-3.ensures.value at c.put_last-put.ensures.sections) c.put_last-put.ensures.next in
     let done : state_of new inside.front.items inside.meta.value c.put_last-put.new.table ≡ with_used (length new) (with_last c.args.section.section c.args.self.now) =
     subst (λ r. OnOk r (state_of new inside.front.items inside.meta.value c.put_last-put.new.table ≡ with_used (length new) (with_last c.args.section.section c.args.self.now))) (sym c.in_ok-id.ensures.same) put in
-    subst (λ x. state_of x inside.front.items inside.meta.value c.put_last-put.new.table ≡ with_used (length x) (with_last c.args.section.section c.args.self.now)) (sym c.in_ok-id.ensures.ok) done
+    record {
+      ok = subst (λ x. state_of x inside.front.items inside.meta.value c.put_last-put.new.table ≡ with_used (length x) (with_last c.args.section.section c.args.self.now)) (sym c.in_ok-id.ensures.ok) done
+          ∙ ap (λ n. with_used n (with_last c.args.section.section c.args.self.now)) (let put : length c.take_back-2.new.buffer.items ≡ c.args.self.now.used + c.args.section.used = search rules in put);
+      err = tt;
+      told = full_told {T = ℕ} (is_full c.args.self.now.used c.args.section.used) (c.args.self.now.next == no_number) (Ok c.in_ok-id.id)
+          (let asked : IsErrOf {E = ℕ} (Ok c.in_ok-id.id) 3 ↔ ((2 ^ 32 ≤ c.args.self.now.used + c.args.section.used) ⊎ (c.args.self.now.next ≡ no_number)) = search rules in asked)
+          (leb-true (2 ^ 32) (c.args.self.now.used + c.args.section.used)) (le-leb (2 ^ 32) (c.args.self.now.used + c.args.section.used))
+          (eqb-true c.args.self.now.next no_number) (eq-eqb c.args.self.now.next no_number) (let known : IfErr {E = ℕ} (Ok c.in_ok-id.id) (λ e. (e ≡ 3) ⊎ (e ≡ 27)) = search rules in known);
+    }

@@ -8,6 +8,8 @@ use Rattle.gitconf_table.proofs.SectionLemmas.{section_edited}
 use Rattle.gitconf_sections.specs.Section.{Section, viewed}
 use Rattle.gitconf_views.specs.Store.{state_of, StoreFits}
 use Rattle.gitconf_store.proofs.Headers.Renaming.{is_numbered, unnumbered_stays}
+use Rattle.gitconf_store.specs.Edited.{has_number}
+use Rattle.gitconf_store.proofs.Edits.Numbered.{sections_keep_numbers}
 use Rattle.gitconf_store.proofs.Edits.Trusting.{IsTrusted, trusted_fits, trusted_state}
 use Rattle.gitconf_store.proofs.store.Store.set_trust.Goals as goal
 
@@ -44,3 +46,7 @@ returns-clause-ok c =
     let is : IsTrusted c.args.trust s t = record { header = refl; meta = meta; items = refl; held = refl } in
     rw (← c.self.view_is) (ap (state_of inside.buffer.items inside.front.items inside.meta.value) back ∙ trusted_state inside.buffer.items inside.front.items inside.meta.value inside.sections c.args.id c.in-Some.at c.args.trust s t c.position.ensures.numbered.once is
     c.at-section.ensures (number_at-place c.args.id inside.sections c.in-Some.at place))
+
+pub returns-clause-stands : goal.returns-clause-stands
+returns-clause-stands c = λ stands.
+    ap (has_number c.args.id) (returns-clause-ok c) ∙ sections_keep_numbers c.args.id c.args.id (with_trust c.args.trust) (λ s. refl) c.args.self.now ∙ stands

@@ -1,7 +1,7 @@
 use Rattle.std.proofs.Common.{◌≡◌, true, ap, sym, subst}
 use Rattle.std.specs.Option.{option_copied, option_map}
 use Rattle.gitconf_views.specs.Views.{shown}
-use Rattle.gix_config.specs.Edited.{has_number}
+use Rattle.gitconf_store.specs.Edited.{has_number}
 use Rattle.gix_config.specs.SectionEditors.{blanks_at}
 use Rattle.gix_config.proofs.Standing.{missing_told, named_none, picked_stands}
 use Rattle.gix_config.proofs.file.File.blanks_by_names.Goals as goal

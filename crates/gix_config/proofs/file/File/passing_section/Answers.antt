@@ -2,7 +2,7 @@ use Rattle.std.proofs.Common.{rules, ◌≡◌, true, [], None, ap, sym, subst}
 use Rattle.std.specs.Option.{option_copied, option_map}
 use Rattle.gitconf_lookups.specs.Picks.{picked}
 use Rattle.gitconf_views.specs.Views.{shown}
-use Rattle.gix_config.specs.Edited.{has_number}
+use Rattle.gitconf_store.specs.Edited.{has_number}
 use Rattle.gitconf_lookups.proofs.SomeSections.{none_of}
 use Rattle.gix_config.specs.SectionEditors.{blanks_at}
 use Rattle.gix_config.proofs.Standing.{missing_picked, some_stands}

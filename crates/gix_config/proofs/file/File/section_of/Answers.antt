@@ -1,7 +1,7 @@
 use Rattle.std.proofs.Common.{sym, ap, ◌∙◌}
 use Rattle.std.specs.Prelude.{option_map}
 use Rattle.gitconf_views.specs.Views.{shown}
-use Rattle.gix_config.specs.Edited.{has_number}
+use Rattle.gitconf_store.specs.Edited.{has_number}
 use Rattle.gix_config.proofs.Numbers.{number_missing}
 use Rattle.gix_config.proofs.file.File.section_of.Goals as goal
 

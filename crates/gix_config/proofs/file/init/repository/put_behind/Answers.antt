@@ -1,7 +1,8 @@
-use Rattle.std.proofs.Common.{Ok, Err, ap}
+use Rattle.std.proofs.Common.{Ok, Err}
 use Rattle.gitconf_includes.specs.Errors.{includes_number}
 use Rattle.gitconf_includes.specs.Outcomes.{asks_of}
 use Rattle.gitconf_loaders.specs.Errors.{git_of_includes}
+use Rattle.gitconf_loaders.proofs.Several.{append_refused}
 use Rattle.gix_config.specs.Repository.{IsExpanded}
 use Rattle.gix_config.proofs.Entries.{expanded_number}
 use Rattle.gix_config.proofs.Repositories.{first_refused, of_includes, then_put, then_refused}
@@ -18,10 +19,9 @@ pub returns-in_err-append-clause-put : goal.returns-in_err-append-clause-put
 returns-in_err-append-clause-put g c =
     let asks = asks_of c.args.options.now (g.F.Files.table c.args.files.now) in
     then_refused (IsExpanded asks c.args.file) c.args.target.now c.in_ok-file.file c.in_err-append.field-0.0 c.from_residual-in_err-append.result c.append.new.self
-    (expanded_number asks c.args.file (Ok c.in_ok-file.file) c.in_ok-file.ensures.expanded) (c.in_err-append.ensures.known, λ e. c.in_err-append.ensures.too_large.0 (ap Err e)) c.from_residual-in_err-append.ensures.1
+    (expanded_number asks c.args.file (Ok c.in_ok-file.file) c.in_ok-file.ensures.expanded) (append_refused c.args.target.now c.in_ok-file.file c.append.new.self c.in_err-append.field-0.0 c.in_err-append.ensures) c.from_residual-in_err-append.ensures.1
 
 pub returns-clause-put : goal.returns-clause-put
 returns-clause-put g c =
     let asks = asks_of c.args.options.now (g.F.Files.table c.args.files.now) in
-    then_put (IsExpanded asks c.args.file) c.args.target.now c.in_ok-file.file c.append.new.self (expanded_number asks c.args.file (Ok c.in_ok-file.file) c.in_ok-file.ensures.expanded) c.in_ok-append.ensures.ok
-    c.in_ok-append.ensures.put (λ large. let e = c.in_ok-append.ensures.too_large.1 large in absurd (cc))
+    then_put (IsExpanded asks c.args.file) c.args.target.now c.in_ok-file.file c.append.new.self (expanded_number asks c.args.file (Ok c.in_ok-file.file) c.in_ok-file.ensures.expanded) c.in_ok-append.ensures

@@ -1,7 +1,7 @@
-use Rattle.std.proofs.Common.{Err, ap}
 use Rattle.gitconf_state.specs.State.{State}
 use Rattle.gitconf_loaders.specs.Errors.{env_number, git_of_env}
 use Rattle.gitconf_loaders.proofs.Counts.{no_less}
+use Rattle.gitconf_loaders.proofs.Several.{append_refused}
 use Rattle.gix_config.specs.Environment.{IsOverrides}
 use Rattle.gix_config.proofs.Repositories.{first_refused, git_count, of_env, overriding_cause, then_put, then_refused}
 use Rattle.gix_config.proofs.file.init.repository.put_overrides.Goals as goal
@@ -26,10 +26,9 @@ pub returns-in_err-append-clause-put : goal.returns-in_err-append-clause-put
 returns-in_err-append-clause-put g c =
     let first = IsOverrides (g.E.Env.variables c.args.env.now) c.args.places.now (g.F.Files.table c.args.files.now) in
     then_refused first c.args.target.now c.in_ok-file.file c.in_err-append.field-0.0 c.from_residual-in_err-append.result c.append.new.self
-    c.in_ok-file.ensures.made (c.in_err-append.ensures.known, λ e. c.in_err-append.ensures.too_large.0 (ap Err e)) c.from_residual-in_err-append.ensures.1
+    c.in_ok-file.ensures.made (append_refused c.args.target.now c.in_ok-file.file c.append.new.self c.in_err-append.field-0.0 c.in_err-append.ensures) c.from_residual-in_err-append.ensures.1
 
 pub returns-clause-put : goal.returns-clause-put
 returns-clause-put g c =
     let first = IsOverrides (g.E.Env.variables c.args.env.now) c.args.places.now (g.F.Files.table c.args.files.now) in
-    then_put first c.args.target.now c.in_ok-file.file c.append.new.self c.in_ok-file.ensures.made c.in_ok-append.ensures.ok
-    c.in_ok-append.ensures.put (λ large. let e = c.in_ok-append.ensures.too_large.1 large in absurd (cc))
+    then_put first c.args.target.now c.in_ok-file.file c.append.new.self c.in_ok-file.ensures.made c.in_ok-append.ensures
