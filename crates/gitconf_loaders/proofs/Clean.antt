@@ -23,7 +23,7 @@ use Rattle.gitconf_includes.specs.Laws.{AreHeaded}
 use Rattle.gitconf_includes.proofs.States.{headed_stays, IsHeaded, loaded_headed}
 use Rattle.gitconf_loaders.specs.Resolving.{IsMadeOf}
 use Rattle.gitconf_loaders.specs.Globals.{empty_file, home_rules, IsGlobal}
-use Rattle.gitconf_loaders.specs.Paths.{AreLoaded, has_room_behind, IsBehind, IsFileLoaded, IsLoadedFrom, IsLoadOfPaths, IsMetaLoaded, IsTextTaken, Joins, once, taken}
+use Rattle.gitconf_loaders.specs.Paths.{AreFilesLoaded, has_room_behind, IsAppendedTo, IsFileLoaded, IsLoadedFrom, IsLoadOfPaths, IsMetaLoaded, IsTextTaken, Joins, once, taken}
 
 -- a full load
 full_clean : (text : List ℕ) (meta : Meta) (state : State) → IsLoaded false text meta state → IsClean state
@@ -55,7 +55,7 @@ no_entries (CommentItem tag text ∷ items) none = no_entries items none
 no_entries (EntryItem e ∷ items) none = absurd (cc)
 
 -- a file after another one
-pub behind_headed : (target other now : State) → IsHeaded target → IsHeaded other → IsBehind target other now → IsHeaded now
+pub behind_headed : (target other now : State) → IsHeaded target → IsHeaded other → IsAppendedTo target other now → IsHeaded now
 behind_headed target other now is more behind = subst IsHeaded (sym behind) (record {
   clean = record { sections = clean.sections; blanks = clean.blanks; names = clean.names };
   front = front target.sections;
@@ -132,7 +132,7 @@ module _ (files : List ℕ → FileReport) (asks : Asks) (tells : asks.table ≡
       some_in (Ok s) = s
       some_in (Err n) = None
 
-      go : (room : Bool) → elim room as (λ _. Type 0) [ true ↦ (s : State) × IsBehind target file s × (◌≡◌ {A = Result (Option State) ℕ} (Ok now) (Ok (Some s))) | false ↦ ◌≡◌ {A = Result (Option State) ℕ} (Ok now) (Err 3) ]
+      go : (room : Bool) → elim room as (λ _. Type 0) [ true ↦ (s : State) × IsAppendedTo target file s × (◌≡◌ {A = Result (Option State) ℕ} (Ok now) (Ok (Some s))) | false ↦ ◌≡◌ {A = Result (Option State) ℕ} (Ok now) (Err 3) ]
           → StandHeaded now
       go true (s, behind, e) = subst StandHeaded (sym (ap some_in e)) (behind_headed target file s stands is behind)
       go false e = absurd (cc)
@@ -160,7 +160,7 @@ module _ (files : List ℕ → FileReport) (asks : Asks) (tells : asks.table ≡
       go None at e = same e
       go (Some path) at loaded = of_file path loaded
 
-  pub all : (must_exist ignores : Bool) (metas : List Meta) (target now : Option State) → StandHeaded target → AreLoaded must_exist ignores asks metas target (Ok now) → StandHeaded now
+  pub all : (must_exist ignores : Bool) (metas : List Meta) (target now : Option State) → StandHeaded target → AreFilesLoaded must_exist ignores asks metas target (Ok now) → StandHeaded now
   all must_exist ignores [] target now stands is = subst StandHeaded (sym (ap some_in is)) stands
     where
       some_in : Result (Option State) ℕ → Option State

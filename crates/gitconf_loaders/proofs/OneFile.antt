@@ -18,9 +18,9 @@ use Rattle.gitconf_state.specs.State.{State}
 use Rattle.gitconf_includes.specs.Expansion.{IsLoadOf}
 use Rattle.gitconf_loaders.specs.declared.from_paths.Error.{Error}
 use Rattle.gitconf_loaders.specs.declared.from_paths.Error.TheVariants as paths
-use Rattle.gitconf_loaders.specs.Causes.{IsFault, IsFileCause, load_refusal}
+use Rattle.gitconf_loaders.specs.Causes.{IsLoadFault, IsFileCause, load_refusal}
 use Rattle.gitconf_loaders.specs.Errors.{paths_number, paths_of_parse}
-use Rattle.gitconf_loaders.specs.Paths.{IsLoadedFrom, IsRead, load_fault, numbered}
+use Rattle.gitconf_loaders.specs.Paths.{IsLoadedFrom, IsFileRead, load_fault, numbered}
 
 -- a text that is read is returned by the table
 pub answered : {Z : Type 0} (table : Option (List ℕ → FileReport)) (path : List ℕ) (text : Vec ℕ Z)
@@ -45,7 +45,7 @@ module _ (table : Option (List ℕ → FileReport)) (path : List ℕ) (source : 
       go (Some files) (inr told) = inr (Err fault, sym told, ap Err is)
 
   -- what is trusted is read
-  pub reads : (trust : Trust) (r : Result State ℕ) → IfSome table (λ files. IsTrustOf (Ok trust) (files path)) → IsRead table path source trust r → IsLoadedFrom table path source r
+  pub reads : (trust : Trust) (r : Result State ℕ) → IfSome table (λ files. IsTrustOf (Ok trust) (files path)) → IsFileRead table path source trust r → IsLoadedFrom table path source r
   reads trust r told read = inr (Ok trust, trusted table path trust told, read)
 
   -- the file can't be read
@@ -99,7 +99,7 @@ pub trust_fault : (table : Option (List ℕ → FileReport)) (path : String Glob
     → IsFileCause table (string_bytes path) (load_refusal fault path)
 trust_fault table path fault told = go fault.stage refl
   where
-    fault_told : (t : Option (List ℕ → FileReport)) → IfSome t (λ files. IsTrustOf (Err fault) (files (string_bytes path))) → (fault.stage ≡ Memory → ⊥) → IsFault t (string_bytes path) fault
+    fault_told : (t : Option (List ℕ → FileReport)) → IfSome t (λ files. IsTrustOf (Err fault) (files (string_bytes path))) → (fault.stage ≡ Memory → ⊥) → IsLoadFault t (string_bytes path) fault
     fault_told None is some = tt
     fault_told (Some files) (inl wanting) some = absurd (some wanting)
     fault_told (Some files) (inr is) some = inl is
@@ -113,7 +113,7 @@ pub read_fault : (Z : Type 0) (table : Option (List ℕ → FileReport)) (path :
     → IsFileCause table (string_bytes path) (load_refusal fault path)
 read_fault Z table path fault told = go fault.stage refl
   where
-    fault_told : (t : Option (List ℕ → FileReport)) → IfSome t (λ files. IsReadOf {Z = Z} (Err fault) (files (string_bytes path))) → (fault.stage ≡ Memory → ⊥) → IsFault t (string_bytes path) fault
+    fault_told : (t : Option (List ℕ → FileReport)) → IfSome t (λ files. IsReadOf {Z = Z} (Err fault) (files (string_bytes path))) → (fault.stage ≡ Memory → ⊥) → IsLoadFault t (string_bytes path) fault
     fault_told None is some = tt
     fault_told (Some files) (inl wanting) some = absurd (some wanting)
     fault_told (Some files) (inr is) some = inr is

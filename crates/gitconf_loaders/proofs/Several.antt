@@ -30,7 +30,7 @@ use Rattle.gitconf_loaders.specs.declared.from_paths.Error.{Error}
 use Rattle.gitconf_loaders.specs.declared.from_paths.Error.TheVariants as paths
 use Rattle.gitconf_loaders.specs.Causes.{has_path, IsLoadCause, IsMetaCause, IsPathCause}
 use Rattle.gitconf_loaders.specs.Errors.{paths_number, paths_of_init, paths_of_span}
-use Rattle.gitconf_loaders.specs.Paths.{AreLoaded, CountsLoad, has_room_behind, IsFileLoaded, IsLoadOfPaths, IsMetaLoaded, is_among, IsTextTaken, Joins, left_by, load_fault, numbered, once, taken}
+use Rattle.gitconf_loaders.specs.Paths.{AreFilesLoaded, CountsLoad, has_room_behind, IsFileLoaded, IsLoadOfPaths, IsMetaLoaded, is_among, IsTextTaken, Joins, left_by, load_fault, numbered, once, taken}
 use Rattle.gitconf_loaders.proofs.Counts.{fault_load, later as counts_later, renumbered}
 
 -- whether there is room, by what an append says
@@ -57,9 +57,9 @@ shut_room target other large = go (target.used + appended_bytes other target) (t
         second false y is = refl
 
 -- a file that goes after another one
-pub joined : (target other now : State) → IsEdited span_refusal (Append other) (Ok tt) target now → Joins (Some target) other (Ok (Some now))
+pub joined : (target other now : State) → IsEdited span_refusal (Append other) (Ok (tt {0})) target now → Joins (Some target) other (Ok (Some now))
 joined target other now appended =
-    let told = append_told other (Ok tt) target now appended in
+    let told = append_told other (Ok (tt {0})) target now appended in
     rw (open_room target other (λ large. let no = told.too_large.1 large in cc), Joins) (now, appended.ok, refl)
 
 -- a refusal of a span keeps its number
@@ -239,16 +239,16 @@ cause_of must_exist options table meta path (Err e) is cause = rw is cause
 
 -- each step of several
 pub went_on : (must_exist ignores : Bool) (asks : Asks) (meta : Meta) (metas : List Meta) (target now : Option State) (r : Result (Option State) ℕ)
-    → IsMetaLoaded must_exist ignores asks meta target (Ok now) → AreLoaded must_exist ignores asks metas now r → AreLoaded must_exist ignores asks (meta ∷ metas) target r
+    → IsMetaLoaded must_exist ignores asks meta target (Ok now) → AreFilesLoaded must_exist ignores asks metas now r → AreFilesLoaded must_exist ignores asks (meta ∷ metas) target r
 went_on must_exist ignores asks meta metas target now r is later = (Ok now, is, later)
 
 pub ended : (must_exist ignores : Bool) (asks : Asks) (meta : Meta) (metas : List Meta) (target : Option State) (n : ℕ)
-    → IsMetaLoaded must_exist ignores asks meta target (Err n) → AreLoaded must_exist ignores asks (meta ∷ metas) target (Err n)
+    → IsMetaLoaded must_exist ignores asks meta target (Err n) → AreFilesLoaded must_exist ignores asks (meta ∷ metas) target (Err n)
 ended must_exist ignores asks meta metas target n is = (Err n, is, refl)
 
 -- a refusal that is handed on
 pub ended_left : (must_exist ignores : Bool) (asks : Asks) (meta : Meta) (metas all : List Meta) (target : Option State) (e : Error) (result : Result (Option State) Error)
-    → ((r : Result (Option State) ℕ) → AreLoaded must_exist ignores asks (meta ∷ metas) target r → AreLoaded must_exist ignores asks (once [] all) None r)
+    → ((r : Result (Option State) ℕ) → AreFilesLoaded must_exist ignores asks (meta ∷ metas) target r → AreFilesLoaded must_exist ignores asks (once [] all) None r)
     → IsMetaLoaded must_exist ignores asks meta target (Err (paths_number e)) → IsErrAnd result (λ r. r ≡ e) → IsLoadOfPaths must_exist ignores asks all (numbered paths_number result)
 ended_left must_exist ignores asks meta metas all target e (Ok made) suffices is err = absurd err
 ended_left must_exist ignores asks meta metas all target e (Err r) suffices is err =

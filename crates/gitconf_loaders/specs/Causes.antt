@@ -24,13 +24,13 @@ abbrev pub load_refusal : FileFault → (path : String Global) → Error
 load_refusal fault path = elim fault.stage [ Open ↦ paths.Io path fault | Read ↦ paths.Io path fault | Memory ↦ paths.Memory ]
 
 -- a host that reports what is at each path has this fault at the path, when the file is read or when its trust is asked
-abbrev pub IsFault : Option (List ℕ → FileReport) → (path : List ℕ) → FileFault → Type 0
-IsFault table path fault =
+abbrev pub IsLoadFault : Option (List ℕ → FileReport) → (path : List ℕ) → FileFault → Type 0
+IsLoadFault table path fault =
     May table (λ told. (◌≡◌ {A = Result Trust FileFault} (trust_of (told path)) (Err fault)) ⊎ (◌≡◌ {A = Result (List ℕ) FileFault} (read_of (told path)) (Err fault)))
 
 -- The cause for one file: its path, with the fault; or how the parser refuses its text.
 abbrev pub IsFileCause : Option (List ℕ → FileReport) → (path : List ℕ) → Error → Type 0
-IsFileCause table path (paths.Io at fault) = (string_bytes at ≡ path) × IsFault table path fault
+IsFileCause table path (paths.Io at fault) = (string_bytes at ≡ path) × IsLoadFault table path fault
 IsFileCause table path (paths.Init (init.Parse e)) = (text : List ℕ) × IsTextOf table path text × IsRefused text e
 IsFileCause table path e = Unit {0}
 

@@ -27,13 +27,13 @@ abbrev pub numbered : {T E : Type 0} → (number : E → ℕ) → Result T E →
 numbered number result = result_map_both (λ made. made) number result
 
 -- what follows a result; a refusal ends everything
-abbrev pub GoesOn : {T U : Type 0} → (next : T → Result U ℕ → Type 0) → Result T ℕ → Result U ℕ → Type 0
-GoesOn next (Ok made) r = next made r
-GoesOn next (Err number) r = r ≡ Err number
+abbrev pub LoadsOn : {T U : Type 0} → (next : T → Result U ℕ → Type 0) → Result T ℕ → Result U ℕ → Type 0
+LoadsOn next (Ok made) r = next made r
+LoadsOn next (Err number) r = r ≡ Err number
 
 -- one step, and then the next
 abbrev pub Then : {T U : Type 0} → (first : Result T ℕ → Type 0) → (next : T → Result U ℕ → Type 0) → Result U ℕ → Type 0
-Then {T} first next r = (mid : Result T ℕ) × first mid × GoesOn next mid r
+Then {T} first next r = (mid : Result T ℕ) × first mid × LoadsOn next mid r
 
 -- the value after a call that changes it, or the number of the call's refusal
 abbrev pub left_by : {T E : Type 0} → (number : E → ℕ) → Result Unit E → (now : T) → Result T ℕ
@@ -46,15 +46,15 @@ load_fault Read = 21
 load_fault Memory = 27
 
 -- The file at a path, without its includes, whose trust was asked before.
-abbrev pub IsRead : Option (List ℕ → FileReport) → (path : List ℕ) → Source → Trust → Result State ℕ → Type 0
-IsRead table path source trust r = (answer : Result (List ℕ) FileFault) × May table (λ told. answer ≡ read_of (told path)) × elim answer [
+abbrev pub IsFileRead : Option (List ℕ → FileReport) → (path : List ℕ) → Source → Trust → Result State ℕ → Type 0
+IsFileRead table path source trust r = (answer : Result (List ℕ) FileFault) × May table (λ told. answer ≡ read_of (told path)) × elim answer [
   | Err fault ↦ r ≡ Err (load_fault fault.stage)
   | Ok text ↦ IsLoadOf false text (meta_of_file path source trust) r
 ]
 
 -- a file is read with its trust; if that can't be asked, the load is refused
 abbrev pub IsReadWhereTrusted : Option (List ℕ → FileReport) → (path : List ℕ) → Source → Result Trust FileFault → Result State ℕ → Type 0
-IsReadWhereTrusted table path source (Ok trust) r = IsRead table path source trust r
+IsReadWhereTrusted table path source (Ok trust) r = IsFileRead table path source trust r
 IsReadWhereTrusted table path source (Err fault) r = r ≡ Err (load_fault fault.stage)
 
 -- first the trust of the file is asked; memory may run out
@@ -97,14 +97,14 @@ abbrev pub has_room_behind : (target other : State) → Bool
 has_room_behind target other = ltb (target.used + appended_bytes other target) (2 ^ 32) && leb (target.next + length other.sections) no_number
 
 -- A file appended to another one, with the bytes of both and of the line ending between.
-abbrev pub IsBehind : (target other now : State) → Type 0
-IsBehind target other now = now ≡ with_used (target.used + appended_bytes other target) (apply (Append other) target)
+abbrev pub IsAppendedTo : (target other now : State) → Type 0
+IsAppendedTo target other now = now ≡ with_used (target.used + appended_bytes other target) (apply (Append other) target)
 
 -- a file that was made is appended to those before it, if there is room; the first one is the beginning
 abbrev pub Joins : (target : Option State) → (made : State) → Result (Option State) ℕ → Type 0
 Joins None made r = r ≡ Ok (Some made)
 Joins (Some target) made r = elim (has_room_behind target made) [
-  | true ↦ (now : State) × IsBehind target made now × (r ≡ Ok (Some now))
+  | true ↦ (now : State) × IsAppendedTo target made now × (r ≡ Ok (Some now))
   | false ↦ r ≡ Err 3
 ]
 
@@ -124,13 +124,13 @@ abbrev pub IsMetaLoaded : (must_exist ignores : Bool) → Asks → Meta → (tar
 IsMetaLoaded must_exist ignores asks meta target r = elim meta.path [ None ↦ r ≡ Ok target | Some path ↦ IsFileLoaded must_exist ignores asks meta path target r ]
 
 -- the files of metadata are loaded in order, each appended to those before it
-abbrev pub AreLoaded : (must_exist ignores : Bool) → Asks → List Meta → (target : Option State) → Result (Option State) ℕ → Type 0
-AreLoaded must_exist ignores asks [] target r = r ≡ Ok target
-AreLoaded must_exist ignores asks (meta ∷ metas) target r = Then (IsMetaLoaded must_exist ignores asks meta target) (AreLoaded must_exist ignores asks metas) r
+abbrev pub AreFilesLoaded : (must_exist ignores : Bool) → Asks → List Meta → (target : Option State) → Result (Option State) ℕ → Type 0
+AreFilesLoaded must_exist ignores asks [] target r = r ≡ Ok target
+AreFilesLoaded must_exist ignores asks (meta ∷ metas) target r = Then (IsMetaLoaded must_exist ignores asks meta target) (AreFilesLoaded must_exist ignores asks metas) r
 
 -- the files of metadata that has a path are loaded, each path once; nothing if there is none, or memory ran out
 abbrev pub IsLoadOfPaths : (must_exist ignores : Bool) → Asks → List Meta → Result (Option State) ℕ → Type 0
-IsLoadOfPaths must_exist ignores asks metas r = (r ≡ Err 27) ⊎ AreLoaded must_exist ignores asks (once [] metas) None r
+IsLoadOfPaths must_exist ignores asks metas r = (r ≡ Err 27) ⊎ AreFilesLoaded must_exist ignores asks (once [] metas) None r
 
 -- How often a host's files failed in a load: at least once if a fault refused it; faults that are ignored count too.
 abbrev pub CountsLoad : {T : Type 0} → Result T ℕ → (old new : Option ℕ) → Type 0

@@ -19,10 +19,10 @@ use Rattle.gitconf_lookups.specs.Picks.{picked}
 use Rattle.gitconf_loaders.specs.Resolving.{MakesOf}
 use Rattle.gitconf_loaders.specs.Globals.{empty_file, home_rules}
 use Rattle.gitconf_store.specs.Edited.{put_bytes}
-use Rattle.gitconf_loaders.specs.Paths.{has_room_behind, IsBehind, IsLoadedFrom, Then}
+use Rattle.gitconf_loaders.specs.Paths.{has_room_behind, IsAppendedTo, IsLoadedFrom, Then}
 use Rattle.gitconf_loaders.specs.Variables.{reported_key, key_variable}
 use Rattle.gitconf_loaders.proofs.Clean.{behind_headed, global_clean, path_headed}
-use Rattle.gix_config.specs.Environment.{AreNamed, ArePut, Edited, env_meta, IsEntryPut, IsFromEnv, IsOverrides, IsPushed, IsPut, IsPutUnder}
+use Rattle.gix_config.specs.Environment.{HaveSectionNames, AreEntriesPut, Edited, env_meta, IsEntryPut, IsFromEnv, IsOverrides, IsValuePushed, IsValuePut, IsPutUnder}
 use Rattle.gix_config.specs.Repository.{folder_of, has_worktree, IsExpandedBehind, IsJoined, IsPutBehind, IsRepository, IsWorktree, IsWorktreeBehind, local_path, repository_rules, RepositoryFiles, worktree_path}
 use Rattle.gix_config.specs.SectionEditors.{editor_at, IsFoundOr}
 use Rattle.gix_config.proofs.NewEditors.{clean_picked}
@@ -51,7 +51,7 @@ section_headed key old edited None at named is (made, told) = (
 )
 
 -- a value is pushed there
-pushed_headed : (name : List ℕ) (value : Option (List ℕ)) (edited : Edited) (new : State) → IsHeaded edited.0 → has_blank_leading edited.1.1 ≡ true → IsPushed name value edited (Ok new) → IsHeaded new
+pushed_headed : (name : List ℕ) (value : Option (List ℕ)) (edited : Edited) (new : State) → IsHeaded edited.0 → has_blank_leading edited.1.1 ≡ true → IsValuePushed name value edited (Ok new) → IsHeaded new
 pushed_headed name None edited new is blank pushed = absurd (cc)
 pushed_headed name (Some value) edited new is blank (Err e, other, done, left) = absurd (cc)
 pushed_headed name (Some value) edited new is blank (Ok done, other, edit, left) =
@@ -60,13 +60,13 @@ pushed_headed name (Some value) edited new is blank (Ok done, other, edit, left)
       front = is.front;
     })))
 
-put_headed : (key : Key) (value : Option (List ℕ)) (old new : State) → is_nameless (made_header key.section key.subsection) ≡ false → IsHeaded old → IsPut key value old (Ok new) → IsHeaded new
+put_headed : (key : Key) (value : Option (List ℕ)) (old new : State) → is_nameless (made_header key.section key.subsection) ≡ false → IsHeaded old → IsValuePut key value old (Ok new) → IsHeaded new
 put_headed key value old new named is (Err e, found, refused) = absurd (cc)
 put_headed key value old new named is (Ok edited, found, pushed) =
     let there = section_headed key old edited (picked key.section key.subsection (λ _. true) old) refl named is found.ok in
     pushed_headed key.name value edited new there.0 there.1 pushed
 
-module _ (variables : List ℕ → VariableReport) (named : AreNamed variables) where
+module _ (variables : List ℕ → VariableReport) (named : HaveSectionNames variables) where
   under_headed : (index : ℕ) (text : List ℕ) (value : Option (List ℕ)) (old new : State) → ◌≡◌ {A = Result (List ℕ) ℕ} (reported_key (variables (key_variable index))) (Ok text)
       → IsHeaded old → IsPutUnder (parsed_key text) value old (Ok new) → IsHeaded new
   under_headed index text value old new told is put = go (parsed_key text) refl put
@@ -83,7 +83,7 @@ module _ (variables : List ℕ → VariableReport) (named : AreNamed variables) 
   entry_headed index old new is (Ok text, inr (answer, asked, given), (Ok value, told, inr put)) =
       under_headed index text value old new (ap reported_key (sym asked) ∙ sym given) is put
 
-  entries_headed : (left index : ℕ) (old new : State) → IsHeaded old → ArePut (Some variables) left index old (Ok new) → IsHeaded new
+  entries_headed : (left index : ℕ) (old new : State) → IsHeaded old → AreEntriesPut (Some variables) left index old (Ok new) → IsHeaded new
   entries_headed zero index old new is put = subst IsHeaded (sym (ap (state_in new) put)) is
   entries_headed (suc left) index old new is (Err n, put, e) = absurd (cc)
   entries_headed (suc left) index old new is (Ok mid, put, later) = entries_headed left (index + 1) mid new (entry_headed index old mid is put) later
@@ -97,7 +97,7 @@ expanded_headed : (files : List ℕ → FileReport) (asks : Asks) (old new : Sta
 expanded_headed files asks old new tells headed is (On done, expands, e) = subst IsHeaded (sym e) (headed_stays files asks.rules.max_depth asks None old (On done) tells headed is expands)
 expanded_headed files asks old new tells headed is (Ended n end, expands, e) = absurd e
 
-env_headed : (variables : List ℕ → VariableReport) (files : List ℕ → FileReport) (asks : Asks) (file : State) → AreNamed variables → asks.table ≡ Some files → AreHeaded files
+env_headed : (variables : List ℕ → VariableReport) (files : List ℕ → FileReport) (asks : Asks) (file : State) → HaveSectionNames variables → asks.table ≡ Some files → AreHeaded files
     → IsFromEnv (Some variables) asks (Ok (Some file)) → IsHeaded file
 env_headed variables files asks file named tells headed (inl wanting) = absurd (cc)
 env_headed variables files asks file named tells headed (inr (Err n, counts, e)) = absurd (cc)
@@ -107,7 +107,7 @@ env_headed variables files asks file named tells headed (inr (Ok count, counts, 
     file_in (Ok (Some s)) = s
     file_in r = file
 
-    of_entries : Then (ArePut (Some variables) count 0 (empty_file env_meta)) (λ state. Then (λ r. MakesOf (λ number. number) asks r (Ok state)) (λ state r. r ≡ Ok (Some state))) (Ok (Some file)) → IsHeaded file
+    of_entries : Then (AreEntriesPut (Some variables) count 0 (empty_file env_meta)) (λ state. Then (λ r. MakesOf (λ number. number) asks r (Ok state)) (λ state r. r ≡ Ok (Some state))) (Ok (Some file)) → IsHeaded file
     of_entries (Err n, put, e) = absurd (cc)
     of_entries (Ok state, put, (Err n, expands, e)) = absurd (cc)
     of_entries (Ok state, put, (Ok full, expands, e)) =
@@ -115,12 +115,12 @@ env_headed variables files asks file named tells headed (inr (Ok count, counts, 
 
     go : (none : Bool) → elim none as (λ _. Type 0) [
       | true ↦ ◌≡◌ {A = Result (Option State) ℕ} (Ok (Some file)) (Ok None)
-      | false ↦ Then (ArePut (Some variables) count 0 (empty_file env_meta)) (λ state. Then (λ r. MakesOf (λ number. number) asks r (Ok state)) (λ state r. r ≡ Ok (Some state))) (Ok (Some file))
+      | false ↦ Then (AreEntriesPut (Some variables) count 0 (empty_file env_meta)) (λ state. Then (λ r. MakesOf (λ number. number) asks r (Ok state)) (λ state r. r ≡ Ok (Some state))) (Ok (Some file))
     ] → IsHeaded file
     go true e = absurd (cc)
     go false made = of_entries made
 
-overrides_headed : (variables : List ℕ → VariableReport) (places : Places) (files : List ℕ → FileReport) (file : State) → AreNamed variables → AreHeaded files
+overrides_headed : (variables : List ℕ → VariableReport) (places : Places) (files : List ℕ → FileReport) (file : State) → HaveSectionNames variables → AreHeaded files
     → IsOverrides (Some variables) places (Some files) (Ok file) → IsHeaded file
 overrides_headed variables places files file named headed (inl wanting) = absurd (cc)
 overrides_headed variables places files file named headed (inr (Err n, made, e)) = absurd (cc)
@@ -133,11 +133,11 @@ put_behind_headed : (target other now : State) → IsHeaded target → IsHeaded 
 put_behind_headed target other now is more (inl wanting) = absurd (cc)
 put_behind_headed target other now is more (inr put) = go (has_room_behind target other) put
   where
-    go : (room : Bool) → elim room as (λ _. Type 0) [ true ↦ (s : State) × IsBehind target other s × (◌≡◌ {A = Result State ℕ} (Ok now) (Ok s)) | false ↦ ◌≡◌ {A = Result State ℕ} (Ok now) (Err 3) ] → IsHeaded now
+    go : (room : Bool) → elim room as (λ _. Type 0) [ true ↦ (s : State) × IsAppendedTo target other s × (◌≡◌ {A = Result State ℕ} (Ok now) (Ok s)) | false ↦ ◌≡◌ {A = Result State ℕ} (Ok now) (Err 3) ] → IsHeaded now
     go true (s, behind, e) = subst IsHeaded (sym (ap (state_in now) e)) (behind_headed target other s is more behind)
     go false e = absurd (cc)
 
-module _ (variables : List ℕ → VariableReport) (places : Places) (files : List ℕ → FileReport) (named : AreNamed variables) (headed : AreHeaded files) where
+module _ (variables : List ℕ → VariableReport) (places : Places) (files : List ℕ → FileReport) (named : HaveSectionNames variables) (headed : AreHeaded files) where
   behind_expanded : (asks : Asks) (target file now : State) → asks.table ≡ Some files → IsHeaded target → IsHeaded file → IsExpandedBehind asks target file (Ok now) → IsHeaded now
   behind_expanded asks target file now tells is more (Err n, expands, e) = absurd (cc)
   behind_expanded asks target file now tells is more (Ok full, expands, put) = put_behind_headed target full now is (expanded_headed files asks file full tells headed more expands) put
@@ -202,14 +202,14 @@ module _ (variables : List ℕ → VariableReport) (places : Places) (files : Li
       parts_in (Err n) = parts
 
 -- as the laws say it
-pub env_clean : (variables : List ℕ → VariableReport) (files : List ℕ → FileReport) (asks : Asks) (file : State) → AreNamed variables → asks.table ≡ Some files → AreHeaded files
+pub env_clean : (variables : List ℕ → VariableReport) (files : List ℕ → FileReport) (asks : Asks) (file : State) → HaveSectionNames variables → asks.table ≡ Some files → AreHeaded files
     → IsFromEnv (Some variables) asks (Ok (Some file)) → IsClean file × (entries_of file.front ≡ [])
 env_clean variables files asks file named tells headed made = let is = env_headed variables files asks file named tells headed made in (is.clean, is.front)
 
-pub overrides_clean : (variables : List ℕ → VariableReport) (places : Places) (files : List ℕ → FileReport) (file : State) → AreNamed variables → AreHeaded files
+pub overrides_clean : (variables : List ℕ → VariableReport) (places : Places) (files : List ℕ → FileReport) (file : State) → HaveSectionNames variables → AreHeaded files
     → IsOverrides (Some variables) places (Some files) (Ok file) → IsClean file × (entries_of file.front ≡ [])
 overrides_clean variables places files file named headed made = let is = overrides_headed variables places files file named headed made in (is.clean, is.front)
 
-pub repository_clean : (variables : List ℕ → VariableReport) (places : Places) (files : List ℕ → FileReport) (dir : List ℕ) (real : Option (List ℕ)) (file : State) → AreNamed variables → AreHeaded files
+pub repository_clean : (variables : List ℕ → VariableReport) (places : Places) (files : List ℕ → FileReport) (dir : List ℕ) (real : Option (List ℕ)) (file : State) → HaveSectionNames variables → AreHeaded files
     → IsRepository (Some variables) places (Some files) dir real (Ok file) → IsClean file × (entries_of file.front ≡ [])
 repository_clean variables places files dir real file named headed loaded = let is = repository_headed variables places files named headed dir real file loaded in (is.clean, is.front)

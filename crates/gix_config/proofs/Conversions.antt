@@ -2,7 +2,7 @@
 use Rattle.std.proofs.Common.{◌≡◌, inl, inr, ℕ, List, [], ◌∷◌, ◌++◌, Some, Result, Ok, Err, refl, length, map, ap, sym, subst, append-nil, append_assoc, ◌∙◌}
 use Rattle.std.proofs.lemmas.List.{map-append}
 use Rattle.bstr.specs.declared.bstring.BString.{BString}
-use Rattle.gix_config.specs.Converted.{AreGiven, FirstRefused, IsGiven}
+use Rattle.gix_config.specs.Converted.{AreGiven, FirstRefused, IsTypeGiven}
 
 -- Some values are converted, and what is known of those that are left is told of all.
 pub record IsConverting {T E : Type 0} (gives : BString → Result T E → Type 0) (all left : List (List ℕ)) (done : List T) : Type 0 where
@@ -13,7 +13,7 @@ pub none_done : {T E : Type 0} (gives : BString → Result T E → Type 0) (all 
 none_done gives all = record { given = λ more g. g; refused = λ e r. r }
 
 pub one_done : {T E : Type 0} (gives : BString → Result T E → Type 0) (all left next : List (List ℕ)) (done now : List T) (value : List ℕ) (t : T)
-    → IsConverting gives all left done → left ≡ value ∷ next → IsGiven gives (Some value) (Ok t) → now ≡ done ++ t ∷ [] → IsConverting gives all next now
+    → IsConverting gives all left done → left ≡ value ∷ next → IsTypeGiven gives (Some value) (Ok t) → now ≡ done ++ t ∷ [] → IsConverting gives all next now
 one_done gives all left next done now value t c is one put = record {
   given = λ more g. subst (AreGiven gives all) (sym (append_assoc done (t ∷ []) more) ∙ ap (λ xs. xs ++ more) (sym put)) (c.given (t ∷ more) (subst (λ vs. AreGiven gives vs (t ∷ more)) (sym is) (one, g)));
   refused = λ e r. c.refused e (subst (λ vs. FirstRefused gives vs e) (sym is) (inr ((t, one), r)));
@@ -23,7 +23,7 @@ pub all_done : {T E : Type 0} (gives : BString → Result T E → Type 0) (all l
 all_done gives all left done c is = subst (AreGiven gives all) (append-nil done) (c.given [] (subst (λ vs. AreGiven gives vs []) (sym is) tt))
 
 pub one_refused : {T E : Type 0} (gives : BString → Result T E → Type 0) (all left next : List (List ℕ)) (done : List T) (value : List ℕ) (e : E)
-    → IsConverting gives all left done → left ≡ value ∷ next → IsGiven gives (Some value) (Err e) → FirstRefused gives all e
+    → IsConverting gives all left done → left ≡ value ∷ next → IsTypeGiven gives (Some value) (Err e) → FirstRefused gives all e
 one_refused gives all left next done value e c is one = c.refused e (subst (λ vs. FirstRefused gives vs e) (sym is) (inl one))
 
 -- After one more, what is known of each is told of those that are done and of those that are left.

@@ -35,7 +35,7 @@ use Rattle.gitconf_loaders.specs.Variables.{IsCount, IsCountCause, IsEntryCause,
 use Rattle.gitconf_loaders.specs.declared.from_env.Error.{Error}
 use Rattle.gitconf_loaders.specs.declared.from_env.Error.TheVariants as env
 use Rattle.gitconf_store.specs.Edited.{IsEdited}
-use Rattle.gix_config.specs.Environment.{ArePut, Edited, env_meta, IsEntryPut, IsEnvCause, IsFromEnv, IsMadeOfEntries, IsOverrides, IsSome, IsPushed, IsPut, IsPutUnder, IsSectionFor}
+use Rattle.gix_config.specs.Environment.{AreEntriesPut, Edited, env_meta, IsEntryPut, IsEnvCause, IsFromEnv, IsMadeOfEntries, IsOverrides, IsSome, IsValuePushed, IsValuePut, IsPutUnder, IsSectionFor}
 use Rattle.gitconf_lookups.specs.Picks.{picked}
 use Rattle.gix_config.specs.SectionEditors.{making_causes, IsFoundOrMade}
 use Rattle.gix_config.proofs.Numbers.{told_err, told_ok}
@@ -66,7 +66,7 @@ includes_numbers includes.Memory = refl
 
 -- a value that was pushed, or was refused
 pub is_pushed : (name value : List ℕ) (edited : Edited) (pushed : Result Unit ValueError) (new : State) (r : Result State ℕ)
-    → IsEdited value_refusal (Push edited.1.0 edited.1.1 name (Some value) None) pushed edited.0 new → r ≡ left_by value_number pushed new → IsPushed name (Some value) edited r
+    → IsEdited value_refusal (Push edited.1.0 edited.1.1 name (Some value) None) pushed edited.0 new → r ≡ left_by value_number pushed new → IsValuePushed name (Some value) edited r
 is_pushed name value edited pushed new r is left = (pushed, new, is, left)
 
 -- what was found or made, as it is shown
@@ -83,28 +83,28 @@ shown_section {T} after shown give name subsection keeps old (Err e) is = record
 }
 
 -- no section was found or made
-pub no_section : (key : Key) (value : Option (List ℕ)) (old : State) (e : HeaderError) (n : ℕ) → IsSectionFor key old (Err e) → n ≡ header_number e → IsPut key value old (Err n)
+pub no_section : (key : Key) (value : Option (List ℕ)) (old : State) (e : HeaderError) (n : ℕ) → IsSectionFor key old (Err e) → n ≡ header_number e → IsValuePut key value old (Err n)
 no_section key value old e n is number = (Err e, is, ap Err number)
 
 -- one was, and what comes of it
-pub in_section : (key : Key) (value : Option (List ℕ)) (old : State) (edited : Edited) (r : Result State ℕ) → IsSectionFor key old (Ok edited) → IsPushed key.name value edited r → IsPut key value old r
+pub in_section : (key : Key) (value : Option (List ℕ)) (old : State) (edited : Edited) (r : Result State ℕ) → IsSectionFor key old (Ok edited) → IsValuePushed key.name value edited r → IsValuePut key value old r
 in_section key value old edited r is pushed = (Ok edited, is, pushed)
 
 -- more entries are left: one is put, and then the rest
 pub one_put : (variables : Option (List ℕ → VariableReport)) (count index : ℕ) (old mid : State) (r : Result State ℕ) → index < count → IsEntryPut variables index old (Ok mid)
-    → ArePut variables (count - (index + 1)) (index + 1) mid r → ArePut variables (count - index) index old r
-one_put variables count index old mid r within put later = subst (λ left. ArePut variables left index old r) one (Ok mid, put, later)
+    → AreEntriesPut variables (count - (index + 1)) (index + 1) mid r → AreEntriesPut variables (count - index) index old r
+one_put variables count index old mid r within put later = subst (λ left. AreEntriesPut variables left index old r) one (Ok mid, put, later)
   where
     one : suc (count - (index + 1)) ≡ count - index
     one = omega (arith, within)
 
-pub one_refused : (variables : Option (List ℕ → VariableReport)) (count index : ℕ) (old : State) (n : ℕ) → index < count → IsEntryPut variables index old (Err n) → ArePut variables (count - index) index old (Err n)
-one_refused variables count index old n within put = subst (λ left. ArePut variables left index old (Err n)) one (Err n, put, refl)
+pub one_refused : (variables : Option (List ℕ → VariableReport)) (count index : ℕ) (old : State) (n : ℕ) → index < count → IsEntryPut variables index old (Err n) → AreEntriesPut variables (count - index) index old (Err n)
+one_refused variables count index old n within put = subst (λ left. AreEntriesPut variables left index old (Err n)) one (Err n, put, refl)
   where
     one : suc (count - (index + 1)) ≡ count - index
     one = omega (arith, within)
 
-pub none_left : (variables : Option (List ℕ → VariableReport)) (left index : ℕ) (old : State) → left ≡ 0 → ArePut variables left index old (Ok old)
+pub none_left : (variables : Option (List ℕ → VariableReport)) (left index : ℕ) (old : State) → left ≡ 0 → AreEntriesPut variables left index old (Ok old)
 none_left variables zero index old is = refl
 none_left variables (suc left) index old is = absurd (omega (arith, is))
 
@@ -126,34 +126,34 @@ entry_put variables index text value old r key told put = (Ok text, key, (Ok val
 
 -- a refusal that is handed on
 pub entry_refused : (variables : Option (List ℕ → VariableReport)) (count index : ℕ) (all old new : State) (e : Error) (result : Result Unit Error) → index < count
-    → ((r : Result State ℕ) → ArePut variables (count - index) index old r → ArePut variables count 0 all r) → IsEntryPut variables index old (Err (env_number e)) → IsErrAnd result (λ r. r ≡ e)
-    → ArePut variables count 0 all (left_by env_number result new)
+    → ((r : Result State ℕ) → AreEntriesPut variables (count - index) index old r → AreEntriesPut variables count 0 all r) → IsEntryPut variables index old (Err (env_number e)) → IsErrAnd result (λ r. r ≡ e)
+    → AreEntriesPut variables count 0 all (left_by env_number result new)
 entry_refused variables count index all old new e (Ok done) within suffices is err = absurd err
 entry_refused variables count index all old new e (Err r) within suffices is err =
-    subst (λ x. ArePut variables count 0 all (Err (env_number x))) (sym err) (suffices (Err (env_number e)) (one_refused variables count index old (env_number e) within is))
+    subst (λ x. AreEntriesPut variables count 0 all (Err (env_number x))) (sym err) (suffices (Err (env_number e)) (one_refused variables count index old (env_number e) within is))
 
 -- all are put
 pub all_put : (variables : Option (List ℕ → VariableReport)) (count index : ℕ) (all old : State) → count ≤ index
-    → ((r : Result State ℕ) → ArePut variables (count - index) index old r → ArePut variables count 0 all r) → ArePut variables count 0 all (Ok old)
+    → ((r : Result State ℕ) → AreEntriesPut variables (count - index) index old r → AreEntriesPut variables count 0 all r) → AreEntriesPut variables count 0 all (Ok old)
 all_put variables count index all old ends suffices = suffices (Ok old) (none_left variables (count - index) index old (none ends))
   where
     none : count ≤ index → count - index ≡ 0
     none ends = omega (arith, ends)
 
-pub from_first : (variables : Option (List ℕ → VariableReport)) (count : ℕ) (all : State) (r : Result State ℕ) → ArePut variables (count - 0) 0 all r → ArePut variables count 0 all r
-from_first variables count all r is = subst (λ left. ArePut variables left 0 all r) same is
+pub from_first : (variables : Option (List ℕ → VariableReport)) (count : ℕ) (all : State) (r : Result State ℕ) → AreEntriesPut variables (count - 0) 0 all r → AreEntriesPut variables count 0 all r
+from_first variables count all r is = subst (λ left. AreEntriesPut variables left 0 all r) same is
   where
     same : count - 0 ≡ count
     same = omega arith
 
 -- the file of entries, with what it includes
 of_entries : (variables : Option (List ℕ → VariableReport)) (asks : Asks) (count : ℕ) (r : Result (Option State) ℕ) → count ≢ 0
-    → Then (ArePut variables count 0 (empty_file env_meta)) (λ file. Then (λ r. MakesOf (λ number. number) asks r (Ok file)) IsSome) r → IsMadeOfEntries variables asks count r
+    → Then (AreEntriesPut variables count 0 (empty_file env_meta)) (λ file. Then (λ r. MakesOf (λ number. number) asks r (Ok file)) IsSome) r → IsMadeOfEntries variables asks count r
 of_entries variables asks count r some is = go (count == 0) refl
   where
     go : (none : Bool) → (count == 0) ≡ none → elim none as (λ _. Type 0) [
       | true ↦ r ≡ Ok None
-      | false ↦ Then (ArePut variables count 0 (empty_file env_meta)) (λ file. Then (λ r. MakesOf (λ number. number) asks r (Ok file)) IsSome) r
+      | false ↦ Then (AreEntriesPut variables count 0 (empty_file env_meta)) (λ file. Then (λ r. MakesOf (λ number. number) asks r (Ok file)) IsSome) r
     ]
     go true e = absurd (some (eqb-true count 0 e))
     go false e = is
@@ -170,7 +170,7 @@ count_refused variables asks e (Ok made) counts err = absurd err
 count_refused variables asks e (Err r) counts err = inr (Err (env_number e), counts, ap Err (ap env_number err))
 
 pub entries_refused : (variables : Option (List ℕ → VariableReport)) (asks : Asks) (count : ℕ) (e : Error) (result : Result (Option State) Error) → count ≢ 0 → IsCount variables (Ok count)
-    → ArePut variables count 0 (empty_file env_meta) (Err (env_number e)) → IsErrAnd result (λ r. r ≡ e) → IsFromEnv variables asks (numbered env_number result)
+    → AreEntriesPut variables count 0 (empty_file env_meta) (Err (env_number e)) → IsErrAnd result (λ r. r ≡ e) → IsFromEnv variables asks (numbered env_number result)
 entries_refused variables asks count e (Ok made) some counts put err = absurd err
 entries_refused variables asks count e (Err r) some counts put err =
     inr (Ok count, counts, of_entries variables asks count (Err (env_number r)) some (Err (env_number e), put, ap Err (ap env_number err)))
@@ -183,7 +183,7 @@ expanded_number asks old (Err e) (On done, expands, is) = absurd is
 expanded_number asks old (Err e) (Ended n file, expands, is) = (Ended n file, expands, is)
 
 pub includes_refused : (variables : Option (List ℕ → VariableReport)) (asks : Asks) (count : ℕ) (file : State) (e : Includes) (result : Result (Option State) Error) → count ≢ 0 → IsCount variables (Ok count)
-    → ArePut variables count 0 (empty_file env_meta) (Ok file) → MakesOf includes_number asks (Err e) (Ok file) → IsErrAnd result (λ r. r ≡ env_of_includes e) → IsFromEnv variables asks (numbered env_number result)
+    → AreEntriesPut variables count 0 (empty_file env_meta) (Ok file) → MakesOf includes_number asks (Err e) (Ok file) → IsErrAnd result (λ r. r ≡ env_of_includes e) → IsFromEnv variables asks (numbered env_number result)
 includes_refused variables asks count file e (Ok made) some counts put expands err = absurd err
 includes_refused variables asks count file e (Err r) some counts put expands err =
     inr (
@@ -193,7 +193,7 @@ includes_refused variables asks count file e (Err r) some counts put expands err
           (Ok file, put, (Err (includes_number e), expanded_number asks file (Err e) expands, ap Err (ap env_number err ∙ includes_numbers e))),
     )
 
-pub entries_made : (variables : Option (List ℕ → VariableReport)) (asks : Asks) (count : ℕ) (file full : State) → count ≢ 0 → IsCount variables (Ok count) → ArePut variables count 0 (empty_file env_meta) (Ok file)
+pub entries_made : (variables : Option (List ℕ → VariableReport)) (asks : Asks) (count : ℕ) (file full : State) → count ≢ 0 → IsCount variables (Ok count) → AreEntriesPut variables count 0 (empty_file env_meta) (Ok file)
     → MakesOf includes_number asks (Ok full) (Ok file) → IsFromEnv variables asks (Ok (Some full))
 entries_made variables asks count file full some counts put expands =
     inr (Ok count, counts, of_entries variables asks count (Ok (Some full)) some (Ok file, put, (Ok full, expanded_number asks file (Ok full) expands, refl)))

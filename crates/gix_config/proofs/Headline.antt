@@ -39,8 +39,8 @@ use Rattle.gitconf_store.specs.declared.set_raw_value.Error.{Error as SetError}
 use Rattle.gitconf_store.specs.Edited.{IsEdited, bytes_in, causes, put_bytes}
 use Rattle.gitconf_store.specs.Existing.{IsRewritten, IsSetWhere, rewriting}
 use Rattle.gitconf_store.specs.SetErrors.{set_refusal}
-use Rattle.gitconf_store.specs.Several.{AreRewritten}
-use Rattle.gix_config.specs.Headline.{AreAlike, Call, Edits, Ending, Ends, IsCleanCall, IsHanded, Leaves, Resolves, Runs, SetsAllExisting, SetsExisting, SetsValues}
+use Rattle.gitconf_store.specs.Several.{AreRewritten, all_deleted}
+use Rattle.gix_config.specs.Headline.{IsOneEnding, Call, DeletesAll, Edits, Ending, Ends, IsCleanCall, IsHanded, LeavesFile, Resolves, Runs, SetsAllExisting, SetsExisting, SetsValues}
 use Rattle.gix_config.proofs.NewEditors.{editor_of_value}
 
 -- If none of the causes holds, the names are valid.
@@ -141,6 +141,13 @@ kept_where : (o : Option (ℕ × ℕ)) (key : Key) (value : List ℕ) (result : 
 kept_where None key value result old new kept is = subst Keeps (sym is.1) kept
 kept_where (Some place) key value result old new kept is = kept_by_rewriting set_refusal OfEntryButLineEnd place key.name value result old new kept is
 
+-- so do entries that are deleted
+kept_by_deletions : (places : List (ℕ × ℕ)) (old : State) → Keeps old → Keeps (all_deleted places old)
+kept_by_deletions [] old kept = kept
+kept_by_deletions (place ∷ places) old kept =
+    let before = kept_by_deletions places old kept in
+    (apply_items (edits.DeleteAt place.0 place.1) (all_deleted places old) tt before.0, apply_clean (edits.DeleteAt place.0 place.1) (all_deleted places old) tt before.1)
+
 -- so does an expansion
 kept_by_expansion : (asks : Asks) (result : Result (Unit {0}) IncludesError) (old new : State) (files : List ℕ → FileReport) → asks.table ≡ Some files → AreHeaded files → Keeps old
     → expansions.Resolves includes_number asks old result new → Keeps new
@@ -155,12 +162,13 @@ kept_by_expansion asks result old new files table headed kept is = left result i
     left (Err e) (Ended n file) leaves there = subst Keeps (sym leaves.1) there
     left (Err e) (On done) leaves there = absurd leaves
 
-kept_by : (call : Call) (old new : State) → IsCleanCall call → Keeps old → Leaves call old new → Keeps new
+kept_by : (call : Call) (old new : State) → IsCleanCall call → Keeps old → LeavesFile call old new → Keeps new
 kept_by (Edits edit ending) old new clean kept leaves = kept_by_edit edit old new ending clean.0 clean.1 kept leaves
 kept_by (SetsExisting key value result) old new clean kept leaves = kept_where (value_place key (λ _. true) old) key value result old new kept leaves
 kept_by (SetsAllExisting key values result) old new clean kept (inl unset) = subst Keeps (sym unset.3) kept
 kept_by (SetsAllExisting key values result) old new clean kept (inr set) = kept_by_rewritings set_refusal key.name set.2 values result old new kept set.4
 kept_by (SetsValues key places values result) old new clean kept leaves = kept_by_rewritings span_refusal key places values result old new kept leaves
+kept_by (DeletesAll places) old new clean kept leaves = subst Keeps (sym leaves) (kept_by_deletions places old kept)
 kept_by (Resolves asks result) old new clean kept leaves = kept_by_expansion asks result old new clean.0 clean.1 clean.2 kept leaves
 
 pub runs_keep : (calls : List Call) (old new : State) → AllByRecursion IsCleanCall calls → HasItems old → IsClean old → Runs calls old new → HasItems new × IsClean new
@@ -194,7 +202,7 @@ loads_equal new again parts place bytes reads is made =
 
 -- Each contract says that an edit ends so: with its answer, or refused for the cause that its refusal tells.
 pub is_step : {T E : Type 0} (shown : T → Answer) (refusal : Cause → E) (edit : Edit) (result : Result T E) (old new : State) → IfOk result (λ t. shown t ≡ answer edit old)
-    → IsEdited refusal edit result old new → (ending : Ending) × Ends edit old ending new × AreAlike shown refusal ending result
+    → IsEdited refusal edit result old new → (ending : Ending) × Ends edit old ending new × IsOneEnding shown refusal ending result
 is_step {T} {E} shown refusal edit (Ok t) old new told is = (
   Ok (answer edit old),
   (record { ok = is.ok; err = tt; told = answered (first_cause (causes edit old)) is.told }, refl),
@@ -210,14 +218,14 @@ is_step {T} {E} shown refusal edit (Err e) old new told is = go (first_cause (ca
     same cause is = cc
 
     go : (o : Option Cause) → first_cause (causes edit old) ≡ o → IsRefusedFor {T = T} {E = E} refusal o (Err e)
-        → (ending : Ending) × Ends edit old ending new × AreAlike {T = T} shown refusal ending (Err e)
+        → (ending : Ending) × Ends edit old ending new × IsOneEnding {T = T} shown refusal ending (Err e)
     go None at told = (Err OutOfMemory, (record { ok = tt; err = is.err; told = subst (λ o. IsRefusedFor {T = Answer} (λ cause. cause) o (Err OutOfMemory)) (sym at) refl }, tt), told)
     go (Some cause) at told = (Err cause, (record { ok = tt; err = is.err; told = subst (λ o. IsRefusedFor {T = Answer} (λ cause. cause) o (Err cause)) (sym at) refl }, tt), same cause told)
 
 -- So does one that nothing but want of memory refuses, and that adds no bytes.
 pub is_free_step : {T E : Type 0} (shown : T → Answer) (refusal : E) (edit : Edit) (result : Result T E) (old new : State) → causes edit old ≡ [] → put_bytes edit old ≡ 0
     → (apply edit old).used ≡ old.used → IfErr result (λ e. e ≡ refusal) → IfOk result (λ t. shown t ≡ answer edit old) → OnOk result (new ≡ apply edit old) → OnErr result (new ≡ old)
-    → (ending : Ending) × Ends edit old ending new × AreAlike shown (λ _. refusal) ending result
+    → (ending : Ending) × Ends edit old ending new × IsOneEnding shown (λ _. refusal) ending result
 is_free_step {T} {E} shown refusal edit result old new none no_bytes used only told ok err = is_step shown (λ _. refusal) edit result old new told (step result only ok err)
   where
     step : (r : Result T E) → IfErr r (λ e. e ≡ refusal) → OnOk r (new ≡ apply edit old) → OnErr r (new ≡ old) → IsEdited (λ _. refusal) edit r old new

@@ -21,7 +21,7 @@ use Rattle.gitconf_includes.specs.Expansion.{Asks}
 use Rattle.gitconf_includes.specs.Outcomes.{asks_of, IsCause}
 use Rattle.gitconf_loaders.specs.Resolving.{MakesOf}
 use Rattle.gitconf_loaders.specs.Errors.{env_number, git_number, git_of_env, git_of_includes, git_of_paths, git_of_span, paths_number}
-use Rattle.gitconf_loaders.specs.Paths.{CountsLoad, has_room_behind, IsBehind, IsLoadedFrom, left_by, numbered, Then}
+use Rattle.gitconf_loaders.specs.Paths.{CountsLoad, has_room_behind, IsAppendedTo, IsLoadedFrom, left_by, numbered, Then}
 use Rattle.gitconf_loaders.specs.declared.from_env.Error.{Error as EnvError}
 use Rattle.gitconf_loaders.specs.declared.from_env.Error.TheVariants as env
 use Rattle.gitconf_loaders.specs.declared.from_git_dir.Error.{Error}
@@ -113,11 +113,11 @@ module _ (table : Option (List ℕ → FileReport)) (folder : List ℕ) (local :
   worktree_refused e (Err r) is loaded err = from_worktree (Err (paths_number r)) is (Err (paths_number e), loaded, ap Err (ap paths_number err))
 
 -- a file after another one
-put_on : (target other now : State) → IsEdited span_refusal (Append other) (Ok tt) target now → IsPutBehind target other (Ok now)
+put_on : (target other now : State) → IsEdited span_refusal (Append other) (Ok (tt {0})) target now → IsPutBehind target other (Ok now)
 put_on target other now appended =
-    inr (go (has_room_behind target other) (open_room target other (λ large. let no = (append_told other (Ok tt) target now appended).too_large.1 large in cc)))
+    inr (go (has_room_behind target other) (open_room target other (λ large. let no = (append_told other (Ok (tt {0})) target now appended).too_large.1 large in cc)))
   where
-    go : (b : Bool) → b ≡ true → elim b as (λ _. Type 0) [ true ↦ (s : State) × IsBehind target other s × (◌≡◌ {A = Result State ℕ} (Ok now) (Ok s)) | false ↦ ◌≡◌ {A = Result State ℕ} (Ok now) (Err 3) ]
+    go : (b : Bool) → b ≡ true → elim b as (λ _. Type 0) [ true ↦ (s : State) × IsAppendedTo target other s × (◌≡◌ {A = Result State ℕ} (Ok now) (Ok s)) | false ↦ ◌≡◌ {A = Result State ℕ} (Ok now) (Err 3) ]
     go true e = (now, appended.ok, refl)
     go false e = absurd (cc)
 
@@ -125,7 +125,7 @@ not_put : (target other : State) (n m : ℕ) → m ≡ n → IsAppendRefusal tar
 not_put target other n m same (inr wanting, large) = inl (ap Err (same ∙ wanting))
 not_put target other n m same (inl is, large) = inr (go (has_room_behind target other) (shut_room target other (large is)))
   where
-    go : (b : Bool) → b ≡ false → elim b as (λ _. Type 0) [ true ↦ (s : State) × IsBehind target other s × (◌≡◌ {A = Result State ℕ} (Err m) (Ok s)) | false ↦ ◌≡◌ {A = Result State ℕ} (Err m) (Err 3) ]
+    go : (b : Bool) → b ≡ false → elim b as (λ _. Type 0) [ true ↦ (s : State) × IsAppendedTo target other s × (◌≡◌ {A = Result State ℕ} (Err m) (Ok s)) | false ↦ ◌≡◌ {A = Result State ℕ} (Err m) (Err 3) ]
     go true e = absurd (cc)
     go false e = ap Err (same ∙ is)
 
@@ -135,7 +135,7 @@ module _ (first : Result State ℕ → Type 0) (target : State) where
   first_refused n e (Ok done) new is number err = absurd err
   first_refused n e (Err r) new is number err = (Err n, is, ap Err (ap git_number err ∙ number))
 
-  pub then_put : (other now : State) → first (Ok other) → IsEdited span_refusal (Append other) (Ok tt) target now → Then first (IsPutBehind target) (Ok now)
+  pub then_put : (other now : State) → first (Ok other) → IsEdited span_refusal (Append other) (Ok (tt {0})) target now → Then first (IsPutBehind target) (Ok now)
   then_put other now made appended = (Ok other, made, put_on target other now appended)
 
   pub then_refused : (other : State) (n : ℕ) (result : Result Unit Error) (new : State) → first (Ok other) → IsAppendRefusal target other n → IsErrAnd result (λ r. r ≡ git_of_span n)

@@ -21,7 +21,7 @@ use Rattle.gix_config.specs.declared.file.section_mut.making.Error.{Error}
 use Rattle.gix_config.specs.declared.file.section_mut.making.Error.TheVariants.{NonePasses, Lookup}
 use Rattle.gitconf_store.proofs.Places.Numbering.{numbered_has}
 use Rattle.gitconf_store.specs.Edited.{has_number}
-use Rattle.gix_config.specs.SectionEditors.{blanks_at, editor_at, IsFoundOrMadeOf, IsNumbered, IsPassing, IsPickedOf}
+use Rattle.gix_config.specs.SectionEditors.{blanks_at, editor_at, IsFoundOrMadeOf, IsOfNumber, IsPassing, IsPickedOf}
 
 or_right : (a b : Bool) → b ≡ true → (a || b) ≡ true
 or_right true b is = refl
@@ -116,7 +116,7 @@ passing_refused shown view give other name subsection keeps state (Lookup (Value
 passing_refused shown view give other name subsection keeps state (Lookup Memory) e = e
 
 pub numbered_refused : {T U A B : Type 0} (shown : T → A) (view : U → B) (give : SectionState → A) (other : SectionState → B) (number : ℕ) (state : State) (refusal : Error)
-    → IsNumbered shown give number state (Err refusal) → IsNumbered view other number state (Err refusal)
+    → IsOfNumber shown give number state (Err refusal) → IsOfNumber view other number state (Err refusal)
 numbered_refused shown view give other number state NonePasses e = e
 numbered_refused shown view give other number state (Lookup refusal) e = e
 

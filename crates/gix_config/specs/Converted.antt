@@ -15,34 +15,34 @@ use Rattle.gitconf_loaders.specs.declared.lookup.Error.{Error}
 use Rattle.gitconf_loaders.specs.declared.lookup.Error.TheVariants.{ValueMissing, FailedConversion, Memory}
 
 -- The type's own conversion gives this for the value, if there is one.
-abbrev pub IsGiven : {R : Type 0} → (gives : BString → R → Type 0) → Option (List ℕ) → R → Type 0
-IsGiven gives value result = (text : BString) × (value ≡ Some (bstring_bytes text)) × gives text result
+abbrev pub IsTypeGiven : {R : Type 0} → (gives : BString → R → Type 0) → Option (List ℕ) → R → Type 0
+IsTypeGiven gives value result = (text : BString) × (value ≡ Some (bstring_bytes text)) × gives text result
 
 -- The value, if there is one, is converted, or the type refuses it. If there is none, the refusal says what is missing; out of memory
 -- comes only if there is one.
-abbrev pub IsConverted : {T E : Type 0} → (gives : BString → Result T E → Type 0) → Option (List ℕ) → Miss → Result T (Error E) → Type 0
-IsConverted gives value miss (Ok t) = IsGiven gives value (Ok t)
-IsConverted gives value miss (Err (FailedConversion e)) = IsGiven gives value (Err e)
-IsConverted gives value miss (Err (ValueMissing refusal)) = (value ≡ None) × (refusal ≡ missing miss)
-IsConverted gives value miss (Err Memory) = value ≢ None
+abbrev pub IsConvertedTo : {T E : Type 0} → (gives : BString → Result T E → Type 0) → Option (List ℕ) → Miss → Result T (Error E) → Type 0
+IsConvertedTo gives value miss (Ok t) = IsTypeGiven gives value (Ok t)
+IsConvertedTo gives value miss (Err (FailedConversion e)) = IsTypeGiven gives value (Err e)
+IsConvertedTo gives value miss (Err (ValueMissing refusal)) = (value ≡ None) × (refusal ≡ missing miss)
+IsConvertedTo gives value miss (Err Memory) = value ≢ None
 
 -- the same, with the value's section
 abbrev pub IsConvertedWith : {T E : Type 0} → (gives : BString → Result T E → Type 0) → Option (List ℕ × SectionState) → Miss → Result (T × SectionRef) (Error E) → Type 0
-IsConvertedWith gives value miss (Ok found) = IsGiven gives (option_map (λ v. v.0) value) (Ok found.0) × (option_map (λ v. v.1) value ≡ Some (shown found.1))
-IsConvertedWith gives value miss (Err (FailedConversion e)) = IsGiven gives (option_map (λ v. v.0) value) (Err e)
+IsConvertedWith gives value miss (Ok found) = IsTypeGiven gives (option_map (λ v. v.0) value) (Ok found.0) × (option_map (λ v. v.1) value ≡ Some (shown found.1))
+IsConvertedWith gives value miss (Err (FailedConversion e)) = IsTypeGiven gives (option_map (λ v. v.0) value) (Err e)
 IsConvertedWith gives value miss (Err (ValueMissing refusal)) = (value ≡ None) × (refusal ≡ missing miss)
 IsConvertedWith gives value miss (Err Memory) = value ≢ None
 
 -- the values are converted, each to the one at its place
 abbrev pub AreGiven : {T E : Type 0} → (gives : BString → Result T E → Type 0) → List (List ℕ) → List T → Type 0
 AreGiven gives [] [] = Unit {0}
-AreGiven gives (value ∷ values) (t ∷ ts) = IsGiven gives (Some value) (Ok t) × AreGiven gives values ts
+AreGiven gives (value ∷ values) (t ∷ ts) = IsTypeGiven gives (Some value) (Ok t) × AreGiven gives values ts
 AreGiven gives _ _ = ⊥
 
 -- this is the type's refusal of the first value that it refuses
 abbrev pub FirstRefused : {T E : Type 0} → (gives : BString → Result T E → Type 0) → List (List ℕ) → E → Type 0
 FirstRefused gives [] e = ⊥
-FirstRefused {T} gives (value ∷ values) e = IsGiven gives (Some value) (Err e) ⊎ (((t : T) × IsGiven gives (Some value) (Ok t)) × FirstRefused gives values e)
+FirstRefused {T} gives (value ∷ values) e = IsTypeGiven gives (Some value) (Err e) ⊎ (((t : T) × IsTypeGiven gives (Some value) (Ok t)) × FirstRefused gives values e)
 
 -- A list of values is converted, or the type refuses one; or memory ran out.
 abbrev pub IsListed : {T E Z : Type 0} → (gives : BString → Result T E → Type 0) → List (List ℕ) → Result (Vec T Z) (Error E) → Type 0
@@ -74,17 +74,17 @@ AreConvertedWith gives values miss (Err (FailedConversion e)) = FirstRefused giv
 AreConvertedWith gives values miss (Err (ValueMissing refusal)) = (values ≡ []) × (refusal ≡ missing miss)
 AreConvertedWith gives values miss (Err Memory) = values ≢ []
 
--- as `IsConverted`, but it is not a refusal that there is no value
+-- as `IsConvertedTo`, but it is not a refusal that there is no value
 abbrev pub IsTried : {T E : Type 0} → (gives : BString → Result T E → Type 0) → Option (List ℕ) → Result (Option T) (Error E) → Type 0
-IsTried gives value (Ok (Some t)) = IsGiven gives value (Ok t)
+IsTried gives value (Ok (Some t)) = IsTypeGiven gives value (Ok t)
 IsTried gives value (Ok None) = value ≡ None
-IsTried gives value (Err (FailedConversion e)) = IsGiven gives value (Err e)
+IsTried gives value (Err (FailedConversion e)) = IsTypeGiven gives value (Err e)
 IsTried gives value (Err (ValueMissing refusal)) = ⊥
 IsTried gives value (Err Memory) = value ≢ None
 
 -- the result is the last value of the key, converted
-abbrev pub IsValue : {T E : Type 0} → (gives : BString → Result T E → Type 0) → Key → State → Result T (Error E) → Type 0
-IsValue gives key state result = IsConverted gives (value_at key (λ _. true) state) (miss_at key state) result
+abbrev pub IsTypedValue : {T E : Type 0} → (gives : BString → Result T E → Type 0) → Key → State → Result T (Error E) → Type 0
+IsTypedValue gives key state result = IsConvertedTo gives (value_at key (λ _. true) state) (miss_at key state) result
 
 -- the result is the last value of the key, converted, if there is one
 abbrev pub IsTriedValue : {T E : Type 0} → (gives : BString → Result T E → Type 0) → Key → State → Result (Option T) (Error E) → Type 0
@@ -95,8 +95,8 @@ abbrev pub IsValueWithSection : {T E : Type 0} → (gives : BString → Result T
 IsValueWithSection gives key state result = IsConvertedWith gives (value_in key (λ _. true) state) (miss_at key state) result
 
 -- the results are all values of the key, converted
-abbrev pub AreValues : {T E Z : Type 0} → (gives : BString → Result T E → Type 0) → Key → State → Result (Vec T Z) (Error E) → Type 0
-AreValues gives key state result = AreConverted gives (values_at key (λ _. true) state) (miss_at key state) result
+abbrev pub AreTypedValues : {T E Z : Type 0} → (gives : BString → Result T E → Type 0) → Key → State → Result (Vec T Z) (Error E) → Type 0
+AreTypedValues gives key state result = AreConverted gives (values_at key (λ _. true) state) (miss_at key state) result
 
 -- the results are all values of the key, converted, each with its section
 abbrev pub AreValuesWithSections : {T E Z : Type 0} → (gives : BString → Result T E → Type 0) → Key → State → Result (Vec (T × SectionRef) Z) (Error E) → Type 0

@@ -34,9 +34,9 @@ abbrev pub Edited : Type 0
 Edited = State × (ℕ × Editor)
 
 -- the value is pushed after the section's entries; one that isn't UTF-8 is refused
-abbrev pub IsPushed : (name : List ℕ) → (value : Option (List ℕ)) → Edited → Result State ℕ → Type 0
-IsPushed name None edited r = r ≡ Err 22
-IsPushed name (Some value) edited r =
+abbrev pub IsValuePushed : (name : List ℕ) → (value : Option (List ℕ)) → Edited → Result State ℕ → Type 0
+IsValuePushed name None edited r = r ≡ Err 22
+IsValuePushed name (Some value) edited r =
     (pushed : Result Unit ValueError) × (new : State) × IsEdited value_refusal (Push edited.1.0 edited.1.1 name (Some value) None) pushed edited.0 new × (r ≡ left_by value_number pushed new)
 
 -- the last section of the name and subsection, or one that is made if there is none
@@ -44,16 +44,16 @@ abbrev pub IsSectionFor : Key → (old : State) → Result Edited HeaderError �
 IsSectionFor key old found = IsFoundOrMade (λ edited. edited.0) (λ edited. edited.1) (editor_at old) key.section key.subsection (λ _. true) old found
 
 -- a value is put into that section
-abbrev pub IsPut : Key → (value : Option (List ℕ)) → (old : State) → Result State ℕ → Type 0
-IsPut key value old r = (found : Result Edited HeaderError) × IsSectionFor key old found × elim found [
+abbrev pub IsValuePut : Key → (value : Option (List ℕ)) → (old : State) → Result State ℕ → Type 0
+IsValuePut key value old r = (found : Result Edited HeaderError) × IsSectionFor key old found × elim found [
   | Err e ↦ r ≡ Err (header_number e)
-  | Ok edited ↦ IsPushed key.name value edited r
+  | Ok edited ↦ IsValuePushed key.name value edited r
 ]
 
 -- a value is put under a key, if the key's text has one; otherwise it is refused
 abbrev pub IsPutUnder : Option Key → (value : Option (List ℕ)) → (old : State) → Result State ℕ → Type 0
 IsPutUnder None value old r = r ≡ Err 25
-IsPutUnder (Some key) value old r = IsPut key value old r
+IsPutUnder (Some key) value old r = IsValuePut key value old r
 
 -- an entry, counted from 0: its key and its value are asked, and then it is put into the file
 abbrev pub IsEntryPut : Option (List ℕ → VariableReport) → (index : ℕ) → (old : State) → Result State ℕ → Type 0
@@ -61,9 +61,9 @@ IsEntryPut variables index old =
     Then (IsKeyAt variables index) (λ key. Then (IsValueAt variables index) (λ value. λ r. (r ≡ Err 27) ⊎ IsPutUnder (parsed_key key) value old r))
 
 -- that many entries, from this one on
-abbrev pub ArePut : Option (List ℕ → VariableReport) → (left index : ℕ) → (old : State) → Result State ℕ → Type 0
-ArePut variables zero index old r = r ≡ Ok old
-ArePut variables (suc left) index old r = Then (IsEntryPut variables index old) (ArePut variables left (index + 1)) r
+abbrev pub AreEntriesPut : Option (List ℕ → VariableReport) → (left index : ℕ) → (old : State) → Result State ℕ → Type 0
+AreEntriesPut variables zero index old r = r ≡ Ok old
+AreEntriesPut variables (suc left) index old r = Then (IsEntryPut variables index old) (AreEntriesPut variables left (index + 1)) r
 
 -- where the file and its sections come from
 abbrev pub env_meta : Meta
@@ -77,7 +77,7 @@ IsSome file r = r ≡ Ok (Some file)
 abbrev pub IsMadeOfEntries : Option (List ℕ → VariableReport) → Asks → (count : ℕ) → Result (Option State) ℕ → Type 0
 IsMadeOfEntries variables asks count r = elim (count == 0) [
   | true ↦ r ≡ Ok None
-  | false ↦ Then (ArePut variables count 0 (empty_file env_meta)) (λ file. Then (λ r. MakesOf (λ number. number) asks r (Ok file)) IsSome) r
+  | false ↦ Then (AreEntriesPut variables count 0 (empty_file env_meta)) (λ file. Then (λ r. MakesOf (λ number. number) asks r (Ok file)) IsSome) r
 ]
 
 -- first the count is asked; memory may run out
@@ -91,8 +91,8 @@ IsEnvCause variables options table (env.InvalidConfigCount input) = IsCountCause
 IsEnvCause variables options table e = (index : ℕ) × IsEntryCause index e
 
 -- no key that variables set names a section `[]`, with an empty name and no subsection
-abbrev pub AreNamed : (variables : List ℕ → VariableReport) → Type 0
-AreNamed variables = (index : ℕ) (text : List ℕ) (key : Key) → ◌≡◌ {A = Result (List ℕ) ℕ} (reported_key (variables (key_variable index))) (Ok text) → parsed_key text ≡ Some key
+abbrev pub HaveSectionNames : (variables : List ℕ → VariableReport) → Type 0
+HaveSectionNames variables = (index : ℕ) (text : List ℕ) (key : Key) → ◌≡◌ {A = Result (List ℕ) ℕ} (reported_key (variables (key_variable index))) (Ok text) → parsed_key text ≡ Some key
     → is_nameless (made_header key.section key.subsection) ≡ false
 
 -- the overrides: includes know the home folder of the places, and without entries the file is empty

@@ -15,7 +15,7 @@ use Rattle.gitconf_body.specs.Refusals.{span_refusal}
 use Rattle.gitconf_store.specs.declared.set_raw_value.Error.{Error as SetError}
 use Rattle.gitconf_store.specs.Edited.{IsEdited}
 use Rattle.gitconf_store.specs.Existing.{IsSetExisting}
-use Rattle.gitconf_store.specs.Several.{AreRewritten, AreSetExisting}
+use Rattle.gitconf_store.specs.Several.{AreRewritten, AreSetExisting, all_deleted}
 
 -- how an edit ends: with its answer, or refused for a cause
 abbrev pub Ending : Type 0
@@ -31,33 +31,35 @@ abbrev pub no_memory : NoMemory
 no_memory = record {}
 
 -- an edit ends like the result of a function: both are done, and what the function returns shows the answer; or its refusal is that of the cause
-abbrev pub AreAlike : {T E : Type 0} → (shown : T → Answer) → (refusal : Cause → E) → Ending → Result T E → Type 0
-AreAlike shown refusal (Ok told) (Ok found) = told ≡ shown found
-AreAlike shown refusal (Err cause) (Err e) = e ≡ refusal cause
-AreAlike shown refusal (Ok told) (Err e) = ⊥
-AreAlike shown refusal (Err cause) (Ok found) = ⊥
+abbrev pub IsOneEnding : {T E : Type 0} → (shown : T → Answer) → (refusal : Cause → E) → Ending → Result T E → Type 0
+IsOneEnding shown refusal (Ok told) (Ok found) = told ≡ shown found
+IsOneEnding shown refusal (Err cause) (Err e) = e ≡ refusal cause
+IsOneEnding shown refusal (Ok told) (Err e) = ⊥
+IsOneEnding shown refusal (Err cause) (Ok found) = ⊥
 
 -- A call on a file, and how it ended: an edit; a value of an existing entry, or of several, set by their key; those of the entries at some places
--- set by an editor; includes resolved.
+-- set or deleted by an editor; includes resolved.
 pub data Call : Type 0 where
   Edits : Edit → Ending → Call
   SetsExisting : Key → (value : List ℕ) → Result (Unit {0}) SetError → Call
   SetsAllExisting : Key → (values : List (List ℕ)) → Result (Unit {0}) SetError → Call
   SetsValues : (key : List ℕ) → (places : List (ℕ × ℕ)) → (values : List (List ℕ)) → Result (Unit {0}) ℕ → Call
+  DeletesAll : (places : List (ℕ × ℕ)) → Call
   Resolves : Asks → Result (Unit {0}) IncludesError → Call
 
 -- what a call leaves: what its contract says
-abbrev pub Leaves : Call → (old new : State) → Type 0
-Leaves (Edits edit ending) old new = Ends edit old ending new
-Leaves (SetsExisting key value result) old new = IsSetExisting key value result old new
-Leaves (SetsAllExisting key values result) old new = AreSetExisting key values result old new
-Leaves (SetsValues key places values result) old new = AreRewritten span_refusal key places values result old new
-Leaves (Resolves asks result) old new = expansions.Resolves includes_number asks old result new
+abbrev pub LeavesFile : Call → (old new : State) → Type 0
+LeavesFile (Edits edit ending) old new = Ends edit old ending new
+LeavesFile (SetsExisting key value result) old new = IsSetExisting key value result old new
+LeavesFile (SetsAllExisting key values result) old new = AreSetExisting key values result old new
+LeavesFile (SetsValues key places values result) old new = AreRewritten span_refusal key places values result old new
+LeavesFile (DeletesAll places) old new = new ≡ all_deleted places old
+LeavesFile (Resolves asks result) old new = expansions.Resolves includes_number asks old result new
 
 -- calls, each on the file that the one before it left
 abbrev pub Runs : List Call → (old new : State) → Type 0
 Runs [] old new = new ≡ old
-Runs (call ∷ calls) old new = (next : State) × Leaves call old next × Runs calls next new
+Runs (call ∷ calls) old new = (next : State) × LeavesFile call old next × Runs calls next new
 
 -- What an edit is handed: an editor that was made, or a section or a file of items that a text may have.
 abbrev pub IsHanded : Edit → Type 0

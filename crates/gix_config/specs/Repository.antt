@@ -17,7 +17,7 @@ use Rattle.gitconf_lookups.specs.Lookups.{implicit_at}
 use Rattle.gitconf_loaders.specs.Resolving.{MakesOf}
 use Rattle.gitconf_loaders.specs.Causes.{IsFileCause}
 use Rattle.gitconf_loaders.specs.Globals.{home_rules, IsGlobal, IsGlobalCause}
-use Rattle.gitconf_loaders.specs.Paths.{has_room_behind, IsBehind, IsLoadedFrom, Then}
+use Rattle.gitconf_loaders.specs.Paths.{has_room_behind, IsAppendedTo, IsLoadedFrom, Then}
 use Rattle.gitconf_loaders.specs.declared.from_git_dir.Error.{Error}
 use Rattle.gitconf_loaders.specs.declared.from_git_dir.Error.TheVariants as git
 use Rattle.gitconf_loaders.specs.declared.from_paths.Error.{Error as PathsError}
@@ -69,7 +69,7 @@ IsExpanded asks file r = MakesOf (λ number. number) asks r (Ok file)
 -- a file is appended to another one; memory may run out
 abbrev pub IsPutBehind : (target other : State) → Result State ℕ → Type 0
 IsPutBehind target other r = (r ≡ Err 27) ⊎ elim (has_room_behind target other) [
-  | true ↦ (now : State) × IsBehind target other now × (r ≡ Ok now)
+  | true ↦ (now : State) × IsAppendedTo target other now × (r ≡ Ok now)
   | false ↦ r ≡ Err 3
 ]
 

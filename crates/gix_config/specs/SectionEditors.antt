@@ -69,10 +69,10 @@ abbrev pub IsPassing : {T A : Type 0} → (shown : T → A) → (give : SectionS
 IsPassing shown give name subsection keeps state result = IsPickedOf shown give name subsection state (picked name subsection keeps state) result
 
 -- What was found of the section of the number, or that no section has it.
-abbrev pub IsNumbered : {T A : Type 0} → (shown : T → A) → (give : SectionState → A) → (number : ℕ) → State → Result T Error → Type 0
-IsNumbered shown give number state (Ok found) = option_map give (numbered number state) ≡ Some (shown found)
-IsNumbered shown give number state (Err NonePasses) = numbered number state ≡ None
-IsNumbered shown give number state (Err (Lookup refusal)) = (refusal ≡ Memory) × (numbered number state ≢ None)
+abbrev pub IsOfNumber : {T A : Type 0} → (shown : T → A) → (give : SectionState → A) → (number : ℕ) → State → Result T Error → Type 0
+IsOfNumber shown give number state (Ok found) = option_map give (numbered number state) ≡ Some (shown found)
+IsOfNumber shown give number state (Err NonePasses) = numbered number state ≡ None
+IsOfNumber shown give number state (Err (Lookup refusal)) = (refusal ≡ Memory) × (numbered number state ≢ None)
 
 -- the last section of the name and subsection has this editor, or the refusal says what is missing
 abbrev pub IsEditorFound : (name : List ℕ) → (subsection : Option (List ℕ)) → State → Result (SectionMut Spacing) Existing → Type 0

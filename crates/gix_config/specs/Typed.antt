@@ -24,9 +24,9 @@ integers_or_refusal (value ∷ values) = elim (integer_or_refusal value) [
 ]
 
 -- What was found is returned in its type, or refused, if there is something; or memory ran out, if there is something.
-abbrev pub IsTyped : {A B T : Type 0} → (told : A → Result B ValueError) → (shown : T → B) → Option A → Result (Option T) ValueError → Type 0
-IsTyped told shown value (Ok found) = option_map told value ≡ option_map (λ t. Ok (shown t)) found
-IsTyped told shown value (Err e) = (option_map told value ≡ Some (Err e)) ⊎ ((value ≢ None) × (e ≡ wanting))
+abbrev pub IsReadAs : {A B T : Type 0} → (told : A → Result B ValueError) → (shown : T → B) → Option A → Result (Option T) ValueError → Type 0
+IsReadAs told shown value (Ok found) = option_map told value ≡ option_map (λ t. Ok (shown t)) found
+IsReadAs told shown value (Err e) = (option_map told value ≡ Some (Err e)) ⊎ ((value ≢ None) × (e ≡ wanting))
 
 -- the result is the last value of the key as a path, if there is one
 abbrev pub IsPath : {E : Type 0} → Key → (keeps : Meta → Bool) → State → Result (Option (List ℕ)) E → Type 0
@@ -43,8 +43,8 @@ IsBoolean key keeps state result = IsEntryBoolean (implicit_at key keeps state) 
 
 -- the result is the last value of the key as an integer, if there is one
 abbrev pub IsInteger : Key → (keeps : Meta → Bool) → State → Result (Option ℤ) ValueError → Type 0
-IsInteger key keeps state result = IsTyped integer_or_refusal (λ n. n) (value_at key keeps state) result
+IsInteger key keeps state result = IsReadAs integer_or_refusal (λ n. n) (value_at key keeps state) result
 
 -- the results are all values of the key as integers, if there are some
 abbrev pub AreIntegers : {Z : Type 0} → Key → (keeps : Meta → Bool) → State → Result (Option (Vec ℤ Z)) ValueError → Type 0
-AreIntegers {Z = Z} key keeps state result = IsTyped integers_or_refusal (λ (ns : Vec ℤ Z). ns.items) (if_any (values_at key keeps state)) result
+AreIntegers {Z = Z} key keeps state result = IsReadAs integers_or_refusal (λ (ns : Vec ℤ Z). ns.items) (if_any (values_at key keeps state)) result

@@ -25,7 +25,7 @@ ghost use Rattle.gitconf_lookups.specs.Lookups.{implicit_at, value_at, values_at
 ghost use Rattle.gitconf_lookups.specs.Picks.{picked};
 ghost use Rattle.gitconf_sources.specs.Key.{Key};
 ghost use Rattle.gitconf_lookups.specs.ValuePlaces.{editor_of_numbered};
-ghost use Rattle.gix_config.specs.Headline.{AreAlike, Call, Ending, Ends, IsCleanCall, Runs, no_memory};
+ghost use Rattle.gix_config.specs.Headline.{IsOneEnding, Call, Ending, Ends, IsCleanCall, Runs, no_memory};
 ghost use Rattle.gitconf_text.specs.declared.memory.NoMemory.{NoMemory};
 ghost use Rattle.bstr.specs.declared.bstring.BString.{BString};
 ghost use Rattle.gitconf_body.specs.Refusals.{header_refusal, span_refusal, value_refusal};
@@ -36,7 +36,7 @@ ghost use Rattle.gitconf_store.specs.declared.rename_section.Error.{Error as Ren
 ghost use Rattle.gitconf_store.specs.declared.set_raw_value.Error.{Error as SetError};
 ghost use Rattle.gitconf_text.specs.declared.parse.section.header.Error.{Error as HeaderError};
 ghost use Rattle.gitconf_state.specs.Inserted.{Inserted, IsByteForByte};
-ghost use Rattle.gix_config.specs.Environment.{AreNamed, IsFromEnv, IsOverrides};
+ghost use Rattle.gix_config.specs.Environment.{HaveSectionNames, IsFromEnv, IsOverrides};
 ghost use Rattle.gitconf_store.specs.Edited.{put_bytes, IsEdited};
 ghost use Rattle.gix_config.specs.Repository.{IsRepository};
 ghost use Rattle.gix_config.specs.SectionEditors.{with_leading};
@@ -77,18 +77,18 @@ pub fn edits_put_no_more_than_their_tokens()
 /// The file that variables set is clean, and that of the overrides, if no key names a section with an empty name and no subsection, and no
 /// text that may be included has an entry before its first section.
 pub fn files_of_variables_are_clean()
-    ensures made { (variables : List ℕ → VariableReport) (files : List ℕ → FileReport) (asks : Asks) (file : State) → AreNamed variables
+    ensures made { (variables : List ℕ → VariableReport) (files : List ℕ → FileReport) (asks : Asks) (file : State) → HaveSectionNames variables
         → asks.table ≡ Some files → AreHeaded files
         → IsFromEnv (Some variables) asks (Ok (Some file)) → IsClean file × (entries_of file.front ≡ []) }
     ensures overrides { (variables : List ℕ → VariableReport) (places : Places) (files : List ℕ → FileReport) (file : State)
-        → AreNamed variables → AreHeaded files → IsOverrides (Some variables) places (Some files) (Ok file) → IsClean file × (entries_of file.front ≡ []) }
+        → HaveSectionNames variables → AreHeaded files → IsOverrides (Some variables) places (Some files) (Ok file) → IsClean file × (entries_of file.front ≡ []) }
 {}
 
 /// The configuration of a repository is clean, if that holds of variables and of texts, also those of the repository's own files: so what is
 /// written of it reads back.
 pub fn repositories_are_clean()
     ensures { (variables : List ℕ → VariableReport) (places : Places) (files : List ℕ → FileReport) (dir : List ℕ) (real : Option (List ℕ))
-        (file : State) → AreNamed variables → AreHeaded files
+        (file : State) → HaveSectionNames variables → AreHeaded files
         → IsRepository (Some variables) places (Some files) dir real (Ok file) → IsClean file × (entries_of file.front ≡ []) }
 {}
 
@@ -96,37 +96,37 @@ pub fn repositories_are_clean()
 /// refused for the cause that its refusal tells.
 pub fn calls_end_as_their_contracts_say()
     ensures pushes { (edit : Edit) (result : Result (Unit {0}) ValueError) (old new : State) → IfOk result (λ _. Done ≡ answer edit old)
-        → IsEdited value_refusal edit result old new → (ending : Ending) × Ends edit old ending new × AreAlike (λ _. Done) value_refusal ending result }
+        → IsEdited value_refusal edit result old new → (ending : Ending) × Ends edit old ending new × IsOneEnding (λ _. Done) value_refusal ending result }
     ensures values { (edit : Edit) (result : Result (Option BString) ValueError) (old new : State)
         → IfOk result (λ o. Raw (option_map bstring_bytes o) ≡ answer edit old) → IsEdited value_refusal edit result old new
-        → (ending : Ending) × Ends edit old ending new × AreAlike (λ o. Raw (option_map bstring_bytes o)) value_refusal ending result }
+        → (ending : Ending) × Ends edit old ending new × IsOneEnding (λ o. Raw (option_map bstring_bytes o)) value_refusal ending result }
     // Line ends, values of entries that stand, and appended files.
     ensures spans { (edit : Edit) (result : Result (Unit {0}) ℕ) (old new : State) → IfOk result (λ _. Done ≡ answer edit old)
-        → IsEdited span_refusal edit result old new → (ending : Ending) × Ends edit old ending new × AreAlike (λ _. Done) span_refusal ending result }
+        → IsEdited span_refusal edit result old new → (ending : Ending) × Ends edit old ending new × IsOneEnding (λ _. Done) span_refusal ending result }
     ensures headers { (edit : Edit) (result : Result (Unit {0}) HeaderError) (old new : State) → IfOk result (λ _. Done ≡ answer edit old)
-        → IsEdited header_refusal edit result old new → (ending : Ending) × Ends edit old ending new × AreAlike (λ _. Done) header_refusal ending result }
+        → IsEdited header_refusal edit result old new → (ending : Ending) × Ends edit old ending new × IsOneEnding (λ _. Done) header_refusal ending result }
     ensures raw_values { (edit : Edit) (result : Result (Option BString) SetError) (old new : State)
         → IfOk result (λ o. Raw (option_map bstring_bytes o) ≡ answer edit old) → IsEdited set_refusal edit result old new
-        → (ending : Ending) × Ends edit old ending new × AreAlike (λ o. Raw (option_map bstring_bytes o)) set_refusal ending result }
+        → (ending : Ending) × Ends edit old ending new × IsOneEnding (λ o. Raw (option_map bstring_bytes o)) set_refusal ending result }
     ensures renamings { (edit : Edit) (result : Result (Unit {0}) RenameError) (old new : State) → IfOk result (λ _. Done ≡ answer edit old)
-        → IsEdited rename_refusal edit result old new → (ending : Ending) × Ends edit old ending new × AreAlike (λ _. Done) rename_refusal ending result }
+        → IsEdited rename_refusal edit result old new → (ending : Ending) × Ends edit old ending new × IsOneEnding (λ _. Done) rename_refusal ending result }
     // What only want of memory refuses.
     ensures removed { (number : ℕ) (key : List ℕ) (result : Result (Option BString) NoMemory) (old new : State)
         → IfOk result (λ o. Raw (option_map bstring_bytes o) ≡ answer (Remove number key) old) → OnOk result (new ≡ apply (Remove number key) old)
         → OnErr result (new ≡ old) → (ending : Ending) × Ends (Remove number key) old ending new
-        × AreAlike (λ o. Raw (option_map bstring_bytes o)) (λ _. no_memory) ending result }
+        × IsOneEnding (λ o. Raw (option_map bstring_bytes o)) (λ _. no_memory) ending result }
     ensures marked { (number : ℕ) (key : List ℕ) (marks : List Bool) (result : Result ℕ NoMemory) (old new : State)
         → IfOk result (λ n. Count n ≡ answer (RemoveMarked number key marks) old) → OnOk result (new ≡ apply (RemoveMarked number key marks) old)
-        → OnErr result (new ≡ old) → (ending : Ending) × Ends (RemoveMarked number key marks) old ending new × AreAlike Count (λ _. no_memory) ending result }
+        → OnErr result (new ≡ old) → (ending : Ending) × Ends (RemoveMarked number key marks) old ending new × IsOneEnding Count (λ _. no_memory) ending result }
     ensures trusted { (number : ℕ) (trust : Trust) (result : Result (Unit {0}) NoMemory) (old new : State)
         → OnOk result (new ≡ apply (SetTrust number trust) old) → OnErr result (new ≡ old)
-        → (ending : Ending) × Ends (SetTrust number trust) old ending new × AreAlike (λ _. Done) (λ _. no_memory) ending result }
+        → (ending : Ending) × Ends (SetTrust number trust) old ending new × IsOneEnding (λ _. Done) (λ _. no_memory) ending result }
 {}
 
 /// After every list of calls that change a file, done or refused, each as its contract says, what is written of the file reads back.
 ///
-/// The calls are all edits, values of existing entries set, one or several, and includes resolved. The file was loaded, whole or lossy, or has
-/// items such as a text may have and is clean: so is one that a loader made ([`files_of_variables_are_clean`], [`repositories_are_clean`], and
+/// The calls are all edits, values of existing entries set, one or several, entries deleted, and includes resolved. The file was loaded,
+/// whole or lossy, or has items such as a text may have and is clean: so is one that a loader made ([`files_of_variables_are_clean`], [`repositories_are_clean`], and
 /// [`loaders`]). Of the calls it is asked that edits are handed what the library makes ([`new_editors_are_editors`]); that no header has an empty
 /// name and no subsection; that blanks before names that were set are spaces and tabs; and that no file that is appended or may be included
 /// has an entry before its first section. Then the file after them is such a one again, the text that is written of it has exactly its

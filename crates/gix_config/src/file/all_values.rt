@@ -6,7 +6,7 @@ ghost use Rattle.gitconf_state.specs.Lookup.{Miss};
 ghost use Rattle.gitconf_state.specs.State.{SectionState};
 ghost use Rattle.gitconf_lookups.specs.Lookups.{if_any, key_at, shown_with, texts_of};
 ghost use Rattle.gitconf_lookups.specs.Misses.{IsExisting};
-ghost use Rattle.gix_config.specs.Converted.{AreConverted, AreConvertedWith, AreGiven, AreValues, AreValuesWithSections, IsListed, IsListedWith};
+ghost use Rattle.gix_config.specs.Converted.{AreConverted, AreConvertedWith, AreGiven, AreTypedValues, AreValuesWithSections, IsListed, IsListedWith};
 
 use crate::file::{File, SectionRef};
 use crate::lookup;
@@ -86,7 +86,7 @@ impl File {
         key: K,
     ) -> Result<Vec<T>, lookup::Error<T::Error>>
         requires { IsSome (K.key key) }
-        ensures { AreValues T.try_from_gives (the_key (K.key key)) self.now result }
+        ensures { AreTypedValues T.try_from_gives (the_key (K.key key)) self.now result }
     {
         let key = key.as_key();
         self.values_by(key.section_name, key.subsection_name, key.value_name)
@@ -103,7 +103,7 @@ impl File {
         subsection_name: Option<&[u8]>,
         value_name: &str,
     ) -> Result<Vec<T>, lookup::Error<T::Error>>
-        ensures { AreValues T.try_from_gives (key_at section_name.now (option_copied subsection_name.entry) value_name.now) self.now result }
+        ensures { AreTypedValues T.try_from_gives (key_at section_name.now (option_copied subsection_name.entry) value_name.now) self.now result }
     {
         converted(self.raw_values_by(section_name, subsection_name, value_name))
     }

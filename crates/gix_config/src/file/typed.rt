@@ -13,7 +13,7 @@ ghost use Rattle.gitconf_lookups.specs.Lookups.{IsFound, if_any, key_at, texts_o
 ghost use Rattle.gitconf_lookups.specs.SomeSections.{Filtered};
 ghost use Rattle.gix_config.specs.Keys.{OfKey};
 ghost use Rattle.gitconf_body.specs.Bodies.{IsFoundImplicit};
-ghost use Rattle.gix_config.specs.Typed.{AreIntegers, IsBoolean, IsEntryBoolean, IsInteger, IsPath, IsTyped, boolean_or_refusal, integers_or_refusal};
+ghost use Rattle.gix_config.specs.Typed.{AreIntegers, IsBoolean, IsEntryBoolean, IsInteger, IsPath, IsReadAs, boolean_or_refusal, integers_or_refusal};
 
 use crate::file::{File, Metadata};
 use crate::values::{Boolean, Path};
@@ -57,7 +57,7 @@ fn found_boolean(
 
 /// The integer of the value that was found.
 fn found_integer(found: Result<Option<BString>, NoMemory>) -> Result<Option<i64>, value::Error>
-    ensures { (value : Option (List ℕ)) → IsFound bstring_bytes found value → IsTyped integer_or_refusal (λ n. n) value result }
+    ensures { (value : Option (List ℕ)) → IsFound bstring_bytes found value → IsReadAs integer_or_refusal (λ n. n) value result }
 {
     match found? {
         Some(value) => Ok(Some(integer::decimal(value)?)),
@@ -81,7 +81,7 @@ fn integers_of(values: Vec<BString>) -> Result<Vec<i64>, value::Error>
 fn found_integers(
     found: Result<Option<Vec<BString>>, NoMemory>,
 ) -> Result<Option<Vec<i64>>, value::Error>
-    ensures { (values : List (List ℕ)) → IsFound texts_of found (if_any values) → IsTyped integers_or_refusal (λ ns. ns.items) (if_any values) result }
+    ensures { (values : List (List ℕ)) → IsFound texts_of found (if_any values) → IsReadAs integers_or_refusal (λ ns. ns.items) (if_any values) result }
 {
     match found? {
         Some(values) => Ok(Some(integers_of(values)?)),

@@ -7,7 +7,7 @@ ghost use Rattle.gitconf_state.specs.Lookup.{Miss};
 ghost use Rattle.gitconf_state.specs.State.{SectionState};
 ghost use Rattle.gitconf_lookups.specs.Lookups.{IsFound, key_at, shown_with};
 ghost use Rattle.gitconf_lookups.specs.Misses.{IsExisting};
-ghost use Rattle.gix_config.specs.Converted.{IsConverted, IsConvertedWith, IsTried, IsTriedValue, IsValue, IsValueWithSection};
+ghost use Rattle.gix_config.specs.Converted.{IsConvertedTo, IsConvertedWith, IsTried, IsTriedValue, IsTypedValue, IsValueWithSection};
 
 use crate::file::{File, SectionRef};
 use crate::lookup;
@@ -20,7 +20,7 @@ use gitconf_text::NoMemory;
 fn converted<T: TryFrom<BString>>(
     found: Result<BString, existing::Error>,
 ) -> Result<T, lookup::Error<T::Error>>
-    ensures { (value : Option (List ℕ)) (miss : Miss) → IsExisting bstring_bytes found value miss → IsConverted T.try_from_gives value miss result }
+    ensures { (value : Option (List ℕ)) (miss : Miss) → IsExisting bstring_bytes found value miss → IsConvertedTo T.try_from_gives value miss result }
 {
     match found {
         Ok(value) => match T::try_from(value) {
@@ -74,7 +74,7 @@ impl File {
     /// Those of [`File::raw_value`], and refusal 10 if the type refuses the value.
     pub fn value<T: TryFrom<BString>, K: AsKey>(&self, key: K) -> Result<T, lookup::Error<T::Error>>
         requires { IsSome (K.key key) }
-        ensures { IsValue T.try_from_gives (the_key (K.key key)) self.now result }
+        ensures { IsTypedValue T.try_from_gives (the_key (K.key key)) self.now result }
     {
         let key = key.as_key();
         self.value_by(key.section_name, key.subsection_name, key.value_name)
@@ -91,7 +91,7 @@ impl File {
         subsection_name: Option<&[u8]>,
         value_name: &str,
     ) -> Result<T, lookup::Error<T::Error>>
-        ensures { IsValue T.try_from_gives (key_at section_name.now (option_copied subsection_name.entry) value_name.now) self.now result }
+        ensures { IsTypedValue T.try_from_gives (key_at section_name.now (option_copied subsection_name.entry) value_name.now) self.now result }
     {
         converted(self.raw_value_by(section_name, subsection_name, value_name))
     }

@@ -4,7 +4,7 @@ use Rattle.gitconf_includes.specs.Outcomes.{asks_of}
 use Rattle.gitconf_loaders.specs.Errors.{paths_number}
 use Rattle.std.specs.List.{list_any}
 use Rattle.gitconf_loaders.specs.Causes.{has_path}
-use Rattle.gitconf_loaders.specs.Paths.{AreLoaded, IsMetaLoaded, once}
+use Rattle.gitconf_loaders.specs.Paths.{AreFilesLoaded, IsMetaLoaded, once}
 use Rattle.gitconf_loaders.proofs.Counts.{no_less, none_less}
 use Rattle.gitconf_loaders.proofs.Several.{ended_left, left_of, left_counts, once_of, went_on}
 use Rattle.gitconf_loaders.proofs.paths.from_paths.Goals as goal
@@ -17,7 +17,7 @@ loop-meta-init g c =
       is_finite = tt;
       table = refl;
       counted = no_less (g.F.Files.failures c.args.files.now);
-      suffices = λ r later. subst (λ l. AreLoaded c.args.must_exist c.args.options.now.ignore_io_errors (asks_of c.args.options.now (g.F.Files.table c.args.files.now)) l None r) all later;
+      suffices = λ r later. subst (λ l. AreFilesLoaded c.args.must_exist c.args.options.now.ignore_io_errors (asks_of c.args.options.now (g.F.Files.table c.args.files.now)) l None r) all later;
       paths = λ path is. once_of path [] c.args.metas.items (subst (λ l. list_any (has_path path) l ≡ true) all is);
     }
 
@@ -33,7 +33,7 @@ loop-meta-preserved g c =
       is_finite = tt;
       table = c.load_behind.ensures.table ∙ c.loop-meta.invariant.table;
       counted = none_less (g.F.Files.failures c.args.files.now) (g.F.Files.failures c.loop-meta.files) (g.F.Files.failures c.load_behind.new.files) c.loop-meta.invariant.counted c.in_ok-load_behind.ensures.counted;
-      suffices = λ r later. c.loop-meta.invariant.suffices r (subst (λ l. AreLoaded c.args.must_exist c.args.options.now.ignore_io_errors asks l c.loop-meta.target r) (sym left)
+      suffices = λ r later. c.loop-meta.invariant.suffices r (subst (λ l. AreFilesLoaded c.args.must_exist c.args.options.now.ignore_io_errors asks l c.loop-meta.target r) (sym left)
           (went_on c.args.must_exist c.args.options.now.ignore_io_errors asks c.in-Some.meta next c.loop-meta.target c.load_behind.new.target r loaded later));
       paths = λ path is. c.loop-meta.invariant.paths path (subst (λ l. list_any (has_path path) l ≡ true) (sym left) (left_of path c.in-Some.meta next is));
     }
@@ -46,7 +46,7 @@ returns-in_err-load_behind-clause-loaded g c =
     let loaded = subst (λ t. IsMetaLoaded c.args.must_exist c.args.options.now.ignore_io_errors (asks_of c.args.options.now t) c.in-Some.meta c.loop-meta.target (Err (paths_number c.in_err-load_behind.field-0.0)))
     c.loop-meta.invariant.table c.in_err-load_behind.ensures.loaded in
     ended_left c.args.must_exist c.args.options.now.ignore_io_errors asks c.in-Some.meta next c.args.metas.items c.loop-meta.target c.in_err-load_behind.field-0.0 c.from_residual-in_err-load_behind.result
-    (λ r later. c.loop-meta.invariant.suffices r (subst (λ l. AreLoaded c.args.must_exist c.args.options.now.ignore_io_errors asks l c.loop-meta.target r) (sym left) later)) loaded
+    (λ r later. c.loop-meta.invariant.suffices r (subst (λ l. AreFilesLoaded c.args.must_exist c.args.options.now.ignore_io_errors asks l c.loop-meta.target r) (sym left) later)) loaded
     c.from_residual-in_err-load_behind.ensures.1
 
 pub returns-in_err-load_behind-clause-counted : goal.returns-in_err-load_behind-clause-counted

@@ -10,7 +10,7 @@ ghost use Rattle.gitconf_loaders.specs.Globals.{empty_file};
 ghost use Rattle.gitconf_loaders.specs.Resolving.{MakesOf};
 ghost use Rattle.gitconf_loaders.specs.Paths.{CountsLoad, left_by, numbered};
 ghost use Rattle.gitconf_loaders.specs.Variables.{IsEntryCause};
-ghost use Rattle.gix_config.specs.Environment.{ArePut, IsEntryPut, IsEnvCause, IsFromEnv, IsOverrides, IsOverridesCause, IsPushed, IsPut, IsPutUnder};
+ghost use Rattle.gix_config.specs.Environment.{AreEntriesPut, IsEntryPut, IsEnvCause, IsFromEnv, IsOverrides, IsOverridesCause, IsValuePushed, IsValuePut, IsPutUnder};
 ghost use Rattle.gix_config.specs.SectionEditors.{edited, lent, told};
 
 use crate::file::section_mut::SectionMut;
@@ -40,7 +40,7 @@ fn push_value(
     index: usize,
 ) -> Result<(), Error>
     ensures same_file { lent section.new ≡ lent section.old }
-    ensures pushed { IsPushed name.now (option_map string_bytes value) (edited section.old, told section.old) (left_by env_number result (edited section.new)) }
+    ensures pushed { IsValuePushed name.now (option_map string_bytes value) (edited section.old, told section.old) (left_by env_number result (edited section.new)) }
     ensures cause { IfErr result (IsEntryCause index) }
 {
     let Some(value) = value else {
@@ -66,7 +66,7 @@ fn put_value(
     value: Option<String>,
     index: usize,
 ) -> Result<(), Error>
-    ensures put { IsPut (key_of key.entry) (option_map string_bytes value) file.old (left_by env_number result file.new) }
+    ensures put { IsValuePut (key_of key.entry) (option_map string_bytes value) file.old (left_by env_number result file.new) }
     ensures cause { IfErr result (IsEntryCause index) }
 {
     match file.section_mut_or_create_new(key.section_name, key.subsection_name) {
@@ -119,7 +119,7 @@ fn put_entries<E: Env>(
     count: usize,
     file: &mut File,
 ) -> Result<(), Error>
-    ensures put { ArePut (E.variables env.old) count 0 file.old (left_by env_number result file.new) }
+    ensures put { AreEntriesPut (E.variables env.old) count 0 file.old (left_by env_number result file.new) }
     ensures cause { IfErr result (λ e. (index : ℕ) × IsEntryCause index e) }
     ensures stays { E.variables env.new ≡ E.variables env.old }
 {

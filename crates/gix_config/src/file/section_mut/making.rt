@@ -68,7 +68,7 @@ impl File {
     ghost use Rattle.gitconf_body.specs.Done.{first_cause, IsRefusedFor};
     ghost use Rattle.gitconf_body.specs.Refusals.{header_refusal, span_refusal};
     ghost use Rattle.gitconf_store.specs.Edited.{causes, done};
-    ghost use Rattle.gix_config.specs.SectionEditors.{blanks_at, edited, editor_at, lent, told, IsEditorOfKey, IsFoundOrMade, IsFoundOrMadeOf, IsNumbered, IsPassingEditorOfKey, IsPickedOf};
+    ghost use Rattle.gix_config.specs.SectionEditors.{blanks_at, edited, editor_at, lent, told, IsEditorOfKey, IsFoundOrMade, IsFoundOrMadeOf, IsOfNumber, IsPassingEditorOfKey, IsPickedOf};
 
     /// The number and the blanks of the last section that has the name and subsection.
     fn blanks_by_names(
@@ -169,7 +169,7 @@ impl File {
 
     /// The blanks of the section of a number.
     fn blanks_of_numbered(&self, id: SectionId) -> Result<Blanks, Error>
-        ensures found { IsNumbered (λ blanks. (id, blanks)) blanks_at id self.now result }
+        ensures found { IsOfNumber (λ blanks. (id, blanks)) blanks_at id self.now result }
         ensures stands { IfOk result (λ _. has_number id self.now ≡ true) }
     {
         let blanks = match self.store.section_by_id(id) {
@@ -295,7 +295,7 @@ impl File {
     pub fn section_mut_by_id(&mut self, id: SectionId) -> Result<SectionMut<'_>, Error>
         ensures same_file { IfOk result (λ e. lent e ≡ self.entry.ghost_name) }
         ensures same_state { IfOk result (λ e. edited e ≡ self.old) }
-        ensures found { IsNumbered told (editor_at self.old) id self.old result }
+        ensures found { IsOfNumber told (editor_at self.old) id self.old result }
         ensures* refused { sem 𝓛 (RestsIfErr the_row self.entry lent result (λ n. n ≡ self.old)) }
     {
         let blanks = self.blanks_of_numbered(id)?;

@@ -2,7 +2,7 @@ use Rattle.std.proofs.Common.{rules, ◌≡◌, Ok, Err, refl, subst}
 use Rattle.gitconf_includes.specs.Outcomes.{asks_of}
 use Rattle.gitconf_loaders.specs.Errors.{env_number}
 use Rattle.gitconf_loaders.specs.Globals.{empty_file}
-use Rattle.gix_config.specs.Environment.{ArePut, env_meta}
+use Rattle.gix_config.specs.Environment.{AreEntriesPut, env_meta}
 use Rattle.gix_config.proofs.Entries.{count_cause, entries_count, entries_made, entries_refused, entry_cause, includes_count, includes_refused}
 use Rattle.gix_config.proofs.file.init.environment.env_file.Goals as goal
 
@@ -15,8 +15,8 @@ returns-in_err-put_entries-clause-made g c =
     let variables = g.E.Env.variables c.args.env.now in
     let asks = asks_of c.args.options.now (g.F.Files.table c.args.files.now) in
     let first : c.in_ok-file.file ≡ empty_file env_meta = search rules in
-    let put = subst (λ f. ArePut variables c.in_ok-count.count 0 f (Err (env_number c.in_err-put_entries.field-0.0))) first
-    (subst (λ v. ArePut v c.in_ok-count.count 0 c.in_ok-file.file (Err (env_number c.in_err-put_entries.field-0.0))) c.count.ensures.stays c.in_err-put_entries.ensures.put) in
+    let put = subst (λ f. AreEntriesPut variables c.in_ok-count.count 0 f (Err (env_number c.in_err-put_entries.field-0.0))) first
+    (subst (λ v. AreEntriesPut v c.in_ok-count.count 0 c.in_ok-file.file (Err (env_number c.in_err-put_entries.field-0.0))) c.count.ensures.stays c.in_err-put_entries.ensures.put) in
     entries_refused variables asks c.in_ok-count.count c.in_err-put_entries.field-0.0 c.from_residual-in_err-put_entries.result c.if-count-eq0.false c.in_ok-count.ensures.count put c.from_residual-in_err-put_entries.ensures.1
 
 pub returns-in_err-put_entries-clause-cause : goal.returns-in_err-put_entries-clause-cause
@@ -34,8 +34,8 @@ returns-in_err-expanded-clause-made g c =
     let variables = g.E.Env.variables c.args.env.now in
     let asks = asks_of c.args.options.now (g.F.Files.table c.args.files.now) in
     let first : c.in_ok-file.file ≡ empty_file env_meta = search rules in
-    let put = subst (λ f. ArePut variables c.in_ok-count.count 0 f (Ok c.put_entries.new.file)) first
-    (subst (λ v. ArePut v c.in_ok-count.count 0 c.in_ok-file.file (Ok c.put_entries.new.file)) c.count.ensures.stays c.in_ok-put_entries.ensures.put) in
+    let put = subst (λ f. AreEntriesPut variables c.in_ok-count.count 0 f (Ok c.put_entries.new.file)) first
+    (subst (λ v. AreEntriesPut v c.in_ok-count.count 0 c.in_ok-file.file (Ok c.put_entries.new.file)) c.count.ensures.stays c.in_ok-put_entries.ensures.put) in
     includes_refused variables asks c.in_ok-count.count c.put_entries.new.file c.in_err-expanded.field-0.0 c.from_residual-in_err-expanded.result c.if-count-eq0.false c.in_ok-count.ensures.count put
     c.in_err-expanded.ensures.expanded c.from_residual-in_err-expanded.ensures.1
 
@@ -48,6 +48,6 @@ returns-clause-made g c =
     let variables = g.E.Env.variables c.args.env.now in
     let asks = asks_of c.args.options.now (g.F.Files.table c.args.files.now) in
     let first : c.in_ok-file.file ≡ empty_file env_meta = search rules in
-    let put = subst (λ f. ArePut variables c.in_ok-count.count 0 f (Ok c.put_entries.new.file)) first
-    (subst (λ v. ArePut v c.in_ok-count.count 0 c.in_ok-file.file (Ok c.put_entries.new.file)) c.count.ensures.stays c.in_ok-put_entries.ensures.put) in
+    let put = subst (λ f. AreEntriesPut variables c.in_ok-count.count 0 f (Ok c.put_entries.new.file)) first
+    (subst (λ v. AreEntriesPut v c.in_ok-count.count 0 c.in_ok-file.file (Ok c.put_entries.new.file)) c.count.ensures.stays c.in_ok-put_entries.ensures.put) in
     entries_made variables asks c.in_ok-count.count c.put_entries.new.file c.in_ok-expanded.field-0 c.if-count-eq0.false c.in_ok-count.ensures.count put c.in_ok-expanded.ensures.expanded

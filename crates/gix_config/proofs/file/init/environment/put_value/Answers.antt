@@ -3,7 +3,7 @@ use Rattle.std.specs.Option.{option_map}
 use Rattle.gitconf_sources.specs.Key.{key_of}
 use Rattle.gitconf_loaders.specs.Errors.{env_number}
 use Rattle.gitconf_loaders.specs.Paths.{left_by}
-use Rattle.gix_config.specs.Environment.{IsPut}
+use Rattle.gix_config.specs.Environment.{IsValuePut}
 use Rattle.gix_config.specs.SectionEditors.{edited, editor_at, told}
 use Rattle.gix_config.proofs.Entries.{header_numbers, in_section, no_section, shown_section}
 use Rattle.gix_config.proofs.file.init.environment.put_value.Goals as goal
@@ -14,7 +14,7 @@ returns-in-Ok-clause-put c =
     let key = key_of c.args.key in
     let value = option_map string_bytes c.args.value in
     let found = shown_section edited told (editor_at old) key.section key.subsection (λ _. true) old (Ok c.in-Ok.section) c.in-Ok.ensures.exact in
-    subst (λ f. IsPut key value old (left_by env_number c.push_value.result f)) (search rules)
+    subst (λ f. IsValuePut key value old (left_by env_number c.push_value.result f)) (search rules)
     (in_section key value old (edited c.in-Ok.section, told c.in-Ok.section) (left_by env_number c.push_value.result (edited c.push_value.new.section)) found c.push_value.ensures.pushed)
 
 pub returns-in-Err-clause-put : goal.returns-in-Err-clause-put
