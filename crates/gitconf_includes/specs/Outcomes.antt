@@ -52,7 +52,7 @@ abbrev pub fault_refusal : FileFault → (path : String Global) → Error
 fault_refusal fault path = elim fault.stage [ Open ↦ refusals.Io path fault | Read ↦ refusals.CopyBuffer fault | Memory ↦ refusals.Memory ]
 
 -- What a refusal says besides its number: the fault of a file that was opened or read, with the path of one that couldn't be opened; how the
--- parser refuses the text of a file; the depth that the options allow; and what the git folder lacks.
+-- parser refuses the text of a file; the depth that the options allow; what the git folder lacks; and that there is no room for a file.
 abbrev pub IsCause : Options → Option (List ℕ → FileReport) → Error → Type 0
 IsCause options table (refusals.Io path fault) = (fault.stage ≡ Open) × IsFaultOf table (string_bytes path) fault
 IsCause options table (refusals.CopyBuffer fault) = (path : List ℕ) × (fault.stage ≡ Read) × IsFaultOf table path fault
@@ -60,6 +60,7 @@ IsCause options table (refusals.Parse e) = (path text : List ℕ) × IsTextOf ta
 IsCause options table (refusals.IncludeDepthExceeded depth) = depth ≡ options.includes.max_depth
 IsCause options table refusals.MissingGitDir = options.includes.conditional.git_dir ≡ None
 IsCause options table (refusals.Realpath fault) = IsUnresolved fault options.includes.conditional.git_dir
+IsCause options table (refusals.Span number) = number ≡ 3
 IsCause options table e = Unit {0}
 
 -- what following a path, or all paths of a section, leaves: what is then done, or a refusal with the file

@@ -226,9 +226,9 @@ init_cause must_exist options table path text e (Err r) taken is err = subst (Is
   where
     go : (e : Init) → IsMadeCause options table text e → IsPathCause must_exist options table path (paths_of_init e)
     go (init.Parse it) is = (text, taken, is)
-    go (init.Interpolate it) is = tt
+    go (init.Interpolate it) is = absurd is
     go (init.Includes it) is = is
-    go (init.Span it) is = tt
+    go (init.Span it) is = absurd is
     go init.Memory is = tt
 
 -- metadata of one path

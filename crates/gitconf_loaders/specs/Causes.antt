@@ -28,20 +28,23 @@ abbrev pub IsLoadFault : Option (List ℕ → FileReport) → (path : List ℕ) 
 IsLoadFault table path fault =
     May table (λ told. (◌≡◌ {A = Result Trust FileFault} (trust_of (told path)) (Err fault)) ⊎ (◌≡◌ {A = Result (List ℕ) FileFault} (read_of (told path)) (Err fault)))
 
--- The cause for one file: its path, with the fault; or how the parser refuses its text.
+-- The cause for one file: its path, with the fault; or how the parser refuses its text. Nothing else refuses it but want of memory.
 abbrev pub IsFileCause : Option (List ℕ → FileReport) → (path : List ℕ) → Error → Type 0
 IsFileCause table path (paths.Io at fault) = (string_bytes at ≡ path) × IsLoadFault table path fault
 IsFileCause table path (paths.Init (init.Parse e)) = (text : List ℕ) × IsTextOf table path text × IsRefused text e
-IsFileCause table path e = Unit {0}
+IsFileCause table path (paths.Init e) = ⊥
+IsFileCause table path paths.Memory = Unit {0}
 
--- The cause for one file with what it includes: its path, with the fault; how the parser refuses the text; or what the refusal of an
--- include says.
+-- The cause for one file with what it includes: its path, with the fault; how the parser refuses the text; what the refusal of an include
+-- says; or that there is no room for it behind the others. Nothing else refuses it but want of memory.
 abbrev pub IsPathCause : (must_exist : Bool) → Options → Option (List ℕ → FileReport) → (path : List ℕ) → Error → Type 0
 IsPathCause must_exist options table path (paths.Io at fault) = (string_bytes at ≡ path) × IsFaultOf table path fault
 IsPathCause must_exist options table path (paths.Init (init.Parse e)) =
     (text : List ℕ) × IsTextTaken table must_exist options.ignore_io_errors path (Ok (Some text)) × IsRefused text e
 IsPathCause must_exist options table path (paths.Init (init.Includes e)) = IsCause options table e
-IsPathCause must_exist options table path e = Unit {0}
+IsPathCause must_exist options table path (paths.Init (init.Span number)) = number ≡ 3
+IsPathCause must_exist options table path (paths.Init e) = ⊥
+IsPathCause must_exist options table path paths.Memory = Unit {0}
 
 -- the cause for the file of metadata, if that has a path
 abbrev pub IsMetaCause : (must_exist : Bool) → Options → Option (List ℕ → FileReport) → Meta → Error → Type 0

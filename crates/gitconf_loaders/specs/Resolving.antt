@@ -3,7 +3,7 @@ use Rattle.std.specs.Prelude.{◌≡◌, ℕ, List, Option, None, Result, Ok, Er
 use Rattle.gitconf_sources.specs.Metadata.{Meta}
 use Rattle.gitconf_sources.specs.Reports.{FileReport}
 use Rattle.gitconf_includes.specs.declared.init.Error.{Error}
-use Rattle.gitconf_includes.specs.declared.init.Error.TheVariants.{Includes, Parse}
+use Rattle.gitconf_includes.specs.declared.init.Error.TheVariants.{Includes, Memory, Parse}
 use Rattle.gitconf_includes.specs.declared.init.Options.{Options}
 use Rattle.gitconf_includes.specs.Errors.{init_number}
 use Rattle.gitconf_read.specs.EventResult.{IsRefused}
@@ -33,11 +33,13 @@ abbrev pub MakesCounted : {T : Type 0} → Result T Error → (old new : Option 
 MakesCounted (Ok made) old new = new ≡ old
 MakesCounted (Err e) old new = CountsFault (init_number e) old new
 
--- what a refusal says besides its number: how the parser refuses the text, and what the refusal of an include says
+-- what a refusal says besides its number: how the parser refuses the text, or what the refusal of an include says; nothing else refuses it but
+-- want of memory
 abbrev pub IsMadeCause : Options → Option (List ℕ → FileReport) → (text : List ℕ) → Error → Type 0
 IsMadeCause options table text (Parse e) = IsRefused text e
 IsMadeCause options table text (Includes e) = IsCause options table e
-IsMadeCause options table text e = Unit {0}
+IsMadeCause options table text Memory = Unit {0}
+IsMadeCause options table text e = ⊥
 
 -- Two calls make the same file, or both are refused with one number.
 abbrev pub AreMadeAlike : (one other : Result State Error) → Type 0

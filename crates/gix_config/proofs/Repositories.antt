@@ -231,9 +231,9 @@ include_cause variables options places table e (Err r) cause err = subst (IsGitC
     go : (e : Error) → IsIncludeCause options table e → IsGitCause variables options places table e
     go (git.FromPaths e) is = absurd is
     go (git.FromEnv e) is = absurd is
-    go (git.Init e) is = tt
+    go (git.Init e) is = absurd is
     go (git.Includes e) is = is
-    go (git.Span e) is = tt
+    go (git.Span e) is = is
     go git.Memory is = tt
 
 pub last_cause : {T : Type 0} (variables : Option (List ℕ → VariableReport)) (options : Options) (places : Places) (table : Option (List ℕ → FileReport)) (result : Result T Error)
@@ -244,15 +244,38 @@ last_cause variables options places table (Err e) cause = go e cause
     go : (e : Error) → IsOverridingCause variables places table e → IsGitCause variables options places table e
     go (git.FromPaths e) is = absurd is
     go (git.FromEnv e) is = is
-    go (git.Init e) is = tt
+    go (git.Init e) is = absurd is
     go (git.Includes e) is = absurd is
-    go (git.Span e) is = tt
+    go (git.Span e) is = is
     go git.Memory is = tt
 
 pub handed_cause : {T : Type 0} (variables : Option (List ℕ → VariableReport)) (options : Options) (places : Places) (table : Option (List ℕ → FileReport)) (e : Error) (result : Result T Error)
     → IsGitCause variables options places table e → IsErrAnd result (λ r. r ≡ e) → IfErr result (IsGitCause variables options places table)
 handed_cause variables options places table e (Ok made) cause err = tt
 handed_cause variables options places table e (Err r) cause err = subst (IsGitCause variables options places table) (sym err) cause
+
+-- the cause of a refusal of an append
+space : (number : ℕ) → (number ≡ 3) ⊎ (number ≡ 27) → (e : Error) → e ≡ git_of_span number → (e ≡ git.Span 3) ⊎ (e ≡ git.Memory)
+space number (inl three) e is = inl (is ∙ ap git_of_span three)
+space number (inr out) e is = inr (is ∙ ap git_of_span out)
+
+pub append_included : (options : Options) (table : Option (List ℕ → FileReport)) (target other now : State) (number : ℕ) (result : Result Unit Error)
+    → IsEdited {T = Unit {0}} span_refusal (Append other) (Err number) target now → IsErrAnd result (λ r. r ≡ git_of_span number) → IfErr result (IsIncludeCause options table)
+append_included options table target other now number (Ok made) appended err = tt
+append_included options table target other now number (Err r) appended err =
+    elim (space number (append_told other (Err number) target now appended).known r err) [
+      | inl is ↦ subst (IsIncludeCause options table) (sym is) refl
+      | inr is ↦ subst (IsIncludeCause options table) (sym is) tt
+    ]
+
+pub append_overridden : (variables : Option (List ℕ → VariableReport)) (places : Places) (table : Option (List ℕ → FileReport)) (target other now : State) (number : ℕ) (result : Result Unit Error)
+    → IsEdited {T = Unit {0}} span_refusal (Append other) (Err number) target now → IsErrAnd result (λ r. r ≡ git_of_span number) → IfErr result (IsOverridingCause variables places table)
+append_overridden variables places table target other now number (Ok made) appended err = tt
+append_overridden variables places table target other now number (Err r) appended err =
+    elim (space number (append_told other (Err number) target now appended).known r err) [
+      | inl is ↦ subst (IsOverridingCause variables places table) (sym is) refl
+      | inr is ↦ subst (IsOverridingCause variables places table) (sym is) tt
+    ]
 
 -- the cause of an expansion's refusal
 pub expansion_cause : {T : Type 0} (variables : Option (List ℕ → VariableReport)) (options : Options) (places : Places) (table : Option (List ℕ → FileReport)) (e : Includes) (result : Result T Error)

@@ -123,26 +123,29 @@ module _ (variables : Option (List ℕ → VariableReport)) (places : Places) (t
 abbrev pub IsReadCause : Places → Option (List ℕ → FileReport) → PathsError → Type 0
 IsReadCause places table e = ((path : List ℕ) × IsFileCause table path e) ⊎ IsGlobalCause places table e
 
--- the cause of a refusal of a file that includes
+-- the cause of a refusal of a file that includes and is put behind others
 abbrev pub IsIncludeCause : Options → Option (List ℕ → FileReport) → Error → Type 0
 IsIncludeCause options table (git.Includes e) = IsCause options table e
-IsIncludeCause options table (git.FromPaths e) = ⊥
-IsIncludeCause options table (git.FromEnv e) = ⊥
-IsIncludeCause options table e = Unit {0}
+IsIncludeCause options table (git.Span number) = number ≡ 3
+IsIncludeCause options table git.Memory = Unit {0}
+IsIncludeCause options table e = ⊥
 
--- the cause of a refusal of the overrides
+-- the cause of a refusal of the overrides, which are put behind others
 abbrev pub IsOverridingCause : Option (List ℕ → VariableReport) → Places → Option (List ℕ → FileReport) → Error → Type 0
 IsOverridingCause variables places table (git.FromEnv e) = IsOverridesCause variables places table e
-IsOverridingCause variables places table (git.FromPaths e) = ⊥
-IsOverridingCause variables places table (git.Includes e) = ⊥
-IsOverridingCause variables places table e = Unit {0}
+IsOverridingCause variables places table (git.Span number) = number ≡ 3
+IsOverridingCause variables places table git.Memory = Unit {0}
+IsOverridingCause variables places table e = ⊥
 
--- the cause of a refusal of a repository's configuration: of a file that is read, of one that includes, or of the overrides
+-- the cause of a refusal of a repository's configuration: of a file that is read, of one that includes, or of the overrides; or there is no room
+-- for one of them behind the others
 abbrev pub IsGitCause : Option (List ℕ → VariableReport) → Options → Places → Option (List ℕ → FileReport) → Error → Type 0
 IsGitCause variables options places table (git.FromPaths e) = IsReadCause places table e
 IsGitCause variables options places table (git.FromEnv e) = IsOverridesCause variables places table e
 IsGitCause variables options places table (git.Includes e) = IsCause options table e
-IsGitCause variables options places table e = Unit {0}
+IsGitCause variables options places table (git.Span number) = number ≡ 3
+IsGitCause variables options places table (git.Init e) = ⊥
+IsGitCause variables options places table git.Memory = Unit {0}
 
 -- the cause of a refusal of the repository in that folder; or memory ran out
 abbrev pub IsRepositoryCause : Option (List ℕ → VariableReport) → Places → Option (List ℕ → FileReport) → (dir : List ℕ) → (real : Option (List ℕ)) → Error → Type 0

@@ -5,7 +5,7 @@ use Rattle.gitconf_loaders.specs.Errors.{git_of_includes}
 use Rattle.gitconf_loaders.proofs.Several.{append_refused}
 use Rattle.gix_config.specs.Repository.{IsExpanded}
 use Rattle.gix_config.proofs.Entries.{expanded_number}
-use Rattle.gix_config.proofs.Repositories.{first_refused, of_includes, then_put, then_refused}
+use Rattle.gix_config.proofs.Repositories.{append_included, first_refused, of_includes, then_put, then_refused}
 use Rattle.gix_config.proofs.file.init.repository.put_behind.Goals as goal
 
 pub returns-in_err-file-clause-put : goal.returns-in_err-file-clause-put
@@ -25,3 +25,8 @@ pub returns-clause-put : goal.returns-clause-put
 returns-clause-put g c =
     let asks = asks_of c.args.options.now (g.F.Files.table c.args.files.now) in
     then_put (IsExpanded asks c.args.file) c.args.target.now c.in_ok-file.file c.append.new.self (expanded_number asks c.args.file (Ok c.in_ok-file.file) c.in_ok-file.ensures.expanded) c.in_ok-append.ensures
+
+pub returns-in_err-append-clause-cause : goal.returns-in_err-append-clause-cause
+returns-in_err-append-clause-cause g c =
+    append_included c.args.options.now (g.F.Files.table c.args.files.now) c.args.target.now c.in_ok-file.file c.append.new.self c.in_err-append.field-0.0 c.from_residual-in_err-append.result
+    c.in_err-append.ensures c.from_residual-in_err-append.ensures.1

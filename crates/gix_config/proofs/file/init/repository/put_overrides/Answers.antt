@@ -3,7 +3,7 @@ use Rattle.gitconf_loaders.specs.Errors.{env_number, git_of_env}
 use Rattle.gitconf_loaders.proofs.Counts.{no_less}
 use Rattle.gitconf_loaders.proofs.Several.{append_refused}
 use Rattle.gix_config.specs.Environment.{IsOverrides}
-use Rattle.gix_config.proofs.Repositories.{first_refused, git_count, of_env, overriding_cause, then_put, then_refused}
+use Rattle.gix_config.proofs.Repositories.{append_overridden, first_refused, git_count, of_env, overriding_cause, then_put, then_refused}
 use Rattle.gix_config.proofs.file.init.repository.put_overrides.Goals as goal
 
 pub returns-in_err-file-clause-put : goal.returns-in_err-file-clause-put
@@ -32,3 +32,8 @@ pub returns-clause-put : goal.returns-clause-put
 returns-clause-put g c =
     let first = IsOverrides (g.E.Env.variables c.args.env.now) c.args.places.now (g.F.Files.table c.args.files.now) in
     then_put first c.args.target.now c.in_ok-file.file c.append.new.self c.in_ok-file.ensures.made c.in_ok-append.ensures
+
+pub returns-in_err-append-clause-cause : goal.returns-in_err-append-clause-cause
+returns-in_err-append-clause-cause g c =
+    append_overridden (g.E.Env.variables c.args.env.now) c.args.places.now (g.F.Files.table c.args.files.now) c.args.target.now c.in_ok-file.file c.append.new.self c.in_err-append.field-0.0 c.from_residual-in_err-append.result
+    c.in_err-append.ensures c.from_residual-in_err-append.ensures.1
