@@ -104,7 +104,7 @@ no_cause refusal None t told = refl
 no_cause refusal (Some cause) t told = absurd (cc)
 
 -- What is kept from call to call.
-Keeps : State → Type 0
+abbrev Keeps : State → Type 0
 Keeps state = HasItems state × IsClean state
 
 -- an edit that is clean keeps it, whatever the buffer then has
@@ -151,11 +151,11 @@ kept_by_deletions (place ∷ places) old kept =
 -- so does an expansion
 kept_by_expansion : (asks : Asks) (result : Result (Unit {0}) IncludesError) (old new : State) (files : List ℕ → FileReport) → asks.table ≡ Some files → AreHeaded files → Keeps old
     → expansions.Resolves includes_number asks old result new → Keeps new
-kept_by_expansion asks result old new files table headed kept is = left result is.0 is.2 (reached (asks.rules.max_depth == 0) is.1)
+kept_by_expansion asks result old new files table heads kept is = left result is.0 is.2 (reached (asks.rules.max_depth == 0) is.1)
   where
     reached : (b : Bool) → (elim b as (λ _. Type 0) [ true ↦ is.0 ≡ On old | false ↦ Expands asks.rules.max_depth asks None old is.0 ]) → Keeps (file_of is.0)
     reached true same = subst (λ r. Keeps (file_of r)) (sym same) kept
-    reached false all = (items_stay asks.rules.max_depth asks None old is.0 kept.0 all, clean_stays files asks.rules.max_depth asks None old is.0 table headed kept.1 all)
+    reached false all = (items_stay asks.rules.max_depth asks None old is.0 kept.0 all, clean_stays files asks.rules.max_depth asks None old is.0 table heads kept.1 all)
 
     left : (result : Result (Unit {0}) IncludesError) (r : Reached) → expansions.Leaves includes_number result new r → Keeps (file_of r) → Keeps new
     left (Ok done) r leaves there = subst Keeps (ap file_of leaves) there
@@ -228,10 +228,10 @@ pub is_free_step : {T E : Type 0} (shown : T → Answer) (refusal : E) (edit : E
     → (ending : Ending) × Ends edit old ending new × IsOneEnding shown (λ _. refusal) ending result
 is_free_step {T} {E} shown refusal edit result old new none no_bytes used only told ok err = is_step shown (λ _. refusal) edit result old new told (step result only ok err)
   where
-    step : (r : Result T E) → IfErr r (λ e. e ≡ refusal) → OnOk r (new ≡ apply edit old) → OnErr r (new ≡ old) → IsEdited (λ _. refusal) edit r old new
+    step : (r : Result T E) → IfErr r (λ e. e ≡ refusal) → OnOk r (new ≡ apply edit old) → OnErr r (new ≡ old) → IsEdited {T = T} {E = E} (λ _. refusal) edit r old new
     step (Ok t) only ok err = record {
       ok = ok ∙ ap (λ n. with_used n (apply edit old)) (used ∙ (let same : old.used ≡ old.used + put_bytes edit old = omega (arith, no_bytes) in same));
       err = tt;
-      told = subst (λ cs. IsRefusedFor (λ _. refusal) (first_cause cs) (Ok t)) (sym none) tt;
+      told = subst (λ cs. IsRefusedFor {T = T} {E = E} (λ _. refusal) (first_cause cs) (Ok t)) (sym none) tt;
     }
-    step (Err e) only ok err = record { ok = tt; err = err; told = subst (λ cs. IsRefusedFor (λ _. refusal) (first_cause cs) (Err e)) (sym none) only }
+    step (Err e) only ok err = record { ok = tt; err = err; told = subst (λ cs. IsRefusedFor {T = T} {E = E} (λ _. refusal) (first_cause cs) (Err e)) (sym none) only }

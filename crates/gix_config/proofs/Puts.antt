@@ -8,7 +8,7 @@ use Rattle.gitconf_text.specs.Value.{escaped}
 use Rattle.gitconf_text.specs.Header.{spelled_header}
 use Rattle.gitconf_state.specs.Edit.{Spacing, header_bytes, is_entry_of, is_target, leading_item, made_header, token_bytes, value_tokens_of}
 use Rattle.gitconf_state.specs.Edits as edits
-use Rattle.gitconf_state.specs.Edits.{Edit, between, items_of_numbered, new_bytes, value_set_tokens}
+use Rattle.gitconf_state.specs.Edits.{Edit, between, items_of_numbered, new_bytes, numbered, value_set_tokens}
 use Rattle.gitconf_state.specs.Editors as states
 use Rattle.gitconf_state.specs.Editors.{comment_made, end_made, entry_made, lacks_line_end, line_made}
 use Rattle.gitconf_state.specs.State.{SectionState, State}

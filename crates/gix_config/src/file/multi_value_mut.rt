@@ -52,7 +52,8 @@ impl<'a> MultiValueMut<'a> {
         if self.is_empty() {
             return Err(existing::Error::KeyMissing);
         }
-        match self.file.store.meanings_at(self.targets.places()) {
+        let file = &*self.file;
+        match file.store.meanings_at(self.targets.places()) {
             Ok(texts) => Ok(texts),
             Err(_) => Err(existing::Error::Memory),
         }
@@ -89,7 +90,8 @@ impl<'a> MultiValueMut<'a> {
         ensures done { IsOneSet self.old index value.now result (edited self.new) }
     {
         let place = self.targets.at(index);
-        self.file.store.rewrite_entry_at(
+        let file = &mut *self.file;
+        file.store.rewrite_entry_at(
             place.0,
             place.1,
             InPlaceOf::Entry,
@@ -128,8 +130,8 @@ impl<'a> MultiValueMut<'a> {
         ensures same_places { places_of self.new ≡ places_of self.old }
         ensures done { AreRewritten span_refusal (key_of self.old) (places_of self.old) (map (λ v. v.now) values.now) result (edited self.old) (edited self.new) }
     {
-        self.file
-            .store
+        let file = &mut *self.file;
+        file.store
             .rewrite_entries_at(self.targets.places(), self.targets.key(), values)
     }
 
@@ -145,8 +147,8 @@ impl<'a> MultiValueMut<'a> {
         ensures done { AreRewritten span_refusal (key_of self.old) (places_of self.old) (map (λ _. value.now) (places_of self.old)) result
             (edited self.old) (edited self.new) }
     {
-        self.file
-            .store
+        let file = &mut *self.file;
+        file.store
             .rewrite_all_entries_at(self.targets.places(), self.targets.key(), value)
     }
 
@@ -164,7 +166,8 @@ impl<'a> MultiValueMut<'a> {
         ensures deleted { edited self.new ≡ apply (deleting self.old index) (edited self.old) }
     {
         let gone = self.targets.take(index);
-        self.file.store.delete_entry_at(gone.0, gone.1);
+        let file = &mut *self.file;
+        file.store.delete_entry_at(gone.0, gone.1);
     }
 
     /// Deletes all entries that are left, each as [`MultiValueMut::delete`] does, the last one first. It can't fail, and takes no memory.
@@ -176,7 +179,8 @@ impl<'a> MultiValueMut<'a> {
         ensures left { places_of self.new ≡ [] }
         ensures deleted { edited self.new ≡ all_deleted (places_of self.old) (edited self.old) }
     {
-        self.file.store.delete_entries_at(self.targets.places());
+        let file = &mut *self.file;
+        file.store.delete_entries_at(self.targets.places());
         self.targets.clear();
     }
 }

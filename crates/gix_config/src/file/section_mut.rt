@@ -79,8 +79,8 @@ impl<'a> SectionMut<'a> {
             result (edited self.old) (edited self.new) }
     {
         let editor = self.blanks.editor(self.line_end, self.ends);
-        self.file
-            .store
+        let file = &mut *self.file;
+        file.store
             .push_entry(self.id, &editor, value_name.as_bytes(), value, comment)
     }
 
@@ -149,8 +149,8 @@ impl<'a> SectionMut<'a> {
             (edited self.new) }
     {
         let editor = self.blanks.editor(self.line_end, self.ends);
-        self.file
-            .store
+        let file = &mut *self.file;
+        file.store
             .push_entry_after_last(self.id, &editor, value_name.as_bytes(), value)
     }
 
@@ -166,7 +166,8 @@ impl<'a> SectionMut<'a> {
         ensures done { IsEdited span_refusal (PushLineEnd (number_of self.old) (editor self.old)) result (edited self.old) (edited self.new) }
     {
         let editor = self.blanks.editor(self.line_end, self.ends);
-        self.file.store.push_newline(self.id, &editor)
+        let file = &mut *self.file;
+        file.store.push_newline(self.id, &editor)
     }
 
     /// Gives the last entry of the name another value: what follows `=` is replaced, and `=` is added if there is none, with
@@ -189,8 +190,8 @@ impl<'a> SectionMut<'a> {
             ≡ answer (SetValue (number_of self.old) (editor self.old) value_name.now value.now) (edited self.old)) }
     {
         let editor = self.blanks.editor(self.line_end, self.ends);
-        match self
-            .file
+        let file = &mut *self.file;
+        match file
             .store
             .set_entry(self.id, &editor, value_name.as_bytes(), value)
         {
@@ -217,11 +218,8 @@ impl<'a> SectionMut<'a> {
         ensures none { answer (Remove (number_of self.old) value_name.now) (edited self.old) ≡ Raw None → IsOk result }
         ensures err { OnErr result (edited self.new ≡ edited self.old) }
     {
-        match self
-            .file
-            .store
-            .remove_entry(self.id, value_name.as_bytes())?
-        {
+        let file = &mut *self.file;
+        match file.store.remove_entry(self.id, value_name.as_bytes())? {
             Some(old) => Ok(Some(BString::new(old))),
             None => Ok(None),
         }
@@ -245,8 +243,8 @@ impl<'a> SectionMut<'a> {
         ensures answer { IfOk result (λ n. Count n ≡ answer (RemoveMarked (number_of self.old) value_name.now marks.now) (edited self.old)) }
         ensures err { OnErr result (edited self.new ≡ edited self.old) }
     {
-        self.file
-            .store
+        let file = &mut *self.file;
+        file.store
             .remove_marked_entries(self.id, value_name.as_bytes(), marks)
     }
 
@@ -269,7 +267,8 @@ impl<'a> SectionMut<'a> {
         ensures none { answer (Pop (number_of self.old)) (edited self.old) ≡ Entry None → IsOk result }
         ensures err { OnErr result (edited self.new ≡ edited self.old) }
     {
-        let popped = self.file.store.pop_entry(self.id)?;
+        let file = &mut *self.file;
+        let popped = file.store.pop_entry(self.id)?;
         Ok(texts_of(popped))
     }
 
@@ -294,9 +293,8 @@ impl<'a> SectionMut<'a> {
         ensures done { IsEdited header_refusal (Rename (number_of self.old) name.now (option_map bstring_bytes subsection_name)) result (edited self.old)
             (edited self.new) }
     {
-        self.file
-            .store
-            .rename(self.id, name, bytes_of(&subsection_name))
+        let file = &mut *self.file;
+        file.store.rename(self.id, name, bytes_of(&subsection_name))
     }
 
     /// Sets how far the section is trusted. If it shared its metadata with others, it has its own from then on. Takes memory for that.
@@ -311,7 +309,8 @@ impl<'a> SectionMut<'a> {
         ensures ok { OnOk result (edited self.new ≡ apply (SetTrust (number_of self.old) trust) (edited self.old)) }
         ensures err { OnErr result (edited self.new ≡ edited self.old) }
     {
-        self.file.store.set_trust(self.id, trust)
+        let file = &mut *self.file;
+        file.store.set_trust(self.id, trust)
     }
 
     /// Sets other blanks before names, or none. Only white space may be given ([`is_whitespace`](crate::file::is_whitespace)).

@@ -75,7 +75,8 @@ impl<'a> ValueMut<'a> {
         if !self.stands {
             return Err(existing::Error::KeyMissing);
         }
-        match self.file.store.meaning_at(self.id, self.place) {
+        let file = &*self.file;
+        match file.store.meaning_at(self.id, self.place) {
             Ok(Some(text)) => Ok(text),
             Ok(None) => Err(existing::Error::KeyMissing),
             Err(_) => Err(existing::Error::Memory),
@@ -106,7 +107,8 @@ impl<'a> ValueMut<'a> {
             InPlaceOf::Nothing
         };
         let editor = self.spelling.editor(self.line_end);
-        self.file.store.write_entry_at(
+        let file = &mut *self.file;
+        file.store.write_entry_at(
             self.id,
             &editor,
             self.place,
@@ -146,7 +148,8 @@ impl<'a> ValueMut<'a> {
         ensures stands { stands_there self.new ≡ false }
     {
         if self.stands {
-            self.file.store.delete_entry_at(self.id, self.place);
+            let file = &mut *self.file;
+            file.store.delete_entry_at(self.id, self.place);
             self.stands = false;
         }
     }
