@@ -20,7 +20,7 @@ use Rattle.gitconf_state.proofs.Loading.Clean.{full_is_clean}
 use Rattle.gitconf_read.proofs.OneDocument.{one_document}
 use Rattle.gitconf_includes.specs.Expansion.{Asks, Ended, IsLoaded, On}
 use Rattle.gitconf_includes.specs.Laws.{AreHeaded}
-use Rattle.gitconf_includes.proofs.States.{headed_stays, IsHeaded, loaded_headed}
+use Rattle.gitconf_includes.proofs.States.{clean_stays, headed_stays, IsHeaded, loaded_headed}
 use Rattle.gitconf_loaders.specs.Resolving.{IsMadeOf}
 use Rattle.gitconf_loaders.specs.Globals.{empty_file, home_rules, IsGlobal}
 use Rattle.gitconf_loaders.specs.Paths.{AreFilesLoaded, has_room_behind, IsAppendedTo, IsFileLoaded, IsLoadedFrom, IsLoadOfPaths, IsMetaLoaded, IsTextTaken, Joins, once, taken}
@@ -75,11 +75,19 @@ empty_headed parts is = ap (λ d. d.front) (one_document [] parts [] is.spelled_
 
 module _ (files : List ℕ → FileReport) (asks : Asks) (tells : asks.table ≡ Some files) (headed : AreHeaded files) where
   -- what is made of a text
-  pub made : (text : List ℕ) (meta : Meta) (file : State) → ((parts : List Part) → IsText text parts → (gathered parts).front ≡ []) → IsMadeOf (λ n. n) asks text meta (Ok file) → IsHeaded file
-  made text meta file none (Ok state, load, (On done, expands, is)) =
+  pub made : {E : Type 0} (number : E → ℕ) (text : List ℕ) (meta : Meta) (file : State) → ((parts : List Part) → IsText text parts → (gathered parts).front ≡ [])
+      → IsMadeOf number asks text meta (Ok file) → IsHeaded file
+  made number text meta file none (Ok state, load, (On done, expands, is)) =
       subst IsHeaded (sym is) (headed_stays files asks.rules.max_depth asks None state (On done) tells headed (loaded_headed asks.rules.lossy text meta state none load) expands)
-  made text meta file none (Ok state, load, (Ended n end, expands, is)) = absurd is
-  made text meta file none (Err n, load, is) = absurd is
+  made number text meta file none (Ok state, load, (Ended n end, expands, is)) = absurd is
+  made number text meta file none (Err n, load, is) = absurd is
+
+  -- all of it
+  pub made_whole : {E : Type 0} (number : E → ℕ) (text : List ℕ) (meta : Meta) (file : State) → asks.rules.lossy ≡ false → IsMadeOf number asks text meta (Ok file) → IsClean file
+  made_whole number text meta file whole (Ok state, load, (On done, expands, is)) =
+      subst IsClean (sym is) (clean_stays files asks.rules.max_depth asks None state (On done) tells headed (full_clean text meta state (subst (λ lossy. IsLoaded lossy text meta state) whole load)) expands)
+  made_whole number text meta file whole (Ok state, load, (Ended n end, expands, is)) = absurd is
+  made_whole number text meta file whole (Err n, load, is) = absurd is
 
   -- what is taken
   text_headed : (must_exist ignores : Bool) (path text : List ℕ) → IsTextTaken asks.table must_exist ignores path (Ok (Some text)) → (parts : List Part) → IsText text parts → (gathered parts).front ≡ []
@@ -153,7 +161,7 @@ module _ (files : List ℕ → FileReport) (asks : Asks) (tells : asks.table ≡
       of_file path (inr (Ok None, taken, e)) = same e
       of_file path (inr (Ok (Some text), taken, (Err n, is_made, e))) = absurd (cc)
       of_file path (inr (Ok (Some text), taken, (Ok file, is_made, joined))) =
-          joins target file now stands (made text meta file (text_headed must_exist ignores path text taken) is_made) joined
+          joins target file now stands (made (λ (n : ℕ). n) text meta file (text_headed must_exist ignores path text taken) is_made) joined
 
       go : (path : Option (List ℕ)) → meta.path ≡ path
           → elim path as (λ _. Type 0) [ None ↦ ◌≡◌ {A = Result (Option State) ℕ} (Ok now) (Ok target) | Some at ↦ IsFileLoaded must_exist ignores asks meta at target (Ok now) ] → StandHeaded now

@@ -1,4 +1,5 @@
-use Rattle.gitconf_loaders.proofs.Clean.{from_path, global_clean, paths_clean}
+use Rattle.gitconf_includes.specs.Errors.{init_number}
+use Rattle.gitconf_loaders.proofs.Clean.{from_path, global_clean, made, made_whole, paths_clean}
 use Rattle.gitconf_loaders.proofs.laws.loaded_files_are_clean.Goals as goal
 
 pub returns-clause-path : goal.returns-clause-path
@@ -9,3 +10,10 @@ returns-clause-paths c = paths_clean
 
 pub returns-clause-globals : goal.returns-clause-globals
 returns-clause-globals c = global_clean
+
+pub returns-clause-whole : goal.returns-clause-whole
+returns-clause-whole c = λ files asks text place file tells heads whole made. made_whole files asks tells heads init_number text place file whole made
+
+pub returns-clause-text : goal.returns-clause-text
+returns-clause-text c = λ files asks text place file tells heads none is_made.
+    let headed = made files asks tells heads init_number text place file none is_made in (headed.clean, headed.front)
