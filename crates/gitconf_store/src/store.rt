@@ -315,11 +315,7 @@ impl Store {
         *self.buffer.allocator()
     }
 
-    /// The same metadata as [`Store::meta`], with one more owner.
-    ///
-    /// # Errors
-    ///
-    /// The count of owners is at its limit, which counts as out of memory.
+    /// `File::meta_owned` of `gix_config` is this call, and says what it does.
     pub fn meta_owned(&self) -> Result<Rc<Metadata>, NoMemory>
         ensures { IfOk result (λ m. m.value ≡ self.now.meta) }
     {
@@ -364,15 +360,7 @@ impl Store {
         tokens::value_count(self.sections())
     }
 
-    /// Writes the front and the sections that `filter` keeps, with line endings inserted where parts would otherwise run
-    /// together. One pass, which takes no memory of its own.
-    ///
-    /// The filter is called for each section in file order; and before that, if the front isn't empty and doesn't
-    /// end with a line ending, for the sections up to the first that it keeps.
-    ///
-    /// # Errors
-    ///
-    /// A write failed, or took nothing. It is not tried again, and a beginning of the text may have been written.
+    /// `File::write_to_filter` of `gix_config` is this call, and says what it does.
     #[tactic(auto, using(gitconf_state::proofs::Printing::ReadsBack::kept_reads_back, gitconf_parse::proofs::CommentLaws::kept_comments))]
     pub fn write_to_filter<W: Sink, F: FnMut(&SectionRef<'_>) -> bool>(
         &self,
@@ -404,11 +392,7 @@ impl Store {
         write_sections(out, self.sections(), line_end, &mut filter)
     }
 
-    /// Writes the whole file, as [`Store::write_to_filter`] with a filter that keeps all sections.
-    ///
-    /// # Errors
-    ///
-    /// Those of [`Store::write_to_filter`].
+    /// `File::write_to` of `gix_config` is this call, and says what it does.
     #[tactic(auto, using(std::proofs::lemmas::Fn::always_returns_same, gitconf_state::proofs::Printing::ReadsBack::all_reads_back, gitconf_parse::proofs::CommentLaws::all_comments))]
     pub fn write_to<W: Sink>(&self, out: &mut W) -> Result<(), SinkFault>
         ensures written { Writes result (printed self.now) (W.told out.old) (W.told out.new) }
@@ -419,12 +403,7 @@ impl Store {
         self.write_to_filter(out, |_| true)
     }
 
-    /// The text of the whole file, as [`Store::write_to`] writes it. Memory for as many bytes as the file was loaded
-    /// with is taken at once.
-    ///
-    /// # Errors
-    ///
-    /// Out of memory.
+    /// `File::to_bstring` of `gix_config` is this call, and says what it does.
     #[tactic(auto, using(crate::proofs::Texts::ReadBack::text_reads, crate::proofs::Texts::ReadBack::text_comments))]
     pub fn to_bstring(&self) -> Result<BString, NoMemory>
         ensures text { IfOk result (λ text. bstring_bytes text ≡ printed self.now) }
@@ -551,22 +530,7 @@ impl Store {
         Ok(())
     }
 
-    /// Gives a key a value: in the last section that has the name, without ASCII case, and exactly the subsection, and whose metadata
-    /// passes the filter. Its last entry of the key gets the value, as a file spells it; `=` is added if the entry has none. A
-    /// section without an entry of the key gets a new one after all others, with the blanks that it uses. If no section passes, one is made
-    /// after all others, with the file's line ending and metadata.
-    ///
-    /// Returns the raw text of the value that was there: its pieces joined, not decoded; no bytes for an entry without `=`; `None` if
-    /// there was no entry. All other sections, entries and comments stay as they are.
-    ///
-    /// The section is found by its names: it takes a walk over the sections of the name and subsection alone, from the last one up to
-    /// that one, then one over its items and one over the file's up to the first line ending. New bytes are added to the buffer.
-    ///
-    /// # Errors
-    ///
-    /// Refusal 6 for an invalid value name, before anything else; 4 and 5 if a section has to be made of a name or a subsection that can't
-    /// be one; 3 if the buffer would be longer than 4294967295 bytes, which is checked before any growth, or there is no number for a
-    /// section; 27 when out of memory. The file is then as it was.
+    /// `File::set_raw_value_filter_by` of `gix_config` is this call, and says what it does.
     pub fn set_raw_value_filter_by<F: FnMut(&Metadata) -> bool>(
         &mut self,
         section_name: &str,
@@ -600,11 +564,7 @@ impl Store {
         }
     }
 
-    /// [`Store::set_raw_value_filter_by`] with a filter that all metadata passes.
-    ///
-    /// # Errors
-    ///
-    /// Those of [`Store::set_raw_value_filter_by`].
+    /// `File::set_raw_value_by` of `gix_config` is this call, and says what it does.
     #[tactic(auto, using(std::proofs::lemmas::Fn::always_returns_same))]
     pub fn set_raw_value_by(
         &mut self,

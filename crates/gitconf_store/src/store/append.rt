@@ -197,17 +197,7 @@ impl Store {
         Ok(())
     }
 
-    /// Adds the sections of another file after all others, in their order and under the next numbers. The other's front is held after our
-    /// last section, or joins our front if we have no section; a line ending goes between if there are items that don't end with one, and the
-    /// other's don't begin with one.
-    ///
-    /// The other's bytes are added to the buffer, and its spans are moved in one pass: the time is linear in the other file, except for a
-    /// walk up to our first line ending. Takes memory for the bytes, the names and the places.
-    ///
-    /// # Errors
-    ///
-    /// A [`span::Error`]: number 3 if and only if the buffer would be longer than 4294967295 bytes or fewer numbers are left than the other
-    /// has sections, before any growth, otherwise 27 when out of memory. The other is then dropped, and the file as it was.
+    /// `File::append` of `gix_config` is this call, and says what it does.
     pub fn append(&mut self, other: Store) -> Result<(), span::Error>
         ensures { IsEdited span_refusal (Append other) result self.old self.new }
     {

@@ -97,15 +97,7 @@ impl Store {
         }
     }
 
-    /// The meaning of the last value of a key, or `None` if there is none: that of the last section that has the name,
-    /// without ASCII case, and exactly the subsection, whose metadata passes the filter, and whose last entry of the
-    /// key has a value. No entry of the front is found.
-    ///
-    /// It walks over the sections of the name from the last one up to that one. A miss takes no memory.
-    ///
-    /// # Errors
-    ///
-    /// Out of memory for the result.
+    /// `File::string_filter_by` of `gix_config` is this call, and says what it does.
     pub fn string_filter<F: FnMut(&Metadata) -> bool>(
         &self,
         key: KeyRef<'_>,
@@ -119,14 +111,7 @@ impl Store {
         text(*self.buffer.allocator(), &found)
     }
 
-    /// What the last entry of a key means in the last passing section that has one: `None` if none has, `Some(None)` if
-    /// that entry has no value. Sections are found as by [`Store::string_filter`].
-    ///
-    /// It walks over the sections of the name from the last one up to that one. A miss takes no memory.
-    ///
-    /// # Errors
-    ///
-    /// Out of memory for the result.
+    /// `File::boolean_filter_by` of `gix_config` is this call, and says what it does.
     pub fn value_implicit_filter<F: FnMut(&Metadata) -> bool>(
         &self,
         key: KeyRef<'_>,
@@ -140,14 +125,7 @@ impl Store {
         implicit_text(*self.buffer.allocator(), &found)
     }
 
-    /// The meanings of all values of a key in the passing sections, in file order, or `None` if there are none. An entry
-    /// without a value counts as empty. Sections are found as by [`Store::string_filter`].
-    ///
-    /// It walks over the sections of the name. A miss takes no memory.
-    ///
-    /// # Errors
-    ///
-    /// Out of memory for the result.
+    /// `File::strings_filter_by` of `gix_config` is this call, and says what it does.
     pub fn strings_filter<F: FnMut(&Metadata) -> bool>(
         &self,
         key: KeyRef<'_>,
@@ -161,12 +139,7 @@ impl Store {
         texts(*self.buffer.allocator(), found)
     }
 
-    /// The meaning of the last value of a key, found as by [`Store::string_filter`].
-    ///
-    /// # Errors
-    ///
-    /// Refusals 7, 8 and 9 if there is none: no section has the name, none of these has the subsection, or none of these that
-    /// pass has such a value. Refusal 27 when out of memory for the result.
+    /// `File::raw_value_filter_by` of `gix_config` is this call, and says what it does.
     pub fn raw_value_filter<F: FnMut(&Metadata) -> bool>(
         &self,
         key: KeyRef<'_>,
@@ -180,12 +153,7 @@ impl Store {
         self.existing(key, found)
     }
 
-    /// The meaning of the last value of a key, and its section, found as by [`Store::string_filter`].
-    ///
-    /// # Errors
-    ///
-    /// Refusals 7, 8 and 9 if there is none: no section has the name, none of these has the subsection, or none of these that
-    /// pass has such a value. Refusal 27 when out of memory for the result.
+    /// `File::raw_value_with_section_filter_by` of `gix_config` is this call, and says what it does.
     pub fn raw_value_with_section_filter<F: FnMut(&Metadata) -> bool>(
         &self,
         key: KeyRef<'_>,
@@ -200,12 +168,7 @@ impl Store {
         self.existing(key, found)
     }
 
-    /// The meanings of all values of a key, found as by [`Store::strings_filter`]: one or more.
-    ///
-    /// # Errors
-    ///
-    /// Refusals 7, 8 and 9 if there is none: no section has the name, none of these has the subsection, or none of these that
-    /// pass has such a value. Refusal 27 when out of memory for the result.
+    /// `File::raw_values_filter_by` of `gix_config` is this call, and says what it does.
     pub fn raw_values_filter<F: FnMut(&Metadata) -> bool>(
         &self,
         key: KeyRef<'_>,
@@ -219,13 +182,7 @@ impl Store {
         self.existing(key, found)
     }
 
-    /// The meanings of all values of a key, each with its section, found as by
-    /// [`Store::strings_filter`]: one or more.
-    ///
-    /// # Errors
-    ///
-    /// Refusals 7, 8 and 9 if there is none: no section has the name, none of these has the subsection, or none of these that
-    /// pass has such a value. Refusal 27 when out of memory for the result.
+    /// `File::raw_values_with_sections_filter_by` of `gix_config` is this call, and says what it does.
     pub fn raw_values_with_sections_filter<F: FnMut(&Metadata) -> bool>(
         &self,
         key: KeyRef<'_>,

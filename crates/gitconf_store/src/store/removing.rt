@@ -36,12 +36,7 @@ impl Store {
         self.sections.remove(id);
     }
 
-    /// Removes the section of a number, and returns it with a buffer of its own; `None` if there is none. What is held after it is
-    /// dropped. Its bytes and items are copied once, and the places of all sections after it are updated.
-    ///
-    /// # Errors
-    ///
-    /// Out of memory for the copy. The file is then as it was.
+    /// `File::remove_section_by_id` of `gix_config` is this call, and says what it does.
     pub fn remove_section_by_id(
         &mut self,
         id: SectionId,
@@ -60,13 +55,7 @@ impl Store {
         }
     }
 
-    /// Removes the last section of the name, without ASCII case, and exactly the subsection, whose metadata passes the filter, and returns
-    /// it as [`Store::remove_section_by_id`] does; `None` if none passes. The filter is called for the sections of these names
-    /// from the last one up to that one.
-    ///
-    /// # Errors
-    ///
-    /// Those of [`Store::remove_section_by_id`].
+    /// `File::remove_section_filter` of `gix_config` is this call, and says what it does.
     pub fn remove_section_filter<F: FnMut(&Metadata) -> bool>(
         &mut self,
         name: &str,

@@ -116,17 +116,7 @@ impl Store {
         passing_places(alloc, &self.sections, name, subsection_name, filter)
     }
 
-    /// Gives all sections that have the name, without ASCII case, and exactly the subsection, and whose metadata passes the filter, another
-    /// name and subsection, as [`Store::rename`] does. The filter is called for the sections of these names, in file order; if the new
-    /// names are refused, from the last one up to the first that passes.
-    ///
-    /// Walks over the sections of these names and over those that have the new name, by an index, and over no others. The new header
-    /// is in the buffer once; memory is taken for it, for the names and for the places of the sections.
-    ///
-    /// # Errors
-    ///
-    /// Refusal 7 if no section has the name, 8 if none of these has the subsection, 9 if none passes; then those of
-    /// [`Store::rename`]. The file is then as it was.
+    /// `File::rename_section_filter` of `gix_config` is this call, and says what it does.
     pub fn rename_section_filter<F: FnMut(&Metadata) -> bool>(
         &mut self,
         name: &str,

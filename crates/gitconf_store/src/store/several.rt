@@ -112,19 +112,7 @@ impl Store {
         Ok(texts)
     }
 
-    /// Gives the entries of a key other values, whether they have `=` or not, in the sections that have the name, without ASCII case, and
-    /// exactly the subsection: the first entry gets the first value and so on, up to the end of the shorter list, in the order of
-    /// [`Store::value_places_filter`]. Each is rewritten, with the name that is given, the blanks around `=` that its section then uses,
-    /// and the value as a file spells it. All else stays as it is; no entry is made, and none removed.
-    ///
-    /// It walks over the sections of the names and over their items, puts the places in order, and walks over a section once more for each
-    /// entry that is written. Takes memory for the places, and for what is added to the buffer.
-    ///
-    /// # Errors
-    ///
-    /// Refusal 7 if no section has the name, 8 if none of these has the subsection; otherwise 6 for an invalid value name; otherwise 9 if
-    /// none of these has such an entry; 3 if the buffer would be longer than 4294967295 bytes; 27 when out of memory. After 3 or 27 the
-    /// entries before the one that was refused have their values; all else is as it was.
+    /// `File::set_existing_raw_multi_value_by` of `gix_config` is this call, and says what it does.
     pub fn set_existing_raw_multi_value(
         &mut self,
         key: KeyRef<'_>,

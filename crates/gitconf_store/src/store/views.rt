@@ -132,13 +132,7 @@ impl Store {
         }
     }
 
-    /// The last section of the name, without ASCII case, and exactly the subsection, whose metadata passes the filter; `None` where
-    /// none of them passes. The sections are found by an index, and the filter is called for them from the last one up to that
-    /// one. Takes no memory.
-    ///
-    /// # Errors
-    ///
-    /// Refusal 7 if no section has the name, 8 if none of these has the subsection.
+    /// `File::section_filter` of `gix_config` is this call, and says what it does.
     pub fn section_filter<F: FnMut(&Metadata) -> bool>(
         &self,
         name: &str,
@@ -156,11 +150,7 @@ impl Store {
         Ok(last_passing(sections, filter))
     }
 
-    /// The last section of the name, without ASCII case, and exactly the subsection. It is found by an index. Takes no memory.
-    ///
-    /// # Errors
-    ///
-    /// Those of [`Store::section_filter`].
+    /// `File::section` of `gix_config` is this call, and says what it does.
     pub fn section(
         &self,
         name: &str,
