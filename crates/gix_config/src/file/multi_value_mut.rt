@@ -34,7 +34,8 @@ impl<T: Drop> Drop for MultiValueMut<'_, T> {
 }
 
 impl<'a> MultiValueMut<'a> {
-    ghost use Rattle.std.specs.Prelude.{◌≡◌, ◌<◌, ◌==◌, [], length, map};
+    ghost use Rattle.std.specs.Prelude.{◌≡◌, ◌<◌, ◌==◌, [], length, map, true};
+    ghost use Rattle.gitconf_text.specs.Names.{is_value_name};
     ghost use Rattle.gitconf_state.specs.Edits.{apply};
     ghost use Rattle.gitconf_body.specs.Refusals.{span_refusal};
     ghost use Rattle.gitconf_store.specs.Several.{all_deleted, AreRewritten};
@@ -59,10 +60,13 @@ impl<'a> MultiValueMut<'a> {
         }
     }
 
-    /// How many entries are left. Constant time, and no memory.
+    /// How many entries are left. The name that the editor writes is that of a value, whoever made it. Constant time, and no memory.
     pub fn len(&self) -> usize
-        ensures { result ≡ length (places_of self.now) }
+        ensures count { result ≡ length (places_of self.now) }
+        ensures key { is_value_name (key_of self.now) ≡ true }
     {
+        // For what its contract says of the name.
+        let _ = self.targets.key();
         self.targets.places().len()
     }
 
