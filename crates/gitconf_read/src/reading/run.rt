@@ -118,7 +118,7 @@ pub fn comment_end(input: &[u8], from: usize) -> usize
     run_end(input, i, Run::CommentText)
 }
 
-/// Whether LF, a tab and a letter are at an offset, as they are between most lines.
+/// Whether LF, a tab and no further blank are at an offset, as they are between most lines.
 #[inline(always)]
 fn is_plain_gap(input: &[u8], at: usize) -> bool
     requires { at ≤ length input.now }
@@ -127,7 +127,19 @@ fn is_plain_gap(input: &[u8], at: usize) -> bool
     if at + 2 >= input.len() || input[at] != b'\n' || input[at + 1] != b'\t' {
         return false;
     }
-    input[at + 2].is_ascii_alphabetic()
+    !is_blank(input[at + 2])
+}
+
+/// Whether LF and the bracket of a header are at an offset.
+#[inline(always)]
+fn is_header_gap(input: &[u8], at: usize) -> bool
+    requires { at ≤ length input.now }
+    ensures { result ≡ true → (run_end_at input.now LineEnds at ≡ at + 1) × (run_end_at input.now Blanks (at + 1) ≡ at + 1) × (at + 1 ≤ length input.now) }
+{
+    if at + 1 >= input.len() || input[at] != b'\n' {
+        return false;
+    }
+    input[at + 1] == b'['
 }
 
 /// The offset after the line endings at an offset, and the one after the blanks that follow.
@@ -142,6 +154,9 @@ pub fn gap_ends(input: &[u8], at: usize) -> (usize, usize)
 {
     if is_plain_gap(input, at) {
         return (at + 1, at + 2);
+    }
+    if is_header_gap(input, at) {
+        return (at + 1, at + 1);
     }
     let line_ends = run_end(input, at, Run::LineEnds);
     (line_ends, run_end(input, line_ends, Run::Blanks))
