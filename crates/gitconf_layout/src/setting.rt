@@ -73,6 +73,10 @@ fn append_line_end(text: &mut Vec<u8>, line_end: &[u8]) -> Result<(), NoMemory>
 fn append_times(text: &mut Vec<u8>, count: usize, byte: u8) -> Result<(), NoMemory>
     ensures { OnOk result (text.new.items ≡ text.old.items ++ setting.replicate count byte) }
 {
+    if count == 1 {
+        text.push(byte)?;
+        return Ok(());
+    }
     match text.len().checked_add(count) {
         Some(len) => {
             text.resize(len, byte)?;
@@ -120,9 +124,9 @@ fn begin_comment(text: &mut Vec<u8>, place: Place, options: &Options) -> Result<
 fn keeps_blanks(rest: EventIter<'_>, place: Place, options: &Options) -> bool
     ensures { result ≡ spec.keeps_blanks options.now place.in_section place.before (events_left rest.entry) }
 {
-    matches!(place.before, Before::Nothing)
+    options.root_comment_indent.is_none()
         && !place.in_section
-        && options.root_comment_indent.is_none()
+        && matches!(place.before, Before::Nothing)
         && begins_comment(rest)
 }
 

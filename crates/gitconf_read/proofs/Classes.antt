@@ -14,7 +14,7 @@ agree_first true false rest agree = cc
 agree_first false true rest agree = cc
 agree_first false false rest agree = (refl, agree)
 
-agree_at : (one other : ℕ → Bool) (n : ℕ) → agree_below one other n ≡ true → (b : ℕ) → b < n → one b ≡ other b
+pub agree_at : (one other : ℕ → Bool) (n : ℕ) → agree_below one other n ≡ true → (b : ℕ) → b < n → one b ≡ other b
 unfolding agree_below
 agree_at one other zero agree b below = absurd (omega arith)
 agree_at one other (suc n) agree b below =

@@ -26,3 +26,6 @@ pub mod Fours
 pub mod Openings
 pub mod KeptGaps
 pub mod EventGaps
+pub mod Blocks
+pub mod Spelled
+pub mod PlainGaps

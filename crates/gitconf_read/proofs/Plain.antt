@@ -1,5 +1,5 @@
 -- A run of bytes that stand for themselves in a value.
-use Rattle.std.proofs.Common.{◌≡◌, ℕ, ◌+◌, ◌<◌, Bool, true, List, [], ◌∷◌, ◌++◌, length, drop, get_or, refl, ap, sym, ◌∙◌, arith}
+use Rattle.std.proofs.Common.{◌≡◌, ℕ, zero, suc, ◌+◌, ◌≤◌, ◌<◌, subst, add-zero, Bool, true, List, [], ◌∷◌, ◌++◌, length, drop, get_or, refl, ap, sym, ◌∙◌, arith}
 use Rattle.std.specs.List.{list_all}
 use Rattle.gitconf_text.specs.Unit.{Class, LineFeed, Quote, Mark, Backslash, White, Other, class_of}
 use Rattle.gitconf_text.specs.Text.{begins}
@@ -52,3 +52,16 @@ pub plain_step : (input : List ℕ) (n kept : ℕ) (quoted : Bool) → n < lengt
     → piece_from kept quoted n 0 (drop n input) ≡ piece_from (n + 1) quoted (n + 1) 0 (drop (n + 1) input)
 unfolding piece_from
 plain_step input n kept quoted within other = rw (cut_at input n within, other, piece_from) refl
+
+-- several of them
+pub plain_many : (input : List ℕ) (n k : ℕ) (quoted : Bool) → n + k ≤ length input → ((j : ℕ) → j < k → is_plain (get_or input (n + j) 0) ≡ true)
+    → piece_from n quoted n 0 (drop n input) ≡ piece_from (n + k) quoted (n + k) 0 (drop (n + k) input)
+plain_many input n zero quoted within plain = ap (λ (m : ℕ). piece_from m quoted m 0 (drop m input)) (sym (add-zero n))
+plain_many input n (suc k) quoted within plain =
+    let first : is_plain (get_or input n 0) ≡ true = subst (λ m. is_plain (get_or input m 0) ≡ true) (add-zero n) (plain 0 (omega arith)) in
+    let later : (j : ℕ) → j < k → is_plain (get_or input (n + 1 + j) 0) ≡ true
+    = λ j l. let e : n + suc j ≡ n + 1 + j = omega arith in subst (λ m. is_plain (get_or input m 0) ≡ true) e (plain (suc j) (omega arith)) in
+    let e : n + 1 + k ≡ n + suc k = omega arith in
+    plain_step input n n quoted (omega arith) (other_is (get_or input n 0) first)
+    ∙ plain_many input (n + 1) k quoted (omega arith) later
+    ∙ ap (λ (m : ℕ). piece_from m quoted m 0 (drop m input)) e

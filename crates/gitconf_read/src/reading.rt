@@ -50,6 +50,7 @@ impl<T: Drop> From<AllocFailed<T>> for ReadError {
     }
 }
 
+mod block;
 mod class;
 pub mod entry;
 mod header;

@@ -5,8 +5,8 @@ ghost use Rattle.gitconf_read.specs.Reading.{entry_at};
 ghost use Rattle.gitconf_parse.specs.Places.{IsEntryRead, ValueInside};
 
 use crate::lookup::value::value_end;
-use gitconf_read::reading::entry::is_assignment;
-use gitconf_read::reading::run::{Run, long_run_end, run_end};
+use gitconf_read::reading::entry::sign_ends;
+use gitconf_read::reading::run::{Run, long_run_end};
 use gitconf_read::reading::{Expected, Fault, ReadError};
 
 /// The offsets of an entry's parts.
@@ -33,10 +33,9 @@ pub fn entry(input: &[u8], at: usize) -> Result<EntryPlace, ReadError>
     ensures refused { IfErr result (IsRefusal (entry_at input.now at [])) }
 {
     let name_end = long_run_end(input, at + 1, Run::NameBytes);
-    let blanks_end = run_end(input, name_end, Run::Blanks);
-    if is_assignment(input, blanks_end) {
-        let first = run_end(input, blanks_end + 1, Run::Blanks);
-        match value_end(input, first) {
+    let (sign, first) = sign_ends(input, name_end);
+    match first {
+        Some(first) => match value_end(input, first) {
             Some(end) => Ok(EntryPlace {
                 name_end,
                 value: Some(first),
@@ -46,12 +45,11 @@ pub fn entry(input: &[u8], at: usize) -> Result<EntryPlace, ReadError>
                 at: first,
                 expected: Expected::Value,
             })),
-        }
-    } else {
-        Ok(EntryPlace {
+        },
+        None => Ok(EntryPlace {
             name_end,
             value: None,
-            end: blanks_end,
-        })
+            end: sign,
+        }),
     }
 }

@@ -13,7 +13,7 @@ use crate::lookup::entry::entry;
 use crate::lookup::named::{is_meant, is_named};
 use gitconf_read::reading::item::header_first;
 use gitconf_read::reading::part::{Opening, part_opening};
-use gitconf_read::reading::run::{Run, long_run_end, run_end};
+use gitconf_read::reading::run::{Run, comment_end, gap_ends, run_end};
 use gitconf_read::reading::{Expected, Fault, ReadError};
 use gitconf_sources::key::KeyRef;
 
@@ -58,8 +58,7 @@ fn gap_end(input: &[u8], at: usize) -> usize
     ensures behind { at ≤ result }
     ensures inside { result ≤ length input.now }
 {
-    let line_ends = run_end(input, at, Run::LineEnds);
-    run_end(input, line_ends, Run::Blanks)
+    gap_ends(input, at).1
 }
 
 /// Reads the part that begins here, which may be an entry of the key.
@@ -77,7 +76,7 @@ fn pass_part(input: &[u8], key: &KeyRef<'_>, cursor: &mut Cursor) -> Result<Opti
     match part_opening(input, at) {
         Opening::Blanks => cursor.at = run_end(input, at + 1, Run::Blanks),
         Opening::LineEnds => cursor.at = run_end(input, at + 1, Run::LineEnds),
-        Opening::Comment => cursor.at = long_run_end(input, at + 1, Run::CommentText),
+        Opening::Comment => cursor.at = comment_end(input, at + 1),
         Opening::Header => {
             let (header, end) = header_first(input, at, cursor.wanted)?;
             *cursor = Cursor {

@@ -1,8 +1,10 @@
 //! Headers in their three forms.
-ghost use Rattle.std.specs.Prelude.{◌≡◌, ◌≤◌, ◌<◌, ◌^◌, length, drop, IfSome};
+ghost use Rattle.std.specs.Prelude.{◌≡◌, ◌≤◌, ◌<◌, ◌^◌, true, slice_index, length, drop, IfSome};
 ghost use Rattle.std.specs.Option.{option_map};
+ghost use Rattle.gitconf_read.specs.Reading as spec;
 ghost use Rattle.gitconf_read.specs.Reading.{unquoted_header, quoted_header, header_at, spelling_from};
 
+use super::block::{BLOCK, spelled_front};
 use super::class::is_spelled;
 use super::run::{Run, long_run_end, run_end};
 use gitconf_items::event::{Header, Span};
@@ -38,6 +40,26 @@ fn unquoted(input: &[u8], from: usize, end: usize) -> Option<(Header, usize)>
     }
 }
 
+/// An offset after bytes that stand for themselves between quotes, the first of which is at an offset. Others may follow.
+#[inline(always)]
+fn spelled_end(input: &[u8], at: usize) -> usize
+    requires within { at < length input.now }
+    requires spelled { spec.is_spelled (slice_index input.now at) ≡ true }
+    ensures goes_on { spelling_from at 0 (drop at input.now) ≡ spelling_from result 0 (drop result input.now) }
+    ensures behind { at < result }
+    ensures inside { result ≤ length input.now }
+{
+    let mut i = at + 1;
+    while input.len() - i >= BLOCK {
+        let front = spelled_front(input, i);
+        i += front;
+        if front < BLOCK {
+            return i;
+        }
+    }
+    i
+}
+
 /// The offset of the quote that ends the subsection whose spelling begins at an offset.
 #[inline(always)]
 #[tactic(auto, unfolding(crate::specs::Reading::spelling_from))]
@@ -52,7 +74,7 @@ fn spelling_end(input: &[u8], from: usize) -> Option<usize>
     while i < input.len() {
         let byte = input[i];
         if is_spelled(byte) {
-            i += 1;
+            i = spelled_end(input, i);
             continue;
         }
         match byte {

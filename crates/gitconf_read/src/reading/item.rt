@@ -4,18 +4,19 @@ ghost use Rattle.gitconf_text.specs.Token.{HeaderToken, item_tokens};
 ghost use Rattle.gitconf_text.specs.Part.{EntryItem};
 ghost use Rattle.gitconf_read.specs.declared.reading.Expected.TheVariants.{Name};
 ghost use Rattle.gitconf_read.specs.declared.reading.ReadError.TheVariants.{Memory};
+ghost use Rattle.gitconf_read.specs.declared.reading.run.Run.TheVariants.{Blanks, LineEnds};
 ghost use Rattle.gitconf_items.specs.Events.{bytes_of, header_of, SpanFits, HeaderFits};
 ghost use Rattle.gitconf_read.specs.ItemReading.{IsReadTo, IsRefusal, IsValueRead, IsValueRefusal, IsEntryWith, IsKeptRead};
 ghost use Rattle.gitconf_items.specs.Items.{entry_of, tokens_of_items, tokens_of_value};
 ghost use Rattle.gitconf_items.specs.ItemsFit.{AreItemsWithin, EntryFits, ValueFits};
-ghost use Rattle.gitconf_read.specs.Reading.{entry_at, part_at, span};
+ghost use Rattle.gitconf_read.specs.Reading.{entry_at, part_at, run_end_at, span};
 ghost use Rattle.gitconf_read.specs.declared.reading.Expected.{Expected};
 ghost use Rattle.gitconf_read.specs.Stretches.{IsStretch, IsKeptStretch, IsGapRead, IsBreak};
 
-use super::entry::is_assignment;
+use super::entry::sign_ends;
 use super::header::header;
 use super::part::{Opening, part_opening};
-use super::run::{Run, long_run_end, run_end};
+use super::run::{Run, comment_end, gap_ends, long_run_end, run_end};
 use super::value::{PieceEnd, piece_end};
 use super::{Expected, Fault, ReadError};
 use gitconf_items::entry::{Assigned, Entry, EntryParts, Piece, Value};
@@ -175,20 +176,23 @@ fn entry(alloc: Global, input: &[u8], at: usize) -> Result<(Entry, usize), ReadE
     ensures refused { IfErr result (IsRefusal (entry_at input.now at [])) }
 {
     let name_end = long_run_end(input, at + 1, Run::NameBytes);
-    let sign = run_end(input, name_end, Run::Blanks);
-    if is_assignment(input, sign) {
-        let front = Front {
-            start: at,
-            name_end,
-            sign,
-            first: run_end(input, sign + 1, Run::Blanks),
-        };
-        assigned_entry(alloc, input, front)
-    } else {
-        let name = Span::between(at, name_end);
-        let blanks = Span::between(name_end, sign);
-        let entry = bare_entry(alloc, input, name, blanks)?;
-        Ok((entry, sign))
+    let (sign, first) = sign_ends(input, name_end);
+    match first {
+        Some(first) => {
+            let front = Front {
+                start: at,
+                name_end,
+                sign,
+                first,
+            };
+            assigned_entry(alloc, input, front)
+        }
+        None => {
+            let name = Span::between(at, name_end);
+            let blanks = Span::between(name_end, sign);
+            let entry = bare_entry(alloc, input, name, blanks)?;
+            Ok((entry, sign))
+        }
     }
 }
 
@@ -229,7 +233,7 @@ fn push_item(
             Ok(end)
         }
         Opening::Comment => {
-            let end = long_run_end(input, at + 1, Run::CommentText);
+            let end = comment_end(input, at + 1);
             let text = Span::between(at + 1, end);
             let tag = input[at];
             match keep {
@@ -250,56 +254,60 @@ fn push_item(
     }
 }
 
-/// Adds the line endings at an offset, if there are any and they are kept, and returns the offset after them.
+/// Adds the line endings from one offset up to another, if there are any and they are kept.
 #[inline(always)]
 fn push_line_ends(
     input: &[u8],
     at: usize,
+    end: usize,
     keep: Keep,
     items: &mut Vec<Item>,
-) -> Result<usize, ReadError>
-    requires within { at ≤ length input.now }
+) -> Result<(), ReadError>
+    requires ends { end ≡ run_end_at input.now LineEnds at }
+    requires ordered { at ≤ end }
+    requires within { end ≤ length input.now }
     requires fits { length input.now < 2 ^ 32 }
-    ensures found { IfOk result (λ end. (wanted : Expected) → IsGapRead keep input.now at wanted items.old.items items.new.items end) }
-    ensures behind { IfOk result (λ end. at ≤ end) }
-    ensures inside { IfOk result (λ end. end ≤ length input.now) }
+    ensures found { OnOk result ((wanted : Expected) → IsGapRead keep input.now at wanted items.old.items items.new.items end) }
     ensures memory { IsOkUnless result Memory }
 {
-    let end = run_end(input, at, Run::LineEnds);
+    // Only the contract speaks of the text.
+    let _ = input;
     if at == end {
-        return Ok(end);
+        return Ok(());
     }
     match keep {
         Keep::All => items.push(Item::LineEnds(Span::between(at, end)))?,
         Keep::Meaning => {}
     }
-    Ok(end)
+    Ok(())
 }
 
-/// Adds the blanks at an offset, if there are any and they are kept, and returns the offset after them.
+/// Adds the blanks from one offset up to another, if there are any and they are kept.
 #[inline(always)]
 fn push_blanks(
     input: &[u8],
     at: usize,
+    end: usize,
     keep: Keep,
     items: &mut Vec<Item>,
-) -> Result<usize, ReadError>
-    requires within { at ≤ length input.now }
+) -> Result<(), ReadError>
+    requires ends { end ≡ run_end_at input.now Blanks at }
+    requires ordered { at ≤ end }
+    requires within { end ≤ length input.now }
     requires fits { length input.now < 2 ^ 32 }
-    ensures found { IfOk result (λ end. (wanted : Expected) → IsGapRead keep input.now at wanted items.old.items items.new.items end) }
-    ensures behind { IfOk result (λ end. at ≤ end) }
-    ensures inside { IfOk result (λ end. end ≤ length input.now) }
+    ensures found { OnOk result ((wanted : Expected) → IsGapRead keep input.now at wanted items.old.items items.new.items end) }
     ensures memory { IsOkUnless result Memory }
 {
-    let end = run_end(input, at, Run::Blanks);
+    // Only the contract speaks of the text.
+    let _ = input;
     if at == end {
-        return Ok(end);
+        return Ok(());
     }
     match keep {
         Keep::All => items.push(Item::Blanks(Span::between(at, end)))?,
         Keep::Meaning => {}
     }
-    Ok(end)
+    Ok(())
 }
 
 /// Adds what is kept of the items from an offset on, up to a header or the end, and returns the offset after them.
@@ -324,8 +332,10 @@ pub fn push_items(
     while at < input.len() && input[at] != b'[' {
         let end = push_item(alloc, input, at, wanted, keep, items)?;
         // What follows an item is mostly the end of its line, and then blanks.
-        let line_end = push_line_ends(input, end, keep, items)?;
-        at = push_blanks(input, line_end, keep, items)?;
+        let (line_end, next) = gap_ends(input, end);
+        push_line_ends(input, end, line_end, keep, items)?;
+        push_blanks(input, line_end, next, keep, items)?;
+        at = next;
     }
     Ok(at)
 }

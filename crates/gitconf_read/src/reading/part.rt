@@ -1,14 +1,13 @@
 //! The parts of a text, one after the other.
-ghost use Rattle.std.specs.Prelude.{◌≡◌, ◌≤◌, ◌<◌, ◌^◌, length, drop, IfOk, IsOkUnless};
+ghost use Rattle.std.specs.Prelude.{◌≡◌, ◌≤◌, ◌<◌, ◌^◌, length, drop, IfOk, OnOk, IsOkUnless};
 ghost use Rattle.std.specs.Char.{is_ascii_alphabetic};
 ghost use Rattle.gitconf_read.specs.declared.reading.Expected.TheVariants.{SectionHeader};
 ghost use Rattle.gitconf_read.specs.declared.reading.ReadError.TheVariants.{Memory};
-ghost use Rattle.gitconf_read.specs.declared.reading.run.Run.TheVariants.{LineEnds};
-ghost use Rattle.gitconf_read.specs.Reading.{Gives, GivesAll, opening_of, part_at, run_end_at, text_from, with_line_ends};
+ghost use Rattle.gitconf_read.specs.Reading.{Gives, GivesAll, opening_of, part_at, text_from, with_line_ends};
 
-use super::entry::{blanks, entry};
+use super::entry::{entry, push_blanks};
 use super::header::header;
-use super::run::{Run, is_line_end, long_run_end, run_end};
+use super::run::{Run, comment_end, gap_ends, is_line_end, run_end};
 use super::{Expected, Fault, ReadError};
 use crate::compact::EventVec;
 use gitconf_items::event::{Event, Span};
@@ -87,7 +86,7 @@ fn part(
             Ok(end)
         }
         Opening::Comment => {
-            let end = long_run_end(input, at + 1, Run::CommentText);
+            let end = comment_end(input, at + 1);
             let text = Span::between(at + 1, end);
             events.push(Event::Comment {
                 tag: input[at],
@@ -107,22 +106,18 @@ fn part(
     }
 }
 
-/// The line endings at an offset, if there are any.
+/// Adds the line endings from one offset up to another, if there are any.
 #[inline(always)]
-fn line_ends(input: &[u8], at: usize, events: &mut EventVec) -> Result<usize, ReadError>
-    requires within { at ≤ length input.now }
-    requires fits { length input.now < 2 ^ 32 }
-    ensures events { IfOk result (λ end. events.new ≡ with_line_ends events.old at end) }
-    ensures end { IfOk result (λ end. end ≡ run_end_at input.now LineEnds at) }
-    ensures behind { IfOk result (λ end. at ≤ end) }
-    ensures inside { IfOk result (λ end. end ≤ length input.now) }
+fn push_line_ends(from: usize, end: usize, events: &mut EventVec) -> Result<(), ReadError>
+    requires ordered { from ≤ end }
+    requires fits { end < 2 ^ 32 }
+    ensures events { OnOk result (events.new ≡ with_line_ends events.old from end) }
     ensures memory { IsOkUnless result Memory }
 {
-    let end = run_end(input, at, Run::LineEnds);
-    if at < end {
-        events.push(Event::Newline(Span::between(at, end)))?;
+    if from < end {
+        events.push(Event::Newline(Span::between(from, end)))?;
     }
-    Ok(end)
+    Ok(())
 }
 
 /// All parts from an offset on.
@@ -137,8 +132,9 @@ pub fn parts(input: &[u8], start: usize, events: &mut EventVec) -> Result<(), Re
     while at < input.len() {
         let end = part(input, at, wanted, events)?;
         // What follows a part is mostly the end of its line, and then blanks.
-        let line_end = line_ends(input, end, events)?;
-        let next = blanks(input, line_end, events)?;
+        let (line_end, next) = gap_ends(input, end);
+        push_line_ends(end, line_end, events)?;
+        push_blanks(line_end, next, events)?;
         if input[at] == b'[' {
             wanted = Expected::Name;
         }

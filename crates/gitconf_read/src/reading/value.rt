@@ -6,8 +6,9 @@ ghost use Rattle.gitconf_read.specs.declared.reading.ReadError.TheVariants.{Memo
 ghost use Rattle.gitconf_read.specs.Reading.{Gives, span, value_at, piece_from};
 ghost use Rattle.gitconf_read.specs.ItemReading.{EndsWithin};
 
+use super::block::{BLOCK, plain_front};
 use super::class::is_plain;
-use super::run::{Run, long_run_end};
+use super::run::{Run, run_end};
 use super::{Expected, Fault, ReadError};
 use crate::compact::EventVec;
 use gitconf_items::event::{Event, Span};
@@ -29,7 +30,7 @@ pub enum PieceEnd {
     Refused,
 }
 
-/// The offset after the bytes that stand for themselves, the first of which is at an offset.
+/// An offset after bytes that stand for themselves, the first of which is at an offset. Others may follow.
 #[inline(always)]
 fn plain_end(input: &[u8], at: usize) -> usize
     requires within { at < length input.now }
@@ -38,7 +39,15 @@ fn plain_end(input: &[u8], at: usize) -> usize
     ensures behind { at < result }
     ensures inside { result ≤ length input.now }
 {
-    long_run_end(input, at + 1, Run::PlainBytes)
+    let mut i = at + 1;
+    while input.len() - i >= BLOCK {
+        let front = plain_front(input, i);
+        i += front;
+        if front < BLOCK {
+            return i;
+        }
+    }
+    run_end(input, i, Run::PlainBytes)
 }
 
 /// How the piece ends that begins at an offset, between quotes or not.

@@ -21,7 +21,7 @@ returns-in-LineEnds-clause-read c =
 pub returns-in-Comment-clause-read : goal.returns-in-Comment-clause-read
 returns-in-Comment-clause-read c =
     let opens = sym c.part_opening.ensures ∙ c.in-Comment.is in
-    comment_walk _ _ _ _ _ (no_walk _ (key_of c.args.key.now) c.args.cursor.now) c.requires.within opens c.long_run_end-cursor.ensures.end
+    comment_walk _ _ _ _ _ (no_walk _ (key_of c.args.key.now) c.args.cursor.now) c.requires.within opens c.comment_end-cursor.ensures.end
 
 pub header_first-requires-clause-headed : goal.header_first-requires-clause-headed
 header_first-requires-clause-headed c = header_byte c.args.input.now c.args.cursor.now.at (sym c.part_opening.ensures ∙ c.in-Header.is)

@@ -41,17 +41,17 @@ returns-in-Meaning-keep-clause-found c =
 
 pub returns-in_ok-push-in-All-keep-2-clause-found : goal.returns-in_ok-push-in-All-keep-2-clause-found
 returns-in_ok-push-in-All-keep-2-clause-found c =
-    let ahead = c.long_run_end-end.ensures.behind in
-    let within = c.long_run_end-end.ensures.inside in
+    let ahead = c.comment_end-end.ensures.behind in
+    let within = c.comment_end-end.ensures.inside in
     let start = c.between-text.ensures.start in
     let len = c.between-text.ensures.len in
     rw c.in-All-keep-2.is
     (whole_read _ _ c.args.wanted _ _ _ _ c.in_ok-push-in-All-keep-2.ensures.items
-    (rw (span_is _ _ _ start len) (comment_read _ _ c.args.wanted _ (sym c.part_opening.ensures ∙ c.in-Comment.is) c.long_run_end-end.ensures.end)) (omega (arith, start, len, ahead, within)))
+    (rw (span_is _ _ _ start len) (comment_read _ _ c.args.wanted _ (sym c.part_opening.ensures ∙ c.in-Comment.is) c.comment_end-end.ensures.end)) (omega (arith, start, len, ahead, within)))
 
 pub returns-in-Meaning-keep-2-clause-found : goal.returns-in-Meaning-keep-2-clause-found
 returns-in-Meaning-keep-2-clause-found c =
-    rw c.in-Meaning-keep-2.is (gap_read _ _ c.args.wanted _ _ _ refl (comment_read _ _ c.args.wanted _ (sym c.part_opening.ensures ∙ c.in-Comment.is) c.long_run_end-end.ensures.end))
+    rw c.in-Meaning-keep-2.is (gap_read _ _ c.args.wanted _ _ _ refl (comment_read _ _ c.args.wanted _ (sym c.part_opening.ensures ∙ c.in-Comment.is) c.comment_end-end.ensures.end))
 
 pub returns-in_ok-push-in-Entry-clause-found : goal.returns-in_ok-push-in-Entry-clause-found
 returns-in_ok-push-in-Entry-clause-found c = record {

@@ -11,10 +11,10 @@ returns-in_err-end-clause-broken c =
 
 pub loop-at-preserved : goal.loop-at-preserved
 loop-at-preserved c =
-    let line = c.in_ok-line_end.ensures.found _ in
-    let blank = c.in_ok-at.ensures.found _ in
+    let line = c.in_ok-push_line_ends.ensures.found _ in
+    let blank = c.in_ok-push_blanks.ensures.found _ in
     record {
-      inside = c.in_ok-at.ensures.inside;
+      inside = c.gap_ends-line_end.ensures.inside;
       read = blank.goes_on _ (line.goes_on _ (more_kept _ _ _ _ _ _ _ _ c.loop-at.invariant.read c.loop-at-test.true (ne_eqb _ 91 c.if-input-at-ne91.true) c.in_ok-end.ensures.found));
       items = blank.fit (line.fit (kept_fit _ _ _ _ _ _ _ c.loop-at.invariant.items c.in_ok-end.ensures.found));
     }

@@ -9,15 +9,15 @@ returns-then-at-end-clause-found c = λ wanted. no_gap_read _ _ _ _ wanted _ c.i
 
 pub returns-in_ok-push-in-All-clause-found : goal.returns-in_ok-push-in-All-clause-found
 returns-in_ok-push-in-All-clause-found c = λ wanted.
-    let behind = c.run_end-end.ensures.behind in
+    let behind = c.requires.ordered in
     let start = c.between.ensures.start in
     let len = c.between.ensures.len in
-    let within = c.run_end-end.ensures.inside in
-    let there = line_ends_there _ _ _ wanted c.run_end-end.ensures.end (ahead_of _ _ c.run_end-end.ensures.behind c.if-at-end.false) in
+    let within = c.requires.within in
+    let there = line_ends_there _ _ _ wanted c.requires.ends (ahead_of _ _ c.requires.ordered c.if-at-end.false) in
     one_gap_read _ _ _ _ wanted _ _ there.0 there.1
     (rw c.in-All.is (whole_read _ _ wanted _ _ _ _ c.in_ok-push-in-All.ensures.items (rw (span_is _ _ _ start len) there.2) (omega (arith, start, len, behind, within))))
 
 pub returns-in-Meaning-clause-found : goal.returns-in-Meaning-clause-found
 returns-in-Meaning-clause-found c = λ wanted.
-    let there = line_ends_there _ _ _ wanted c.run_end-end.ensures.end (ahead_of _ _ c.run_end-end.ensures.behind c.if-at-end.false) in
+    let there = line_ends_there _ _ _ wanted c.requires.ends (ahead_of _ _ c.requires.ordered c.if-at-end.false) in
     one_gap_read _ _ _ _ wanted _ _ there.0 there.1 (rw c.in-Meaning.is (gap_read _ _ wanted _ _ _ refl there.2))

@@ -13,11 +13,11 @@ returns-in_err-end c =
 pub loop-at-preserved-then-input-at-eq91 : goal.loop-at-preserved-then-input-at-eq91
 loop-at-preserved-then-input-at-eq91 c =
     let goes_on = text_from-part _ _ _ _ _ _ c.loop-at-test.true c.in_ok-end.ensures.behind c.in_ok-end.ensures.gives in
-    let gap = gap_go _ _ _ _ _ _ _ _ c.in_ok-line_end.ensures.end c.in_ok-line_end.ensures.events c.in_ok-next.ensures.end c.in_ok-next.ensures.events in
-    (c.in_ok-next.ensures.inside, sym (rw (eq-eqb _ 91 c.if-input-at-eq91.true) at (goes_on ∙ gap)) ∙ c.loop-at.invariant.1)
+    let gap = gap_go _ _ _ _ _ _ _ _ c.gap_ends-line_end.ensures.line_ends c.in_ok-push_line_ends.ensures.events c.gap_ends-line_end.ensures.blanks c.in_ok-push_blanks.ensures.events in
+    (c.gap_ends-line_end.ensures.inside, sym (rw (eq-eqb _ 91 c.if-input-at-eq91.true) at (goes_on ∙ gap)) ∙ c.loop-at.invariant.1)
 
 pub loop-at-preserved : goal.loop-at-preserved
 loop-at-preserved c =
     let goes_on = text_from-part _ _ _ _ _ _ c.loop-at-test.true c.in_ok-end.ensures.behind c.in_ok-end.ensures.gives in
-    let gap = gap_go _ _ _ _ _ _ _ _ c.in_ok-line_end.ensures.end c.in_ok-line_end.ensures.events c.in_ok-next.ensures.end c.in_ok-next.ensures.events in
-    (c.in_ok-next.ensures.inside, sym (rw (ne_eqb _ 91 c.if-input-at-eq91.false) at (goes_on ∙ gap)) ∙ c.loop-at.invariant.1)
+    let gap = gap_go _ _ _ _ _ _ _ _ c.gap_ends-line_end.ensures.line_ends c.in_ok-push_line_ends.ensures.events c.gap_ends-line_end.ensures.blanks c.in_ok-push_blanks.ensures.events in
+    (c.gap_ends-line_end.ensures.inside, sym (rw (ne_eqb _ 91 c.if-input-at-eq91.false) at (goes_on ∙ gap)) ∙ c.loop-at.invariant.1)

@@ -1,0 +1,14 @@
+use Rattle.std.proofs.Common.{arith, subst, ◌≡◌, ◌<◌, false, ◌==◌}
+use Rattle.gitconf_read.proofs.Blocks.{both_clear, plain_is}
+use Rattle.gitconf_read.proofs.reading.block.plain_front.Goals as goal
+
+pub returns-clause-plain : goal.returns-clause-plain
+returns-clause-plain c = λ k l.
+    let within : k < 16 = omega (arith, l, c.lowest.ensures.bound) in
+    let clear = both_clear _ _ k (c.lowest.ensures.below k l) in
+    let first = both_clear _ _ k clear.0 in
+    let there = c.bytes_at-bytes.ensures k within in
+    plain_is _ ((c.type_inv.input _).fits)
+    (subst (λ b. 35 < b) there (c.at_most.ensures k within first.0))
+    (subst (λ b. (b == 59) ≡ false) there (c.equal.ensures k within first.1))
+    (subst (λ b. (b == 92) ≡ false) there (c.equal-2.ensures k within clear.1))
