@@ -1,7 +1,8 @@
 -- What a call that may be refused leaves, and why it is refused.
-use Rattle.std.specs.Prelude.{◌≡◌, ◌+◌, ◌^◌, ℕ, Bool, not, leb, List, [], ◌∷◌, find, Option, Some, None, Result, Ok, Err, IfErr, IsErrOf, OnErr, OnOk}
+use Rattle.std.specs.Prelude.{◌≡◌, ◌+◌, ◌^◌, ◌&&◌, ℕ, Bool, true, not, leb, List, [], ◌∷◌, ◌++◌, find, Option, Some, None, Result, Ok, Err, IfErr, IsErrOf, OnErr, OnOk}
 use Rattle.std.specs.Option.{option_map}
-use Rattle.gitconf_text.specs.Names.{is_value_name}
+use Rattle.gitconf_text.specs.Names.{is_made_name, is_valid_or_none, is_value_name}
+use Rattle.gitconf_state.specs.Edit.{header_bytes}
 use Rattle.gitconf_state.specs.Lookup.{Miss}
 
 -- why an edit is refused: what it is of is missing, a name is invalid, no place is left for the bytes or for the section, or memory ran out
@@ -45,3 +46,11 @@ room_causes used count = (is_full used count, TooLarge) ∷ []
 -- the causes for an entry of this name that takes so many bytes
 abbrev pub key_causes : (key : List ℕ) → (used count : ℕ) → List (Bool × Cause)
 key_causes key used count = (not (is_value_name key), InvalidKey) ∷ room_causes used count
+
+-- the causes for a header that is made, if one is
+abbrev pub header_causes : (is_made : Bool) → (name : List ℕ) → (subsection : Option (List ℕ)) → List (Bool × Cause)
+header_causes is_made name subsection = (is_made && not (is_made_name name), InvalidName) ∷ (is_made && not (is_valid_or_none subsection), InvalidSubsection) ∷ []
+
+-- the causes for a header that is made, with its bytes after `used` others
+abbrev pub heading_causes : (name : List ℕ) → (subsection : Option (List ℕ)) → (used : ℕ) → List (Bool × Cause)
+heading_causes name subsection used = header_causes true name subsection ++ room_causes used (header_bytes name subsection)

@@ -2,7 +2,7 @@
 -- and quotes of a header are in no buffer.
 use Rattle.std.specs.Prelude.{◌==◌, ◌+◌, ◌||◌, ◌&&◌, ℕ, Bool, not, true, ltb, List, [], ◌∷◌, ◌++◌, length, Option, Some, None, Result, if◌then◌else◌}
 use Rattle.std.specs.List.{list_any}
-use Rattle.gitconf_text.specs.Names.{is_made_name, is_valid_or_none, is_value_name}
+use Rattle.gitconf_text.specs.Names.{is_value_name}
 use Rattle.gitconf_text.specs.Sections.{no_number}
 use Rattle.gitconf_text.specs.Part.{Item}
 use Rattle.gitconf_sources.specs.Metadata.{Meta}
@@ -11,7 +11,7 @@ use Rattle.gitconf_state.specs.Edits.{Edit, Append, NewSection, Push, PushAfterL
 use Rattle.gitconf_state.specs.LineEnds.{file_line_end}
 use Rattle.gitconf_state.specs.Lookup.{listed, miss_of}
 use Rattle.gitconf_state.specs.State.{State}
-use Rattle.gitconf_body.specs.Done.{Cause, InvalidKey, InvalidName, InvalidSubsection, IsDone, Missing, TooLarge, is_full, key_causes, room_causes}
+use Rattle.gitconf_body.specs.Done.{Cause, InvalidKey, IsDone, Missing, TooLarge, header_causes, heading_causes, is_full, key_causes, room_causes}
 use Rattle.gitconf_body.specs.Puts.{after_last_bytes, assigned_bytes, line_bytes, value_set_bytes}
 use Rattle.gitconf_store.specs.Appends.{appended_bytes}
 
@@ -46,17 +46,9 @@ put_bytes _ state = 0
 abbrev pub done : Edit → State → State
 done edit state = with_used (state.used + put_bytes edit state) (apply edit state)
 
--- the causes for a header that is made, if one is
-abbrev pub header_causes : (is_made : Bool) → (name : List ℕ) → (subsection : Option (List ℕ)) → List (Bool × Cause)
-header_causes is_made name subsection = (is_made && not (is_made_name name), InvalidName) ∷ (is_made && not (is_valid_or_none subsection), InvalidSubsection) ∷ []
-
 -- the causes for a section that is made, with so many bytes
 abbrev pub made_causes : (name : List ℕ) → (subsection : Option (List ℕ)) → (count : ℕ) → State → List (Bool × Cause)
 made_causes name subsection count state = header_causes true name subsection ++ ((is_full state.used count || (state.next == no_number), TooLarge) ∷ [])
-
--- the causes for a header that is made, with its bytes after `used` others
-abbrev pub heading_causes : (name : List ℕ) → (subsection : Option (List ℕ)) → (used : ℕ) → List (Bool × Cause)
-heading_causes name subsection used = header_causes true name subsection ++ room_causes used (header_bytes name subsection)
 
 -- Why an edit is refused: what keeps it from being done, in the order in which it is asked, each with whether it does.
 abbrev pub causes : Edit → State → List (Bool × Cause)

@@ -7,9 +7,8 @@ use Rattle.gitconf_state.specs.Edit.{with_used}
 use Rattle.gitconf_state.specs.Edits.{renamed, with_sections}
 use Rattle.gitconf_state.specs.Lookup.{is_named, listed, listing, miss_of}
 use Rattle.gitconf_state.specs.State.{State}
-use Rattle.gitconf_body.specs.Done.{IsRefusedFor, Missing, first_cause}
+use Rattle.gitconf_body.specs.Done.{IsRefusedFor, Missing, first_cause, heading_causes}
 use Rattle.gitconf_store.specs.declared.rename_section.Error.{Error}
-use Rattle.gitconf_store.specs.Edited.{heading_causes}
 use Rattle.gitconf_store.specs.RenameErrors.{rename_refusal}
 use Rattle.gitconf_sections.specs.Section.{Section as Stored}
 

@@ -10,8 +10,8 @@ use Rattle.gitconf_items.specs.declared.event.Event.TheVariants as kinds
 use Rattle.gitconf_items.specs.Events.{header_of}
 use Rattle.gitconf_items.specs.ItemsFit.{AreItemsWithin}
 use Rattle.gitconf_items.specs.ShownEvents.{IsShown}
-use Rattle.gitconf_state.specs.Edit.{made_header}
-use Rattle.gitconf_state.specs.Edits.{Detached}
+use Rattle.gitconf_state.specs.Edit.{header_bytes, made_header}
+use Rattle.gitconf_state.specs.Edits.{Detached, renamed}
 pub use Rattle.gitconf_state.specs.State.{with_items}
 use Rattle.gitconf_state.specs.State.{SectionState, is_header, is_item}
 use Rattle.gitconf_items.specs.Items.{items_of}
@@ -39,10 +39,6 @@ copied_alone s = record { section = alone s; used = section_size s }
 abbrev pub made_alone : (name : List ℕ) → (subsection : Option (List ℕ)) → Meta → Detached
 made_alone name subsection meta = copied_alone (record { number = no_number; header = made_header name subsection; meta = meta; items = []; held = [] })
 
--- the refusals that making a header can have
-abbrev pub is_refusal_of_header : Error → Bool
-is_refusal_of_header e = list_any (λ number. number == header_number e) (3 ∷ 4 ∷ 5 ∷ 27 ∷ [])
-
 -- a section with a list of its own for its items, as a section of a file with nothing held after it
 abbrev pub whole : Own → Section
 whole s = record { header = s.header; meta = s.meta; items = record { items = s.items.items }; held = record { items = [] } }
@@ -63,6 +59,10 @@ pub record StandsAlone (buffer copies : List ℕ) (s : Own) : Type 0 where
 -- such a section after an edit of its items that added so many bytes
 abbrev pub changed_alone : (change : List parts.Item → List parts.Item) → (bytes : ℕ) → Detached → Detached
 changed_alone change bytes old = record { section = with_items change old.section; used = old.used + bytes }
+
+-- such a section under another name and subsection, with the bytes of its new header
+abbrev pub alone_renamed : (name : List ℕ) → (subsection : Option (List ℕ)) → Detached → Detached
+alone_renamed name subsection old = record { section = renamed name subsection old.section; used = old.used + header_bytes name subsection }
 
 -- How an editor writes an entry of this name: the edit is done and adds so many bytes; or it is refused, and the section is as it was.
 abbrev pub IsEditedAlone : {T : Type 0} → (change : List parts.Item → List parts.Item) → (key : List ℕ) → (bytes : ℕ) → Result T ValueError → (old new : Detached) → Type 0

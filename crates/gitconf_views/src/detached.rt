@@ -148,7 +148,9 @@ impl Section {
     ghost use Rattle.std.specs.Prelude.{◌≡◌, ◌≤◌, ◌^◌, ◌↔◌, true, false, IfErr, IfOk, IsErrOf};
     ghost use Rattle.gitconf_state.specs.Edit.{header_bytes};
     ghost use Rattle.gitconf_state.specs.State.{HasSectionItems};
-    ghost use Rattle.gitconf_views.specs.Alone.{is_refusal_of_header, made_alone};
+    ghost use Rattle.gitconf_views.specs.Alone.{made_alone};
+    ghost use Rattle.gitconf_body.specs.Done.{first_cause, heading_causes, IsRefusedFor};
+    ghost use Rattle.gitconf_body.specs.Refusals.{header_refusal};
     ghost use Rattle.gitconf_views.specs.Views.{shown};
 
     /// A section of a name and a subsection: its body is empty, without even a line ending, and its number is the greatest, which no file
@@ -166,12 +168,7 @@ impl Section {
         meta: Rc<Metadata>,
     ) -> Result<Section, header::Error>
         ensures made { IfOk result (λ s. s ≡ made_alone name.now (option_map bstring_bytes subsection) meta.value) }
-        ensures invalid_name { IsErrOf result InvalidName ↔ (is_made_name name.now ≡ false) }
-        ensures invalid_subsection { IsErrOf result InvalidSubSection
-            ↔ ((is_made_name name.now ≡ true) × (is_valid_or_none (option_map bstring_bytes subsection) ≡ false)) }
-        ensures too_large { IsErrOf result (Span 3) ↔ ((is_made_name name.now ≡ true) × (is_valid_or_none (option_map bstring_bytes subsection) ≡ true)
-            × (2 ^ 32 ≤ header_bytes name.now (option_map bstring_bytes subsection))) }
-        ensures known { IfErr result (λ e. is_refusal_of_header e ≡ true) }
+        ensures told { IsRefusedFor header_refusal (first_cause (heading_causes name.now (option_map bstring_bytes subsection) 0)) result }
     {
         let name = name.as_bytes();
         let subsection = bytes_of(&subsection);

@@ -11,7 +11,7 @@ use Rattle.gitconf_state.specs.Edits.{RenameAll, renamed, with_sections}
 use Rattle.gitconf_state.specs.Lookup.{Miss, has_name, is_named, listed, listing, miss_of}
 use Rattle.gitconf_state.specs.Lookup as state
 use Rattle.gitconf_state.specs.State.{SectionState, State}
-use Rattle.gitconf_body.specs.Done.{Cause, InvalidName, InvalidSubsection, IsRefusedFor, Missing, TooLarge, checked, first_cause, is_full}
+use Rattle.gitconf_body.specs.Done.{Cause, InvalidName, InvalidSubsection, IsRefusedFor, Missing, TooLarge, checked, first_cause, is_full, heading_causes}
 use Rattle.gitconf_body.specs.Growth.{UsedGrows}
 use Rattle.gitconf_body.specs.Places.{IsLastPlace}
 use Rattle.gitconf_body.specs.Refusals.{header_refusal}
@@ -20,7 +20,7 @@ use Rattle.gitconf_lookups.specs.declared.existing.Error.TheVariants.{KeyMissing
 use Rattle.gitconf_lookups.specs.Misses.{missing}
 use Rattle.gitconf_store.specs.declared.rename_section.Error.{Error}
 use Rattle.gitconf_store.specs.declared.rename_section.Error.TheVariants.{Lookup, Memory}
-use Rattle.gitconf_store.specs.Edited.{IsEdited, causes, heading_causes}
+use Rattle.gitconf_store.specs.Edited.{IsEdited, causes}
 use Rattle.gitconf_store.specs.RenameErrors.{of_header, of_lookup, of_span, rename_refusal}
 use Rattle.gitconf_store.specs.Renamings.{marked_places, with_renamed, AreMarks, IsToldOfSome}
 use Rattle.gitconf_store.proofs.Headers.Renaming.{all_changed}

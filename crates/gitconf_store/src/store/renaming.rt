@@ -13,8 +13,8 @@ ghost use Rattle.gitconf_lookups.specs.declared.existing.Error.TheVariants.{KeyM
 ghost use Rattle.gitconf_store.specs.declared.rename_section.Error.TheVariants.{Lookup};
 ghost use Rattle.gitconf_store.specs.Renamings.{marked_places, with_renamed, AreMarks, AreSomeRenamed, IsToldOfSome};
 ghost use Rattle.gitconf_store.specs.RenameErrors.{rename_refusal};
-ghost use Rattle.gitconf_store.specs.Edited.{has_number, heading_causes, IsEdited};
-ghost use Rattle.gitconf_body.specs.Done.{checked, first_cause};
+ghost use Rattle.gitconf_store.specs.Edited.{has_number, IsEdited};
+ghost use Rattle.gitconf_body.specs.Done.{checked, first_cause, heading_causes};
 ghost use Rattle.gitconf_body.specs.Refusals.{header_refusal};
 
 use crate::headings::{passing_places, set_headers};

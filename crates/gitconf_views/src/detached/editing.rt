@@ -31,7 +31,9 @@ impl Section {
     ghost use Rattle.gitconf_text.specs.LineEnds.{bytes_of_line_end};
     ghost use Rattle.gitconf_body.specs.Below.{below_put};
     ghost use Rattle.gitconf_body.specs.Editors.{line_put, set_put};
-    ghost use Rattle.gitconf_views.specs.Alone.{is_refusal_of_header, with_items};
+    ghost use Rattle.gitconf_views.specs.Alone.{alone_renamed, with_items};
+    ghost use Rattle.gitconf_body.specs.Done.{heading_causes, IsDone};
+    ghost use Rattle.gitconf_body.specs.Refusals.{header_refusal};
     ghost use Rattle.gitconf_body.specs.Growth.{UsedGrows};
     ghost use Rattle.gitconf_body.specs.Blanks.{given_editor, IsGiven};
 
@@ -232,15 +234,8 @@ impl Section {
     /// otherwise `Span`, number 3, if and only if the buffer would be longer than 4294967295 bytes, and `Memory` when out of memory. The
     /// section is then as it was.
     pub fn rename(&mut self, name: &str, subsection: Option<&[u8]>) -> Result<(), header::Error>
-        ensures ok { OnOk result (self.new.section ≡ renamed name.now (option_copied subsection.entry) self.old.section) }
-        ensures invalid_name { IsErrOf result InvalidName ↔ (is_made_name name.now ≡ false) }
-        ensures invalid_subsection { IsErrOf result InvalidSubSection
-            ↔ ((is_made_name name.now ≡ true) × (is_valid_or_none (option_copied subsection.entry) ≡ false)) }
-        ensures too_large { IsErrOf result (Span 3) ↔ ((is_made_name name.now ≡ true) × (is_valid_or_none (option_copied subsection.entry) ≡ true)
-            × (2 ^ 32 ≤ self.old.used + header_bytes name.now (option_copied subsection.entry))) }
-        ensures known { IfErr result (λ e. is_refusal_of_header e ≡ true) }
-        ensures err { OnErr result (self.new ≡ self.old) }
-        ensures put { OnOk result (self.new.used ≡ self.old.used + header_bytes name.now (option_copied subsection.entry)) }
+        ensures { IsDone (heading_causes name.now (option_copied subsection.entry) self.old.used) header_refusal result
+            (alone_renamed name.now (option_copied subsection.entry) self.old) self.old self.new }
     {
         let name = name.as_bytes();
         header::validate(name, subsection)?;

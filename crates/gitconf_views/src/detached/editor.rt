@@ -86,10 +86,10 @@ impl<'a> DetachedSectionMut<'a> {
     ghost use Rattle.gitconf_state.specs.Editors.{line_end_pushed, marked_count, popped, popped_entry, pushed, pushed_after_last, removed, removed_marked, value_set};
     ghost use Rattle.gitconf_state.specs.Edits.{renamed, with_trust};
     ghost use Rattle.gitconf_body.specs.Puts.{after_last_bytes, line_bytes, value_set_bytes};
-    ghost use Rattle.gitconf_views.specs.Alone.{changed_alone, is_refusal_of_header, with_items, IsEditedAlone};
+    ghost use Rattle.gitconf_views.specs.Alone.{changed_alone, alone_renamed, with_items, IsEditedAlone};
     ghost use Rattle.gitconf_views.specs.AloneEditors.{edited, editor, lent};
-    ghost use Rattle.gitconf_body.specs.Done.{room_causes, IsDone};
-    ghost use Rattle.gitconf_body.specs.Refusals.{span_refusal};
+    ghost use Rattle.gitconf_body.specs.Done.{heading_causes, room_causes, IsDone};
+    ghost use Rattle.gitconf_body.specs.Refusals.{header_refusal, span_refusal};
 
     /// Pushes a line after the section's others: the blanks before a name, the name, and if a value is given `=` with the blanks around it
     /// and the value, as a file spells it; then the line ending, unless it is switched off. It looks at no item. Takes memory for what is
@@ -278,15 +278,8 @@ impl<'a> DetachedSectionMut<'a> {
     ) -> Result<(), header::Error>
         ensures same_section { lent self.new ≡ lent self.old }
         ensures same_editor { editor self.new ≡ editor self.old }
-        ensures ok { OnOk result ((edited self.new).section ≡ renamed name.now (option_map bstring_bytes subsection_name) (edited self.old).section) }
-        ensures invalid_name { IsErrOf result InvalidName ↔ (is_made_name name.now ≡ false) }
-        ensures invalid_subsection { IsErrOf result InvalidSubSection
-            ↔ ((is_made_name name.now ≡ true) × (is_valid_or_none (option_map bstring_bytes subsection_name) ≡ false)) }
-        ensures too_large { IsErrOf result (Span 3) ↔ ((is_made_name name.now ≡ true) × (is_valid_or_none (option_map bstring_bytes subsection_name) ≡ true)
-            × (2 ^ 32 ≤ (edited self.old).used + header_bytes name.now (option_map bstring_bytes subsection_name))) }
-        ensures known { IfErr result (λ e. is_refusal_of_header e ≡ true) }
-        ensures err { OnErr result (edited self.new ≡ edited self.old) }
-        ensures put { OnOk result ((edited self.new).used ≡ (edited self.old).used + header_bytes name.now (option_map bstring_bytes subsection_name)) }
+        ensures done { IsDone (heading_causes name.now (option_map bstring_bytes subsection_name) (edited self.old).used) header_refusal result
+            (alone_renamed name.now (option_map bstring_bytes subsection_name) (edited self.old)) (edited self.old) (edited self.new) }
     {
         self.section.rename(name, bytes_of(&subsection_name))
     }

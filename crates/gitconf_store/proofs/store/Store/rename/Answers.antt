@@ -7,10 +7,10 @@ use Rattle.gitconf_table.proofs.SectionLemmas.{number_at-place}
 use Rattle.gitconf_state.specs.Edit.{header_bytes, with_used}
 use Rattle.gitconf_state.specs.Edits.{Rename, apply, numbered, renamed}
 use Rattle.gitconf_state.specs.State.{State}
-use Rattle.gitconf_body.specs.Done.{IsRefusedFor, first_cause, room_causes}
+use Rattle.gitconf_body.specs.Done.{IsRefusedFor, first_cause, room_causes, header_causes, heading_causes}
 use Rattle.gitconf_body.specs.Refusals.{header_refusal}
 use Rattle.gitconf_views.specs.Store.{section_state}
-use Rattle.gitconf_store.specs.Edited.{header_causes, heading_causes, put_bytes}
+use Rattle.gitconf_store.specs.Edited.{put_bytes}
 use Rattle.gitconf_store.proofs.Edits.Numbered.{edited_stands, sections_keep_numbers}
 use Rattle.gitconf_store.proofs.Headers.Renamed.{bytes_there, renamed_nowhere}
 use Rattle.gitconf_store.proofs.Headers.Renaming.{is_numbered, marks_of, numbered_renamed, one_is, one_place, unnumbered, unnumbered_stays}

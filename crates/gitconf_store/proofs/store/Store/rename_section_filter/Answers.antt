@@ -1,11 +1,10 @@
 use Rattle.std.proofs.Common.{rules, ◌≡◌, true, Err, Ok, length, map, ap, ◌∙◌, refl}
 use Rattle.std.specs.Option.{option_copied}
-use Rattle.gitconf_body.specs.Done.{checked, first_cause}
+use Rattle.gitconf_body.specs.Done.{checked, first_cause, heading_causes}
 use Rattle.gitconf_body.specs.Refusals.{header_refusal}
 use Rattle.gitconf_state.specs.Edit.{is_target}
 use Rattle.gitconf_state.specs.Lookup.{is_named, listing}
 use Rattle.gitconf_state.specs.State.{SectionState}
-use Rattle.gitconf_store.specs.Edited.{heading_causes}
 use Rattle.gitconf_store.specs.RenameErrors.{of_lookup, of_span}
 use Rattle.gitconf_store.specs.declared.rename_section.Error.TheVariants.{Memory}
 use Rattle.gitconf_store.proofs.Headers.RenamingAll.{all_marks, fine_some, header_refused, header_refused_told, is_done, key_missing, key_missing_told, memory_wanting, names_missing, names_missing_told, no_passing, no_places, only_memory, some_marked, some_passes, target_found}
