@@ -17,13 +17,13 @@ pub set_with_old : (key : Key) (value : List ℕ) (old new : State) (was : BStri
     → Raw (Some (bstring_bytes was)) ≡ answer (set_by_key key (λ _. true) value) old → Holds (bstring_bytes was) block → IsSetTo key value old new 0 true block
 set_with_old key value old new was block is told holds = record { told = λ no. (Ok (Some was), is, told, (refl, refl, holds)) }
 
-pub pushed_in : (key : Key) (value : Option (List ℕ)) (old new : State) (number : ℕ) (told : ℕ × Editor) → option_map (editor_at old) (section_of key old) ≡ Some told
-    → IsEntryPushed told.0 told.1 key.name value old new number → IsPushed key value old new number
-pushed_in key value old new number told found pushed = record {
+pub pushed_in : (key : Key) (value : Option (List ℕ)) (old start new : State) (number id : ℕ) (editor : Editor) → start ≡ old → option_map (editor_at old) (section_of key old) ≡ Some (id, editor)
+    → IsEntryPushed id editor key.name value start new number → IsPushed key value old new number
+pushed_in key value old start new number id editor begun found pushed = record {
   nowhere = λ none. absurd (let no = sym (ap (option_map (editor_at old)) none) ∙ found in cc);
   pushed = λ s is out.
-      let same : editor_at old s ≡ told = some_same (editor_at old s) told (sym (ap (option_map (editor_at old)) is) ∙ found) in
-      subst (λ (t : ℕ × Editor). IsEntryPushed t.0 t.1 key.name value old new number) (sym same) pushed;
+      let same : editor_at old s ≡ (id, editor) = some_same (editor_at old s) (id, editor) (sym (ap (option_map (editor_at old)) is) ∙ found) in
+      subst (λ (t : ℕ × Editor). IsEntryPushed t.0 t.1 key.name value old new number) (sym same) (subst (λ from. IsEntryPushed id editor key.name value from new number) begun pushed);
 }
   where
     some_same : (a b : ℕ × Editor) → Some a ≡ Some b → a ≡ b

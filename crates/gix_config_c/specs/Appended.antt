@@ -1,18 +1,15 @@
 -- What is appended to a file.
-use Rattle.std.specs.Prelude.{◌≡◌, ◌⊎◌, ◌+◌, ◌<◌, ◌≤◌, ◌^◌, ℕ, length}
-use Rattle.gitconf_state.specs.Edit.{with_used}
-use Rattle.gitconf_state.specs.Edits.{Append, apply}
+use Rattle.std.specs.Prelude.{◌≡◌, ℕ, Result, Ok, Err}
+use Rattle.gitconf_body.specs.Refusals.{span_refusal}
+use Rattle.gitconf_state.specs.Edits.{Append}
 use Rattle.gitconf_state.specs.State.{State}
-use Rattle.gitconf_store.specs.Appends.{appended_bytes}
-use Rattle.gitconf_text.specs.Sections.{no_number}
+use Rattle.gitconf_store.specs.Edited.{IsEdited}
 
--- the other file has too many bytes or sections to be appended
-abbrev pub IsTooLarge : (other old : State) → Type 0
-IsTooLarge other old = (2 ^ 32 ≤ old.used + appended_bytes other old) ⊎ (no_number < old.next + length other.sections)
+-- the number that is answered: 0, or that of the refusal
+abbrev pub appended_number : Result (Unit {0}) ℕ → ℕ
+appended_number (Ok done) = 0
+appended_number (Err number) = number
 
--- Number 0 where the other file was appended, 3 where it is too large; else memory ran out.
+-- The other file was appended, or refused; or memory ran out.
 pub record IsAppended (other old new : State) (number : ℕ) : Type 0 where
-  pub done : number ≡ 0 → new ≡ with_used (old.used + appended_bytes other old) (apply (Append other) old)
-  pub fits : number ≡ 0 → IsTooLarge other old → ⊥
-  pub too_large : number ≡ 3 → IsTooLarge other old
-  pub short : (number ≡ 0 → ⊥) → (number ≡ 3 → ⊥) → number ≡ 27
+  pub told : (number ≡ 27 → ⊥) → (r : Result (Unit {0}) ℕ) × IsEdited span_refusal (Append other) r old new × (number ≡ appended_number r)

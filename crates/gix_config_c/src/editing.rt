@@ -9,6 +9,7 @@ ghost use Rattle.gitconf_state.specs.State.{State};
 ghost use Rattle.gix_config.specs.SectionEditors.{edited, editor, lent, number_of};
 ghost use Rattle.gix_config_c.specs.Answers.{OfFile, OfKey};
 ghost use Rattle.gix_config_c.specs.Edited.{IsEditedFile};
+ghost use Rattle.gix_config_c.specs.Entries as entries;
 ghost use Rattle.gix_config_c.specs.Entries.{IsEntryPushed, IsEntryRemoved, IsPushed, IsValueRemoved};
 
 use crate::block::{Block, room};
@@ -19,6 +20,7 @@ use crate::{DONE, NOT_UTF8, NOTHING_THERE, OUT_OF_MEMORY, WRONG_HANDLE};
 use gitconf_sources::key::KeyRef;
 use gix_config::File;
 use gix_config::file::SectionMut;
+use gix_config::file::section::value;
 use gix_config::refusals::Refusal as _;
 use std::alloc::Global;
 
@@ -63,7 +65,6 @@ fn push(file: &mut File, key: &Key<'_>, has_value: bool, value: &[u8]) -> u32
 }
 
 /// Adds an entry to the section of a key.
-#[tactic(auto, using(crate::proofs::ValueLemmas::pushed_in))]
 fn push_value(file: &mut File, key: KeyRef<'_>, value: Option<&[u8]>) -> u32
     ensures edited { IsEditedFile result file.old file.new }
     ensures answer { IsPushed (key_of key.entry) (option_copied value.entry) file.old file.new result }
@@ -81,7 +82,14 @@ fn push_entry(section: &mut SectionMut<'_>, name: &str, value: Option<&[u8]>) ->
     ensures answer { IsEntryPushed (number_of section.old) (editor section.old) name.now (option_copied value.entry) (edited section.old)
         (edited section.new) result }
 {
-    match section.push(name, value) {
+    answered(section.push(name, value))
+}
+
+/// The number of an answer: 0, or that of the refusal.
+pub(crate) fn answered(pushed: Result<(), value::Error>) -> u32
+    ensures { result ≡ entries.answered pushed }
+{
+    match pushed {
         Ok(()) => DONE,
         Err(refusal) => u32::from(refusal.number()),
     }

@@ -16,7 +16,7 @@ ghost use Rattle.gix_config_c.specs.Sections.{new_number};
 ghost use Rattle.gix_config_c.specs.declared.object.Object.TheVariants as object;
 
 use crate::block::{Block, room};
-use crate::editing::remove_entry;
+use crate::editing::{answered, remove_entry};
 use crate::key::{SectionKey, section_names, text};
 use crate::line::{Assigned, Line};
 use crate::object::Object;
@@ -105,14 +105,10 @@ fn push_line(section: &mut SectionMut<'_>, name: &str, line: &Line<'_>) -> u32
     } else {
         None
     };
-    let pushed = if line.has_comment {
-        section.push_with_comment(name, value, line.comment)
+    if line.has_comment {
+        answered(section.push_with_comment(name, value, line.comment))
     } else {
-        section.push(name, value)
-    };
-    match pushed {
-        Ok(()) => DONE,
-        Err(refusal) => u32::from(refusal.number()),
+        answered(section.push(name, value))
     }
 }
 
