@@ -1,7 +1,7 @@
 -- How the end of a step is one of the run.
 use Rattle.std.proofs.Common.{◌≡◌, ◌≢◌, ◌⊎◌, inl, inr, ⊎_elim, Bool, true, false, List, [], ◌∷◌, ◌++◌, Option, None, Some, Result, Ok, Err, OnOk, sym, ◌∙◌, ap}
 use Rattle.std.specs.declared.io.Error.{Error}
-use Rattle.gixcfg_replacing.specs.Disk.{Name, Text, Disk, last_found, seen, IsQuiet, Keeps, IsLeftAlone, GoesOn, HasCause, Makes, IsMoved, IsDown}
+use Rattle.gixcfg_replacing.specs.Disk.{Name, Text, Disk, last_found, seen, IsQuiet, KeepsName, IsLeftAlone, GoesOn, HasCause, Makes, IsMovedOver, IsDown}
 use Rattle.gixcfg_replacing.specs.Edit.{IsNext}
 use Rattle.gixcfg_replacing.specs.Steps.{AddsOnly, LeavesDraft, SwapsAs, LocksAs}
 use Rattle.gixcfg_replacing.specs.declared.ended.Ended.{Ended}
@@ -18,19 +18,19 @@ module _ {F : Type 0} (disk : Disk F) (a b : F) (name : Name) where
   was_taken false is makes = makes
 
 -- a file and its draft are as they were, and then the draft is moved
-module _ {F : Type 0} (disk : Disk F) (a b c : F) (file draft : Name) (before : Option Text) (text : Text) (had : seen disk a file ≡ before) (down : IsDown disk a draft text) (draft_ab : Keeps disk a b draft) (file_ab : Keeps disk a b file) where
-  moved_past : IsMoved disk b c draft file → disk.past c file ≡ Some text ∷ disk.past a file
+module _ {F : Type 0} (disk : Disk F) (a b c : F) (file draft : Name) (before : Option Text) (text : Text) (had : seen disk a file ≡ before) (down : IsDown disk a draft text) (draft_ab : KeepsName disk a b draft) (file_ab : KeepsName disk a b file) where
+  moved_past : IsMovedOver disk b c draft file → disk.past c file ≡ Some text ∷ disk.past a file
   moved_past moved =
       moved.found ∙ ap (λ found. found ∷ disk.past b file) (seen_same disk a b draft draft_ab ∙ down.found) ∙ ap (λ (earlier : List (Option Text)). Some text ∷ earlier) file_ab.found
 
-  pub swapped : IsMoved disk b c draft file → SwapsAs disk a c file before text (Ok tt)
+  pub swapped : IsMovedOver disk b c draft file → SwapsAs disk a c file before text (Ok tt)
   swapped moved = (
     had,
     moved_past moved,
     record { found = ap last_found (moved_past moved); holds = λ held h. down.holds held (draft_ab.holds held (moved.holds held h)) },
   )
 
-  pub unsure : (error : Error) → GoesOn disk a b → HasCause disk b c error → Keeps disk b c file ⊎ IsMoved disk b c draft file → SwapsAs disk a c file before text (Err (Unsure error))
+  pub unsure : (error : Error) → GoesOn disk a b → HasCause disk b c error → KeepsName disk b c file ⊎ IsMovedOver disk b c draft file → SwapsAs disk a c file before text (Err (Unsure error))
   unsure error ab cause either = (
     cause_on disk a b c error ab cause,
     had,
@@ -40,13 +40,13 @@ module _ {F : Type 0} (disk : Disk F) (a b c : F) (file draft : Name) (before : 
 -- a lock is made (ab), the draft is moved or not (bc), and the lock is removed (cd)
 module _ {F : Type 0} (disk : Disk F) (a b c d : F) (file : Name) (ab : GoesOn disk a b) (bc : GoesOn disk b c) (cd : GoesOn disk c d) where
   module _ (text : Text) (file_ab : IsLeftAlone disk a b file) (file_cd : IsLeftAlone disk c d file) where
-    first : IsQuiet disk a d file → Keeps disk a b file
+    first : IsQuiet disk a d file → KeepsName disk a b file
     first quiet = file_ab.kept (quiet_first disk a b d file ab (goes_on disk b c d bc cd) quiet)
 
-    last : IsQuiet disk a d file → Keeps disk c d file
+    last : IsQuiet disk a d file → KeepsName disk c d file
     last quiet = file_cd.kept (quiet_next disk a c d file (goes_on disk a b c ab bc) cd quiet)
 
-    all : IsQuiet disk a d file → Keeps disk b c file → Keeps disk a d file
+    all : IsQuiet disk a d file → KeepsName disk b c file → KeepsName disk a d file
     all quiet keeps = keeps_on disk a c d file (goes_on disk a b c ab bc) (keeps_on disk a b c file ab (first quiet) keeps) (last quiet)
 
     pub locks : (before : Option Text) (lock : Name) (result : Result (Unit {0}) Ended) → (IsQuiet disk a b lock → seen disk a lock ≡ None) → SwapsAs disk b c file before text result → IsQuiet disk a d file

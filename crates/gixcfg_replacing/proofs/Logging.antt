@@ -3,7 +3,7 @@ use Rattle.std.proofs.Common.{◌≡◌, ◌≢◌, inl, inr, ⊎_elim, ℕ, ◌
 use Rattle.std.specs.declared.alloc.Global.{Global}
 use Rattle.std.specs.declared.io.Error.{Error}
 use Rattle.gixcfg_replacing.specs.Changes.{Change, told_since, told_after, told_making, Making}
-use Rattle.gixcfg_replacing.specs.Disk.{Name, Text, Disk, last_found, lock_of, IsQuiet, Keeps, IsLeftAlone, IsRespected, GoesOn, HasCause, Makes, Moves, IsOldOrMoved}
+use Rattle.gixcfg_replacing.specs.Disk.{Name, Text, Disk, last_found, lock_of, IsQuiet, KeepsName, IsLeftAlone, IsRespected, GoesOn, HasCause, Makes, Moves, IsOldOrMoved}
 use Rattle.gixcfg_replacing.specs.Calls.{is_same, past, is_synced, may_hold, may_leave, left_since, counts_now, is_ours, others_at, faults_in, change_of, changes_in}
 use Rattle.gixcfg_replacing.specs.Logged.{calls_of, logged_disk, IsFree, IsOthersDoing, Does}
 use Rattle.gixcfg_replacing.specs.declared.call.Call.{Call}
@@ -82,7 +82,7 @@ module _ {C : Type 0} (told : C → Option (List Change)) (old new : LoggedFolde
 
   -- a call was kept
   module _ (call : Call) (is : calls_of new ≡ call ∷ calls_of old) where
-    keeps_so : (n : Name) → Untouched call (calls_of old) n → Keeps (logged_disk told) old new n
+    keeps_so : (n : Name) → Untouched call (calls_of old) n → KeepsName (logged_disk told) old new n
     keeps_so n untouched = record {
       found = ap (λ calls. past calls n) is ∙ untouched.found;
       holds = λ text hold. untouched.holds text (subst (λ calls. may_hold calls n text) is hold);
@@ -329,7 +329,7 @@ module _ {C : Type 0} (told : C → Option (List Change)) (old new : LoggedFolde
   gone_from : (older : List Call) → last_found (past (Renamed f t ∷ older) from) ≡ None
   gone_from older = rw (not_there, is_it f from f_is) refl
 
-  stays : (n : Name) → calls_of new ≡ Fault ∷ calls_of old → Keeps (logged_disk told) old new n
+  stays : (n : Name) → calls_of new ≡ Fault ∷ calls_of old → KeepsName (logged_disk told) old new n
   stays n is = keeps_so told old new Fault is n (fault_all (calls_of old) n)
 
   pub does_move : (result : Result (Unit {0}) Error) → is_ours (calls_of old) from ≡ true → Does (Renamed f t) (calls_of old) (calls_of new) result → Moves (logged_disk told) old new from to result

@@ -2,7 +2,7 @@
 use Rattle.std.proofs.Common.{◌≡◌, inl, inr, ⊎_elim, List, [], ◌++◌, Option, None, Some, refl, sym, ◌∙◌, ap, arith, append_assoc}
 use Rattle.std.specs.declared.io.Error.{Error}
 use Rattle.gixcfg_replacing.specs.Changes.{Change, told_since}
-use Rattle.gixcfg_replacing.specs.Disk.{Name, Text, Disk, last_found, seen, lock_of, IsQuiet, Keeps, IsLeftAlone, IsRespected, GoesOn, HasCause, IsDown, IsOldOrMoved}
+use Rattle.gixcfg_replacing.specs.Disk.{Name, Text, Disk, last_found, seen, lock_of, IsQuiet, KeepsName, IsLeftAlone, IsRespected, GoesOn, HasCause, IsDown, IsOldOrMoved}
 use Rattle.gixcfg_replacing.specs.Steps.{AddsOnly}
 
 pub told_none : (told : Option (List Change)) → told_since [] told ≡ told
@@ -14,7 +14,7 @@ told_twice late early None = refl
 told_twice late early (Some before) = ap Some (sym (append_assoc late early before))
 
 module _ {F : Type 0} (disk : Disk F) where
-  pub unmoved : (a : F) (n : Name) → Keeps disk a a n
+  pub unmoved : (a : F) (n : Name) → KeepsName disk a a n
   unmoved a n = record { found = refl; holds = λ text h. h; leaves = λ left h. h; since = λ t left le h. h }
 
   pub stays : (a : F) → GoesOn disk a a
@@ -37,7 +37,7 @@ module _ {F : Type 0} (disk : Disk F) where
           (late.0 ++ early.0, late.1 ∙ ap (λ (l : List Change). late.0 ++ l) early.1 ∙ sym (append_assoc late.0 early.0 (disk.kept a)), late.2 ∙ ap (told_since late.0) early.2 ∙ told_twice late.0 early.0 (disk.told a));
     }
 
-    pub keeps_on : (n : Name) → GoesOn disk a b → Keeps disk a b n → Keeps disk b c n → Keeps disk a c n
+    pub keeps_on : (n : Name) → GoesOn disk a b → KeepsName disk a b n → KeepsName disk b c n → KeepsName disk a c n
     keeps_on n time first next = record {
       found = next.found ∙ first.found;
       holds = λ text h. first.holds text (next.holds text h);
@@ -79,21 +79,21 @@ module _ {F : Type 0} (disk : Disk F) where
     adds_on n text time first next = λ t left le h. ⊎_elim (first t left le) (λ new. inr new) (next t left (omega (arith, le, time.later)) h)
 
   module _ (a b : F) (n : Name) where
-    pub seen_same : Keeps disk a b n → seen disk b n ≡ seen disk a n
+    pub seen_same : KeepsName disk a b n → seen disk b n ≡ seen disk a n
     seen_same keeps = ap last_found keeps.found
 
-    pub adds_nothing : (text : Text) → Keeps disk a b n → AddsOnly disk a b n text
+    pub adds_nothing : (text : Text) → KeepsName disk a b n → AddsOnly disk a b n text
     adds_nothing text keeps = λ t left le h. inl (keeps.since t left le h)
 
-    pub still_down : (text : Text) → Keeps disk a b n → IsDown disk a n text → IsDown disk b n text
+    pub still_down : (text : Text) → KeepsName disk a b n → IsDown disk a n text → IsDown disk b n text
     still_down text keeps down = record { found = seen_same keeps ∙ down.found; holds = λ held h. down.holds held (keeps.holds held h) }
 
     -- what is ours stays as it is while we leave it alone
-    pub ours_keeps : disk.ours a n → IsRespected disk a b n → IsLeftAlone disk a b n → Keeps disk a b n
+    pub ours_keeps : disk.ours a n → IsRespected disk a b n → IsLeftAlone disk a b n → KeepsName disk a b n
     ours_keeps ours respect alone = alone.kept (respect ours).0
 
     -- and so does a file whose lock is ours
-    pub locked_keeps : disk.ours a (lock_of n) → IsRespected disk a b (lock_of n) → IsLeftAlone disk a b n → Keeps disk a b n
+    pub locked_keeps : disk.ours a (lock_of n) → IsRespected disk a b (lock_of n) → IsLeftAlone disk a b n → KeepsName disk a b n
     locked_keeps ours respect alone = alone.kept ((respect ours).1 n refl)
 
   -- a draft that is down is moved

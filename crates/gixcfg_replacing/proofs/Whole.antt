@@ -1,7 +1,7 @@
 -- How an edit goes on after what was before it, and before what comes after it.
 use Rattle.std.proofs.Common.{◌≡◌, ◌≢◌, inl, inr, ⊎_elim, List, ◌∷◌, ◌++◌, Option, None, Some, IfSome, Ok, Err, sym, ◌∙◌, ap, append_assoc}
 use Rattle.std.specs.declared.io.Error.{Error}
-use Rattle.gixcfg_replacing.specs.Disk.{Name, Text, Disk, last_found, seen, IsQuiet, Keeps, IsLeftAlone, GoesOn, HasCause, IsDown, IsLeftOf}
+use Rattle.gixcfg_replacing.specs.Disk.{Name, Text, Disk, last_found, seen, IsQuiet, KeepsName, IsLeftAlone, GoesOn, HasCause, IsDown, IsLeftOf}
 use Rattle.gixcfg_replacing.specs.Edit.{IsNext, IsTidied, IfNew, EndsAs, Edits}
 use Rattle.gixcfg_replacing.specs.Steps.{AreBeside, AddsOnly, LocksAs, SettlesAs, IsUndone, IsOwn}
 use Rattle.gixcfg_replacing.specs.declared.ended.Ended.{Ended}
@@ -26,7 +26,7 @@ module _ {F : Type 0} (disk : Disk F) (a b c : F) (file draft lock : Name) (befo
   lock_bc : IsLeftAlone disk b c lock
   lock_bc = alone lock names.apart
 
-  ends_then : (ended : Ended) → GoesOn disk a b → Keeps disk b c file → EndsAs disk a b file before text draft lock ended → EndsAs disk a c file before text draft lock ended
+  ends_then : (ended : Ended) → GoesOn disk a b → KeepsName disk b c file → EndsAs disk a b file before text draft lock ended → EndsAs disk a c file before text draft lock ended
   ends_then Done ab keeps (free, is) = (λ quiet. free (quiet_first disk a b c lock ab bc quiet), record { had = is.had; has = seen_same disk b c file keeps ∙ is.has; rest = λ left h. is.rest left (keeps.leaves left h) ∙ sym (seen_same disk b c file keeps) })
   ends_then Changed ab keeps (other, kept) = (other, keeps_on disk a b c file ab kept keeps)
   ends_then Locked ab keeps (held, kept) = (λ quiet. held (quiet_first disk a b c lock ab bc quiet), keeps_on disk a b c file ab kept keeps)
@@ -77,7 +77,7 @@ module _ {F : Type 0} (disk : Disk F) (a b c : F) (file draft lock : Name) (befo
   lock_ab : IsLeftAlone disk a b lock
   lock_ab = alone lock names.apart
 
-  ends_first : (ended : Ended) → GoesOn disk b c → Keeps disk a b file → IsOwn ended → EndsAs disk b c file before text draft lock ended → EndsAs disk a c file before text draft lock ended
+  ends_first : (ended : Ended) → GoesOn disk b c → KeepsName disk a b file → IsOwn ended → EndsAs disk b c file before text draft lock ended → EndsAs disk a c file before text draft lock ended
   ends_first Done bc keeps own (free, is) =
       (λ quiet. sym (seen_same disk a b lock (lock_ab.kept (quiet_first disk a b c lock ab bc quiet))) ∙ free (quiet_next disk a b c lock ab bc quiet), record { had = sym (seen_same disk a b file keeps) ∙ is.had; has = is.has; rest = is.rest })
   ends_first Changed bc keeps own (other, kept) = (λ same. other (seen_same disk a b file keeps ∙ same), keeps_on disk a b c file ab keeps kept)
@@ -184,7 +184,7 @@ module _ {F : Type 0} (disk : Disk F) (a b : F) (file draft lock : Name) (before
           record { had = is.1; has = has; rest = λ left h. left_down (seen disk c file) has left (down file late left h) is.2 keeps ∙ sym has },
         )
       where
-        left_down : (now : Option Text) → now ≡ Some text → (left : Option Text) → IsLeftOf disk c file now left → IsDown disk b file text → Keeps disk b c file → left ≡ Some text
+        left_down : (now : Option Text) → now ≡ Some text → (left : Option Text) → IsLeftOf disk c file now left → IsDown disk b file text → KeepsName disk b c file → left ≡ Some text
         left_down None is left h down keeps = absurd (cc)
         left_down (Some now) is left (held, holds, e) down keeps = e ∙ ap Some (down.holds held (keeps.holds held holds))
     settled_ends (Unsynced error) cause quiet =

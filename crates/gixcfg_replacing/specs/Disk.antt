@@ -73,7 +73,7 @@ module _ {F : Type 0} (disk : Disk F) (old new : F) where
   IsQuiet name = disk.others new name ≡ disk.others old name
 
   -- Nothing happens at a name: readers find what they found, and a crash leaves there only what one might have left before.
-  pub record Keeps (name : Name) : Type 0 where
+  pub record KeepsName (name : Name) : Type 0 where
     pub found : disk.past new name ≡ disk.past old name
     pub holds : (text : Text) → disk.may_hold new name text → disk.may_hold old name text
     pub leaves : (left : Option Text) → disk.may_leave new name left → disk.may_leave old name left
@@ -81,7 +81,7 @@ module _ {F : Type 0} (disk : Disk F) (old new : F) where
 
   -- what these calls don't change
   pub record IsLeftAlone (name : Name) : Type 0 where
-    pub kept : IsQuiet name → Keeps name
+    pub kept : IsQuiet name → KeepsName name
     pub ours : disk.ours old name → disk.ours new name
 
   -- Time goes on, and what was found, and what a crash might have left, isn't forgotten.
@@ -109,15 +109,15 @@ module _ {F : Type 0} (disk : Disk F) (old new : F) where
   Makes name (Err error) = IsLeftAlone name
 
   -- The file at a name is at another one now, in place of what was there.
-  pub record IsMoved (from to : Name) : Type 0 where
+  pub record IsMovedOver (from to : Name) : Type 0 where
     pub found : disk.past new to ≡ seen disk old from ∷ disk.past old to
     pub gone : IsQuiet from → seen disk new from ≡ None
     pub holds : (text : Text) → disk.may_hold new to text → disk.may_hold old from text
 
   -- The file is moved; at an error it may be or not, and its old name is ours still.
   abbrev pub Moves : (from to : Name) → Result (Unit {0}) Error → Type 0
-  Moves from to (Ok done) = IsMoved from to
-  Moves from to (Err error) = disk.ours new from × (Keeps to ⊎ IsMoved from to)
+  Moves from to (Ok done) = IsMovedOver from to
+  Moves from to (Err error) = disk.ours new from × (KeepsName to ⊎ IsMovedOver from to)
 
   -- At each moment a crash leaves at the name what it might have left there before, or the file that is moved there.
   abbrev pub IsOldOrMoved : (from to : Name) → Type 0

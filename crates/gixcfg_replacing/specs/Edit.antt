@@ -1,7 +1,7 @@
 -- What the replacement of a file's text does.
 use Rattle.std.specs.Prelude.{◌≡◌, ◌≢◌, ◌⊎◌, ℕ, ◌≤◌, List, ◌∷◌, ◌++◌, Option, None, Some, IfSome, codes}
 use Rattle.std.specs.declared.io.Error.{Error}
-use Rattle.gixcfg_replacing.specs.Disk.{Name, Text, Disk, last_found, seen, IsAtRest, IsQuiet, Keeps, IsLeftAlone, GoesOn, HasCause}
+use Rattle.gixcfg_replacing.specs.Disk.{Name, Text, Disk, last_found, seen, IsAtRest, IsQuiet, KeepsName, IsLeftAlone, GoesOn, HasCause}
 use Rattle.gixcfg_replacing.specs.declared.ended.Ended.{Ended}
 use Rattle.gixcfg_replacing.specs.declared.ended.Ended.TheVariants.{Done, Changed, Locked, Drafted, Failed, Unsure, Unsynced}
 use Rattle.gixcfg_replacing.specs.declared.ended.Edited.{Edited}
@@ -12,7 +12,7 @@ draft_of file number = (file ++ codes ".gixcfg-") ++ number
 
 -- beside the file: what somebody else has at a name stays, and our own is gone, or it is told why it couldn't be removed
 pub record IsTidied {F : Type 0} (disk : Disk F) (old new : F) (name : Name) (told : Option Error) : Type 0 where
-  pub theirs : IsQuiet disk old new name → seen disk old name ≢ None → Keeps disk old new name
+  pub theirs : IsQuiet disk old new name → seen disk old name ≢ None → KeepsName disk old new name
   pub own : told ≡ None → IsQuiet disk old new name → seen disk old name ≡ None → seen disk new name ≡ None
   pub cause : IfSome told (HasCause disk old new)
 
@@ -38,10 +38,10 @@ module _ {F : Type 0} (disk : Disk F) (old new : F) (file : Name) (before : Opti
   -- what each end says of the file: it is as it was, but for where it is done and the last two
   abbrev pub EndsAs : (draft lock : Name) → Ended → Type 0
   EndsAs draft lock Done = (IsQuiet disk old new lock → seen disk old lock ≡ None) × IsReplaced
-  EndsAs draft lock Changed = (seen disk old file ≢ before) × Keeps disk old new file
-  EndsAs draft lock Locked = (IsQuiet disk old new lock → seen disk old lock ≢ None) × Keeps disk old new file
-  EndsAs draft lock Drafted = (IsQuiet disk old new draft → seen disk old draft ≢ None) × Keeps disk old new file
-  EndsAs draft lock (Failed error) = HasCause disk old new error × Keeps disk old new file
+  EndsAs draft lock Changed = (seen disk old file ≢ before) × KeepsName disk old new file
+  EndsAs draft lock Locked = (IsQuiet disk old new lock → seen disk old lock ≢ None) × KeepsName disk old new file
+  EndsAs draft lock Drafted = (IsQuiet disk old new draft → seen disk old draft ≢ None) × KeepsName disk old new file
+  EndsAs draft lock (Failed error) = HasCause disk old new error × KeepsName disk old new file
   EndsAs draft lock (Unsure error) = HasCause disk old new error × (seen disk old file ≡ before) × ((seen disk new file ≡ before) ⊎ (seen disk new file ≡ Some text))
   EndsAs draft lock (Unsynced error) = HasCause disk old new error × (seen disk old file ≡ before) × (seen disk new file ≡ Some text)
 

@@ -1,6 +1,6 @@
 -- What the steps of an edit do.
 use Rattle.std.specs.Prelude.{◌≡◌, ◌≢◌, ◌⊎◌, ℕ, ◌≤◌, ◌∷◌, Option, None, Some, Result, Ok, Err}
-use Rattle.gixcfg_replacing.specs.Disk.{Name, Text, Disk, seen, lock_of, IsQuiet, Keeps, HasCause, IsDown, IsNameDown}
+use Rattle.gixcfg_replacing.specs.Disk.{Name, Text, Disk, seen, lock_of, IsQuiet, KeepsName, HasCause, IsDown, IsNameDown}
 use Rattle.gixcfg_replacing.specs.declared.ended.Ended.{Ended}
 use Rattle.gixcfg_replacing.specs.declared.ended.Ended.TheVariants.{Done, Changed, Locked, Drafted, Failed, Unsure, Unsynced}
 
@@ -25,17 +25,17 @@ module _ {F : Type 0} (disk : Disk F) (old new : F) (file : Name) (before : Opti
   -- under the lock: the draft is the file, or the file is as it was, or one of both where the rename failed
   abbrev pub SwapsAs : Result (Unit {0}) Ended → Type 0
   SwapsAs (Ok done) = (seen disk old file ≡ before) × (disk.past new file ≡ Some text ∷ disk.past old file) × IsDown disk new file text
-  SwapsAs (Err Changed) = (seen disk old file ≢ before) × Keeps disk old new file
-  SwapsAs (Err (Failed error)) = HasCause disk old new error × Keeps disk old new file
+  SwapsAs (Err Changed) = (seen disk old file ≢ before) × KeepsName disk old new file
+  SwapsAs (Err (Failed error)) = HasCause disk old new error × KeepsName disk old new file
   SwapsAs (Err (Unsure error)) = HasCause disk old new error × (seen disk old file ≡ before) × ((seen disk new file ≡ before) ⊎ (seen disk new file ≡ Some text))
   SwapsAs (Err ended) = ⊥
 
   -- with the lock: as under it, or it is somebody else's
   abbrev pub LocksAs : Name → Result (Unit {0}) Ended → Type 0
   LocksAs lock (Ok done) = (IsQuiet disk old new lock → seen disk old lock ≡ None) × (seen disk old file ≡ before) × IsDown disk new file text
-  LocksAs lock (Err Changed) = (seen disk old file ≢ before) × Keeps disk old new file
-  LocksAs lock (Err Locked) = (IsQuiet disk old new lock → seen disk old lock ≢ None) × Keeps disk old new file
-  LocksAs lock (Err (Failed error)) = HasCause disk old new error × Keeps disk old new file
+  LocksAs lock (Err Changed) = (seen disk old file ≢ before) × KeepsName disk old new file
+  LocksAs lock (Err Locked) = (IsQuiet disk old new lock → seen disk old lock ≢ None) × KeepsName disk old new file
+  LocksAs lock (Err (Failed error)) = HasCause disk old new error × KeepsName disk old new file
   LocksAs lock (Err (Unsure error)) = HasCause disk old new error × (seen disk old file ≡ before) × ((seen disk new file ≡ before) ⊎ (seen disk new file ≡ Some text))
   LocksAs lock (Err ended) = ⊥
 

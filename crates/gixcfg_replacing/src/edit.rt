@@ -1,6 +1,6 @@
 //! The text of a file replaced in place.
 ghost use Rattle.std.specs.Prelude.{◌≡◌, ◌≢◌, ◌↔◌, ℕ, List, [], Option, Some, None, option_map, IfOk, IfErr, IfSome, OnOk, OnErr, IsTrue};
-ghost use Rattle.gixcfg_replacing.specs.Disk.{seen, lock_of, IsQuiet, Keeps, IsLeftAlone, IsRespected, GoesOn, HasCause, IsDown};
+ghost use Rattle.gixcfg_replacing.specs.Disk.{seen, lock_of, IsQuiet, KeepsName, IsLeftAlone, IsRespected, GoesOn, HasCause, IsDown};
 ghost use Rattle.gixcfg_replacing.specs.Edit.{draft_of as draft_of_lem, IsNext, IsTidied, LeavesOldOrNew, Edits};
 ghost use Rattle.gixcfg_replacing.specs.Steps.{AreBeside, LeavesDraft, SwapsAs, LocksAs, SettlesAs, IsUndone, IsOwn, AddsOnly};
 
@@ -29,7 +29,7 @@ fn fill<F: Folder>(folder: &mut F, file: &str, draft: &str, text: &[u8]) -> io::
 fn has<F: Folder>(folder: &mut F, file: &str, before: Option<&[u8]>) -> io::Result<bool>
     requires { F.disk.ours folder.old (lock_of file.now) }
     ensures same { IfOk result (λ same. IsTrue same ↔ (seen F.disk folder.old file.now ≡ option_map (λ text. text.now) before.entry)) }
-    ensures kept { Keeps F.disk folder.old folder.new file.now }
+    ensures kept { KeepsName F.disk folder.old folder.new file.now }
     ensures alone { (other : List ℕ) → IsLeftAlone F.disk folder.old folder.new other }
     ensures respect { (other : List ℕ) → IsRespected F.disk folder.old folder.new other }
     ensures time { GoesOn F.disk folder.old folder.new }
