@@ -11,7 +11,7 @@ use Rattle.gitconf_state.specs.State.{AreNumbered, SectionState, State}
 use Rattle.gitconf_state.proofs.Edits.Keep.{behind_last_holds, holds_appended}
 use Rattle.gitconf_includes.specs.Expansion.{Asks, Expands, included_meta, IsFetched, On, Reached}
 use Rattle.gitconf_includes.specs.Laws.{file_of, IsIncludedBy, StandBehind}
-use Rattle.gitconf_includes.proofs.Keeping.{expansion_from, limit, one_level, EachStepKeeps}
+use Rattle.gitconf_includes.proofs.Keeping.{Any, any_named, expansion_from, limit, one_level, EachStepKeeps}
 use Rattle.gitconf_includes.proofs.States.{fetched_load}
 
 -- all sections come from an include of a section from there, or from one further down
@@ -66,8 +66,8 @@ all_below : (left : ℕ) (asks : Asks) (parent : Option State) (from : Meta) (ol
 unfolding Expands
 all_below zero asks parent from old r all is = limit (λ file. AreIncludedBy from file.sections) asks old r all is
 all_below (suc left) asks parent from old r all is =
-    one_level (Below from) (IsUnderWay from) (λ here other. AreIncludedBy here other.sections) (λ file. AreIncludedBy from file.sections) asks (Expands left asks) (below_kept from)
-    (λ here path other above full fetched deeper. all_below left asks (Some above) here other (On full) (fetched_included asks here path other fetched) deeper)
+    one_level (Below from) (IsUnderWay from) (λ here other. AreIncludedBy here other.sections) (λ file. AreIncludedBy from file.sections) asks (Expands left asks) (below_kept from) Any
+    (λ s rest done more. any_named asks s) (λ here path other above full named fetched deeper. all_below left asks (Some above) here other (On full) (fetched_included asks here path other fetched) deeper)
     parent old r (record { done_are = tt; rest_are = all }) is
 
 -- where the last own section comes from
@@ -183,5 +183,5 @@ behind_kept below = record {
 pub stand_behind : (left : ℕ) (asks : Asks) (parent : Option State) (old : State) (r : Reached) → AreNumbered old.next old.sections → Expands left asks parent old r → StandBehind old.next None (file_of r).sections
 stand_behind left asks parent old r numbered expands =
     expansion_from (Between old.next) (IsBehindOwn old.next) (λ from other. AreIncludedBy from other.sections) (λ file. StandBehind old.next None file.sections) asks (behind_kept old.next)
-    (λ n from path other above full fetched deeper. all_below n asks (Some above) from other (On full) (fetched_included asks from path other fetched) deeper)
+    (λ n from path other above full named fetched deeper. all_below n asks (Some above) from other (On full) (fetched_included asks from path other fetched) deeper)
     left parent old r (record { next = omega arith; done_stand = tt; rest_own = are_own old.next old.sections numbered }) expands

@@ -69,7 +69,7 @@ numbered_put_in other rest done all =
 
 pub numbers_stay : (left : ℕ) (asks : Asks) (parent : Option State) (old : State) (r : Reached) → AreNumbered old.next old.sections → Expands left asks parent old r → AreNumbered (file_of r).next (file_of r).sections
 numbers_stay left asks parent old r all expands =
-    expansion (λ s. AreNumbered s.next s.sections) (λ _. Unit {0}) asks (λ other rest done room kept holds. numbered_put_in other rest done kept) (λ n from path other above full fetched deeper. tt) left parent old r all expands
+    expansion (λ s. AreNumbered s.next s.sections) (λ _. Unit {0}) asks (λ other rest done room kept holds. numbered_put_in other rest done kept) (λ n from path other above full named fetched deeper. tt) left parent old r all expands
 
 -- a state with another one put in
 state_put_in : (other : State) (rest : List SectionState) (done : State) → has_room other rest done ≡ true → IsState (whole done rest) → HasItems other → IsState (whole (spliced other rest done) rest)
@@ -82,4 +82,4 @@ state_put_in other rest done room is more = record {
 
 pub states_stay : (left : ℕ) (asks : Asks) (parent : Option State) (old : State) (r : Reached) → IsState old → Expands left asks parent old r → IsState (file_of r)
 states_stay left asks parent old r is expands =
-    expansion IsState HasItems asks state_put_in (λ n from path other above full fetched deeper. items_stay n asks (Some above) other (On full) (fetched_items asks from path other fetched) deeper) left parent old r is expands
+    expansion IsState HasItems asks state_put_in (λ n from path other above full named fetched deeper. items_stay n asks (Some above) other (On full) (fetched_items asks from path other fetched) deeper) left parent old r is expands

@@ -64,6 +64,6 @@ put_in old other rest done stays = record {
 
 pub stay : (left : ℕ) (asks : Asks) (parent : Option State) (old : State) (r : Reached) → AreNumbered old.next old.sections → Expands left asks parent old r → IsKept old (file_of r)
 stay left asks parent old r numbered expands =
-    let stays = expansion (Stays old) (λ _. Unit {0}) asks (λ other rest done room kept holds. put_in old other rest done kept) (λ n from path other parent full fetched is. tt) left parent old r
+    let stays = expansion (Stays old) (λ _. Unit {0}) asks (λ other rest done room kept holds. put_in old other rest done kept) (λ n from path other parent full named fetched is. tt) left parent old r
     (record { next = omega arith; front = refl; meta = refl; sections = own_all old.next old.sections numbered }) expands in
     record { front = stays.front; meta = stays.meta; sections = stays.sections }

@@ -1,5 +1,5 @@
 -- Expansions of states are states, and those of clean ones are clean.
-use Rattle.std.proofs.Common.{◌≡◌, ℕ, ◌==◌, Bool, true, false, not, List, [], ◌∷◌, ◌++◌, Option, Some, Result, Ok, Err, refl, sym, ap, subst, ◌∙◌}
+use Rattle.std.proofs.Common.{◌≡◌, ℕ, zero, suc, ◌==◌, Bool, true, false, not, List, [], ◌∷◌, ◌++◌, Option, Some, Result, Ok, Err, refl, sym, ap, subst, ◌∙◌}
 use Rattle.std.specs.List.{AllByRecursion}
 use Rattle.gitconf_text.specs.Document.{IsText, gathered}
 use Rattle.gitconf_text.specs.Part.{LineEndsItem, Part}
@@ -20,8 +20,10 @@ use Rattle.gitconf_state.proofs.Edits.Keep.{behind_last_holds, holds_appended, j
 use Rattle.gitconf_state.proofs.Loading.Clean.{full_has_items, full_is_clean, kept_has_items, lossy_is_clean}
 use Rattle.gitconf_state.proofs.Loading.Document as document
 use Rattle.gitconf_includes.specs.Expansion.{Asks, Expands, included_meta, IsFetched, IsLoaded, IsLoadOf, May, On, Reached}
-use Rattle.gitconf_includes.specs.Laws.{file_of, AreHeaded}
-use Rattle.gitconf_includes.proofs.Keeping.{expansion, whole_expansion}
+use Rattle.gitconf_includes.specs.Inclusion.{inclusion, named_paths}
+use Rattle.gitconf_includes.specs.Laws.{file_of, AreHeaded, HoldsOfNamed, IncludesHeaded}
+use Rattle.gitconf_includes.specs.Paths.{file_named}
+use Rattle.gitconf_includes.proofs.Keeping.{all_of, level_of_named, limit, whole_expansion}
 
 -- what holds of all holds of the first, and of the others
 first_hold : {A : Type 0} (P : A → Type 0) (xs ys : List A) → AllByRecursion P (xs ++ ys) → AllByRecursion P xs
@@ -82,14 +84,20 @@ loaded_items false text place state is = full_has_items is.0 state is.1.fits (re
 loaded_items true text place state is =
     kept_has_items keeps_meaning is.0 state (lossy_keeps_entries (tokens_of is.0)) is.1.fits (record { tokens = is.2.tokens_are; held = is.2.held })
 
+-- a load with no entry in its front
+pub headed : (lossy : Bool) (text : List ℕ) (place : Meta) (state : State) → entries_of state.front ≡ [] → IsLoaded lossy text place state → IsHeaded state
+headed false text place state front is =
+    let load : IsFullLoad is.0 state = record { tokens = is.2.tokens_are; held = is.2.held } in
+    record { clean = full_is_clean is.0 state is.1.fits load; front = front }
+headed true text place state front is =
+    let load : IsLoad keeps_meaning is.0 state = record { tokens = is.2.tokens_are; held = is.2.held } in
+    record { clean = lossy_is_clean is.0 state is.1.fits load front; front = front }
+
 pub loaded_headed : (lossy : Bool) (text : List ℕ) (place : Meta) (state : State) → ((parts : List Part) → IsText text parts → (gathered parts).front ≡ []) → IsLoaded lossy text place state → IsHeaded state
 loaded_headed false text place state none is =
-    let load : IsFullLoad is.0 state = record { tokens = is.2.tokens_are; held = is.2.held } in
-    record { clean = full_is_clean is.0 state is.1.fits load; front = ap (λ d. d.front) (document.full_document is.0 state load) ∙ none is.0 is.1 }
+    headed false text place state (ap (λ d. d.front) (document.full_document is.0 state (record { tokens = is.2.tokens_are; held = is.2.held })) ∙ none is.0 is.1) is
 loaded_headed true text place state none is =
-    let load : IsLoad keeps_meaning is.0 state = record { tokens = is.2.tokens_are; held = is.2.held } in
-    let front = ap (λ d. d.front) (document.lossy_document is.0 state load) ∙ none is.0 is.1 in
-    record { clean = lossy_is_clean is.0 state is.1.fits load front; front = front }
+    headed true text place state (ap (λ d. d.front) (document.lossy_document is.0 state (record { tokens = is.2.tokens_are; held = is.2.held })) ∙ none is.0 is.1) is
 
 -- what is fetched was loaded, of a text that the table says
 pub fetched_load : (asks : Asks) (from : Meta) (path : List ℕ) (other : State) → IsFetched asks from path (Ok other)
@@ -111,24 +119,43 @@ items_stay left asks parent old r has expands =
     whole_expansion HasItems asks (λ other rest done room here more. items_put_in other rest done here more)
     (fetched_items asks) left parent old r has expands
 
--- what is fetched is clean and has no entry before its first section, if no text that may be included has one
-fetched_headed : (files : List ℕ → FileReport) (asks : Asks) → asks.table ≡ Some files → AreHeaded files → (from : Meta) (path : List ℕ) (other : State) → IsFetched asks from path (Ok other) → IsHeaded other
-fetched_headed files asks tells headed from path other fetched =
-    let load = fetched_load asks from path other fetched in
-    let told = subst (λ (t : Option (List ℕ → FileReport)). May t (λ (files : List ℕ → FileReport). ◌≡◌ {A = Result (List ℕ) FileFault} (Ok load.0) (read_of (files path)))) tells load.1 in
-    loaded_headed asks.rules.lossy load.0 (included_meta from path) other (λ parts is. headed path load.0 parts (sym told) is) load.2
+-- what is fetched is clean, if it has no entry in its front
+fetched_headed : (asks : Asks) (from : Meta) (path : List ℕ) (other : State) → entries_of other.front ≡ [] → IsFetched asks from path (Ok other) → IsHeaded other
+fetched_headed asks from path other front fetched = let load = fetched_load asks from path other fetched in headed asks.rules.lossy load.0 (included_meta from path) other front load.2
 
--- So is a file that has none before its first section itself.
-pub headed_stays : (files : List ℕ → FileReport) (left : ℕ) (asks : Asks) (parent : Option State) (old : State) (r : Reached) → asks.table ≡ Some files → AreHeaded files → IsHeaded old
-    → Expands left asks parent old r → IsHeaded (file_of r)
-headed_stays files left asks parent old r tells headed is expands =
-    whole_expansion IsHeaded asks (λ another rest done room here more. record { clean = clean_put_in another rest done here.clean more; front = here.front })
-    (fetched_headed files asks tells headed) left parent old r is expands
+-- what is asked of a file that a section names
+abbrev Asked : (left : ℕ) → Asks → (from : Meta) → (file : List ℕ) → Type 0
+Asked left asks from file = (other : State) → IsFetched asks from file (Ok other) → (entries_of other.front ≡ []) × IncludesHeaded left asks other
 
--- A clean file stays clean, if no text that may be included has an entry before its first section.
-pub clean_stays : (files : List ℕ → FileReport) (left : ℕ) (asks : Asks) (parent : Option State) (old : State) (r : Reached) → asks.table ≡ Some files → AreHeaded files → IsClean old
-    → Expands left asks parent old r → IsClean (file_of r)
-clean_stays files left asks parent old r tells headed clean expands =
-    expansion IsClean IsHeaded asks (λ other rest done room here more. clean_put_in other rest done here more)
-    (λ n from path other above full fetched deeper. headed_stays files n asks (Some above) other (On full) tells headed (fetched_headed files asks tells headed from path other fetched) deeper)
-    left parent old r clean expands
+-- An expansion of a file that has none before its first section itself has none, if no file that is included has one.
+pub headed_stays : (left : ℕ) (asks : Asks) (parent : Option State) (old : State) (r : Reached) → IncludesHeaded left asks old → IsHeaded old → Expands left asks parent old r → IsHeaded (file_of r)
+unfolding Expands IncludesHeaded
+headed_stays zero asks parent old r included is expands = limit IsHeaded asks old r is expands
+headed_stays (suc left) asks parent old r included is expands =
+    level_of_named IsHeaded IsHeaded asks (Expands left asks) (Asked left asks)
+    (λ other rest done room here more. record { clean = clean_put_in other rest done here.clean more; front = here.front })
+    (λ from path other above full named fetched deeper. let asked = named other fetched in headed_stays left asks (Some above) other (On full) asked.1 (fetched_headed asks from path other asked.0 fetched) deeper)
+    parent old r included is expands
+
+-- A clean file stays clean, if no file that is included has an entry before its first section.
+pub clean_stays : (left : ℕ) (asks : Asks) (parent : Option State) (old : State) (r : Reached) → IncludesHeaded left asks old → IsClean old → Expands left asks parent old r → IsClean (file_of r)
+unfolding Expands IncludesHeaded
+clean_stays zero asks parent old r included clean expands = limit IsClean asks old r clean expands
+clean_stays (suc left) asks parent old r included clean expands =
+    level_of_named IsClean IsHeaded asks (Expands left asks) (Asked left asks) (λ other rest done room here more. clean_put_in other rest done here more)
+    (λ from path other above full named fetched deeper. let asked = named other fetched in headed_stays left asks (Some above) other (On full) asked.1 (fetched_headed asks from path other asked.0 fetched) deeper)
+    parent old r included clean expands
+
+-- If no text at all has one, none that is included has.
+pub all_headed : (files : List ℕ → FileReport) (asks : Asks) → asks.table ≡ Some files → AreHeaded files → (left : ℕ) (state : State) → IncludesHeaded left asks state
+unfolding IncludesHeaded
+all_headed files asks tells headed zero state = tt
+all_headed files asks tells headed (suc left) state =
+    all_of (HoldsOfNamed asks (Asked left asks)) (λ s. all_of (λ path. (file : List ℕ) → file_named asks.rules s.meta path ≡ Ok (Some file) → Asked left asks s.meta file)
+    (λ path file named other fetched. ((fetched_front s.meta file other fetched).front, all_headed files asks tells headed left other)) (named_paths (inclusion s))) state.sections
+  where
+    fetched_front : (from : Meta) (path : List ℕ) (other : State) → IsFetched asks from path (Ok other) → IsHeaded other
+    fetched_front from path other fetched =
+        let load = fetched_load asks from path other fetched in
+        let told = subst (λ (t : Option (List ℕ → FileReport)). May t (λ (files : List ℕ → FileReport). ◌≡◌ {A = Result (List ℕ) FileFault} (Ok load.0) (read_of (files path)))) tells load.1 in
+        loaded_headed asks.rules.lossy load.0 (included_meta from path) other (λ parts is. headed path load.0 parts (sym told) is) load.2

@@ -20,6 +20,11 @@ pub data Inclusion : Type 0 where
 abbrev pub paths_of : SectionState → List (List ℕ)
 paths_of s = map meaning (entries_of_key (codes "path") (listing s))
 
+-- the paths that an include names, whether or not its condition holds
+abbrev pub named_paths : Inclusion → List (List ℕ)
+named_paths NoInclude = []
+named_paths (Includes condition paths) = paths
+
 -- what a section includes, by its names: `include` has no subsection, that of `includeIf` is the condition; both names in exactly this
 -- spelling
 abbrev pub inclusion_by : (name : List ℕ) → (subsection : Option (List ℕ)) → (paths : List (List ℕ)) → Inclusion

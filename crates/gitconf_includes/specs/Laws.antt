@@ -1,5 +1,5 @@
 -- What an expansion keeps of a file, and when two outcomes are alike.
-use Rattle.std.specs.Prelude.{◌≡◌, ◌≢◌, ◌<◌, ℕ, ltb, Bool, true, false, List, [], ◌∷◌, Option, Some, None, map, filter, Ok, Err, Result}
+use Rattle.std.specs.Prelude.{◌≡◌, ◌≢◌, ◌<◌, ℕ, zero, suc, ltb, Bool, true, false, List, [], ◌∷◌, Option, Some, None, map, filter, Ok, Err, Result}
 use Rattle.std.specs.List.{AllByRecursion}
 use Rattle.gitconf_text.specs.Document.{IsText, gathered}
 use Rattle.gitconf_text.specs.Part.{Part}
@@ -11,8 +11,9 @@ use Rattle.gitconf_includes.specs.Errors.{includes_number}
 use Rattle.gitconf_includes.specs.Rules.{Rules}
 use Rattle.gitconf_state.specs.Lookup.{listed}
 use Rattle.gitconf_state.specs.State.{entries_of, SectionState, State}
-use Rattle.gitconf_includes.specs.Expansion.{Asks, Reached, On, Ended}
-use Rattle.gitconf_includes.specs.Inclusion.{inclusion, NoInclude}
+use Rattle.gitconf_includes.specs.Expansion.{Asks, IsFetched, Reached, On, Ended}
+use Rattle.gitconf_includes.specs.Inclusion.{inclusion, named_paths, NoInclude}
+use Rattle.gitconf_includes.specs.Paths.{file_named}
 
 -- the file that an outcome leaves
 abbrev pub file_of : Reached → State
@@ -66,6 +67,16 @@ IsAsItWas (Err e) old new = (includes_number e ≡ 27) × (new ≡ old)
 -- none of the texts at the paths has an entry before its first section
 abbrev pub AreHeaded : (files : List ℕ → FileReport) → Type 0
 AreHeaded files = (path text : List ℕ) (parts : List Part) → ◌≡◌ {A = Result (List ℕ) FileFault} (read_of (files path)) (Ok text) → IsText text parts → (gathered parts).front ≡ []
+
+-- what holds of each file that a path of a section names, whether or not the condition of its include holds
+abbrev pub HoldsOfNamed : Asks → (P : (from : Meta) → (file : List ℕ) → Type 0) → SectionState → Type 0
+HoldsOfNamed asks P s = AllByRecursion (λ path. (file : List ℕ) → file_named asks.rules s.meta path ≡ Ok (Some file) → P s.meta file) (named_paths (inclusion s))
+
+-- None of the files that a file's sections name, so many levels deep, has an entry before its first section.
+unfoldable pub IncludesHeaded : (left : ℕ) → Asks → State → Type 0
+IncludesHeaded zero asks state = Unit {0}
+IncludesHeaded (suc left) asks state =
+    AllByRecursion (HoldsOfNamed asks (λ from file. (other : State) → IsFetched asks from file (Ok other) → (entries_of other.front ≡ []) × IncludesHeaded left asks other)) state.sections
 
 -- Files say the same: their fronts have the same entries, and their sections the same numbers, the same documents, and come from the same
 -- places; and the next section gets the same number.

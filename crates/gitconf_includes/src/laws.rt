@@ -8,7 +8,7 @@ ghost use Rattle.gitconf_includes.specs.Rules.{Rules};
 ghost use Rattle.gitconf_state.specs.Clean.{IsClean};
 ghost use Rattle.gitconf_state.specs.State.{document_of, AreNumbered, HasItems, IsState, State};
 ghost use Rattle.gitconf_includes.specs.Expansion.{Asks, Ended, Expands, IsLoadOf, On, Reached, Resolves};
-ghost use Rattle.gitconf_includes.specs.Laws.{file_of, AreHeaded, EndAlike, IncludesNothing, asks_with, IsAnswered, IsAsItWas, IsKept, ParentsSayTheSame, SayTheSame, StandBehind};
+ghost use Rattle.gitconf_includes.specs.Laws.{file_of, AreHeaded, EndAlike, IncludesHeaded, IncludesNothing, asks_with, IsAnswered, IsAsItWas, IsKept, ParentsSayTheSame, SayTheSame, StandBehind};
 
 /// Whatever the outcome, a file's own sections stay in their order, with their numbers and with where they come from, and so do its front and
 /// where it comes from itself; only the items held after sections may be more.
@@ -42,12 +42,14 @@ pub fn expansions_keep_states()
         → IsState (file_of r) }
 {}
 
-/// A clean file stays clean, whatever the outcome, if no text that may be included has an entry before its first section: so what is
-/// written of it reads back.
+/// A clean file stays clean, whatever the outcome, if no file that is included has an entry before its first section: so what is written of
+/// it reads back. It is asked of each file that a path of a section names, also where the condition of its include doesn't hold, and of
+/// those that these name, as deep as the expansion may go; so it holds where no text at all has such an entry.
 pub fn expansions_stay_clean()
-    ensures { (files : List ℕ → FileReport) (left : ℕ) (asks : Asks) (parent : Option State) (old : State) (r : Reached) → asks.table ≡ Some files
-        → AreHeaded files → IsClean old
+    ensures clean { (left : ℕ) (asks : Asks) (parent : Option State) (old : State) (r : Reached) → IncludesHeaded left asks old → IsClean old
         → Expands left asks parent old r → IsClean (file_of r) }
+    ensures texts { (files : List ℕ → FileReport) (asks : Asks) (left : ℕ) (state : State) → asks.table ≡ Some files → AreHeaded files
+        → IncludesHeaded left asks state }
 {}
 
 /// A file whose sections include nothing is left as it is, or memory ran out. An expansion with no level left is not

@@ -7,3 +7,4 @@ pub mod Errors
 pub mod Variables
 pub mod Gathering
 pub mod LookupErrors
+pub mod Headed

@@ -1,39 +1,51 @@
 //! What holds of loaded files, for all hosts that report what is at each path, and of what these include: each law is a function that
 //! does nothing.
-ghost use Rattle.std.specs.Prelude.{◌≡◌, ◌≢◌, ℕ, Bool, false, IfErr, List, [], Ok, Option, Result, Some};
+ghost use Rattle.std.specs.Prelude.{◌≡◌, ◌≢◌, ℕ, Bool, false, true, IfErr, List, [], Ok, Option, Result, Some};
 ghost use Rattle.gitconf_text.specs.Document.{IsText, gathered};
 ghost use Rattle.gitconf_text.specs.Part.{Part};
 ghost use Rattle.gitconf_sources.specs.Metadata.{Meta};
 ghost use Rattle.gitconf_sources.specs.declared.source.Source.{Source};
 ghost use Rattle.gitconf_sources.specs.Reports.{FileReport, VariableReport};
+ghost use Rattle.gitconf_sources.specs.FoundFiles.{AreFound, global_sources};
 ghost use Rattle.gitconf_sources.specs.declared.host.Places.{Places};
 ghost use Rattle.gitconf_includes.specs.declared.init.Error.{Error};
 ghost use Rattle.gitconf_includes.specs.Errors.{init_number};
 ghost use Rattle.gitconf_state.specs.Clean.{IsClean};
 ghost use Rattle.gitconf_state.specs.State.{entries_of, State};
-ghost use Rattle.gitconf_includes.specs.Expansion.{Asks};
-ghost use Rattle.gitconf_includes.specs.Laws.{AreHeaded};
-ghost use Rattle.gitconf_loaders.specs.Globals.{IsGlobal};
+ghost use Rattle.gitconf_includes.specs.Expansion.{Asks, IsLoaded};
+ghost use Rattle.gitconf_includes.specs.Laws.{AreHeaded, IncludesHeaded};
+ghost use Rattle.gitconf_loaders.specs.Globals.{home_rules, IsGlobal};
+ghost use Rattle.gitconf_loaders.specs.Headed.{AreHeadedAt, IsHeadedText};
 ghost use Rattle.gitconf_loaders.specs.Paths.{IsLoadedFrom, IsLoadOfPaths};
 ghost use Rattle.gitconf_loaders.specs.Resolving.{AreMadeAlike, IsMadeOf};
 
 /// Files that are loaded by their paths or from a text are clean, those of the machine and of the user too, and have no entry before their
-/// first section; if no text that may be loaded or included has such an entry. A file that is loaded without includes is clean in any case. So what is
-/// written of them reads back.
+/// first section, if no text that is loaded has such an entry, and no file that is included. A file that is loaded without includes is clean
+/// in any case. So what is written of them reads back.
 pub fn loaded_files_are_clean()
     ensures path { (table : Option (List ℕ → FileReport)) (path : List ℕ) (source : Source) (file : State) → IsLoadedFrom table path source (Ok file)
         → IsClean file }
-    ensures paths { (files : List ℕ → FileReport) (must_exist ignores : Bool) (asks : Asks) (metas : List Meta) (file : State)
-        → asks.table ≡ Some files → AreHeaded files
+    ensures paths { (must_exist ignores : Bool) (asks : Asks) (metas : List Meta) (file : State) → AreHeadedAt must_exist ignores asks metas
         → IsLoadOfPaths must_exist ignores asks metas (Ok (Some file)) → IsClean file × (entries_of file.front ≡ []) }
-    ensures globals { (variables : Option (List ℕ → VariableReport)) (places : Places) (files : List ℕ → FileReport) (file : State) → AreHeaded files
-        → IsGlobal variables places (Some files) (Ok file) → IsClean file × (entries_of file.front ≡ []) }
+    ensures globals { (variables : Option (List ℕ → VariableReport)) (places : Places) (table : Option (List ℕ → FileReport)) (file : State)
+        → ((found : List Meta) → AreFound variables places table global_sources found
+        → AreHeadedAt true false (record { rules = home_rules places; table = table }) found)
+        → IsGlobal variables places table (Ok file) → IsClean file × (entries_of file.front ≡ []) }
     // A text with what it includes, all of it; or some of it, if it has no such entry itself.
-    ensures whole { (files : List ℕ → FileReport) (asks : Asks) (text : List ℕ) (place : Meta) (file : State) → asks.table ≡ Some files → AreHeaded files
-        → asks.rules.lossy ≡ false → IsMadeOf init_number asks text place (Ok file) → IsClean file }
-    ensures text { (files : List ℕ → FileReport) (asks : Asks) (text : List ℕ) (place : Meta) (file : State) → asks.table ≡ Some files → AreHeaded files
-        → ((parts : List Part) → IsText text parts → (gathered parts).front ≡ []) → IsMadeOf init_number asks text place (Ok file)
-        → IsClean file × (entries_of file.front ≡ []) }
+    ensures whole { (asks : Asks) (text : List ℕ) (place : Meta) (file : State) → asks.rules.lossy ≡ false
+        → ((loaded : State) → IsLoaded false text place loaded → IncludesHeaded asks.rules.max_depth asks loaded)
+        → IsMadeOf init_number asks text place (Ok file) → IsClean file }
+    ensures text { (asks : Asks) (text : List ℕ) (place : Meta) (file : State) → IsHeadedText asks place text
+        → IsMadeOf init_number asks text place (Ok file) → IsClean file × (entries_of file.front ≡ []) }
+{}
+
+/// If no text that the host tells has an entry before its first section, none that is loaded has one, nor any file that it includes: nor has
+/// a text that has no such entry itself.
+pub fn headed_files_are_loaded_headed()
+    ensures paths { (files : List ℕ → FileReport) (must_exist ignores : Bool) (asks : Asks) (metas : List Meta) → asks.table ≡ Some files
+        → AreHeaded files → AreHeadedAt must_exist ignores asks metas }
+    ensures text { (files : List ℕ → FileReport) (asks : Asks) (text : List ℕ) (place : Meta) → asks.table ≡ Some files → AreHeaded files
+        → ((parts : List Part) → IsText text parts → (gathered parts).front ≡ []) → IsHeadedText asks place text }
 {}
 
 /// If the host says what is at each path, one text from one place makes one file, apart from running out of memory, or is refused with one

@@ -13,16 +13,16 @@ use Rattle.gitconf_state.specs.Editors.{Editor}
 use Rattle.gitconf_state.specs.State.{entries_of, SectionState, State}
 use Rattle.gitconf_state.proofs.Edits.Keep.{apply_clean}
 use Rattle.gitconf_includes.specs.Expansion.{Asks, Ended, On}
-use Rattle.gitconf_includes.specs.Laws.{AreHeaded}
-use Rattle.gitconf_includes.proofs.States.{headed_stays, IsHeaded}
+use Rattle.gitconf_includes.specs.Laws.{AreHeaded, IncludesHeaded}
+use Rattle.gitconf_includes.proofs.States.{all_headed, headed_stays, IsHeaded}
 use Rattle.gitconf_lookups.specs.Picks.{picked}
 use Rattle.gitconf_loaders.specs.Resolving.{MakesOf}
 use Rattle.gitconf_loaders.specs.Globals.{empty_file, home_rules}
 use Rattle.gitconf_store.specs.Edited.{put_bytes}
 use Rattle.gitconf_loaders.specs.Paths.{has_room_behind, IsAppendedTo, IsLoadedFrom, Then}
 use Rattle.gitconf_loaders.specs.Variables.{reported_key, key_variable}
-use Rattle.gitconf_loaders.proofs.Clean.{behind_headed, global_clean, path_headed}
-use Rattle.gix_config.specs.Environment.{HaveSectionNames, AreEntriesPut, Edited, env_meta, IsEntryPut, IsFromEnv, IsOverrides, IsValuePushed, IsValuePut, IsPutUnder}
+use Rattle.gitconf_loaders.proofs.Clean.{all_global_headed, behind_headed, global_clean, path_headed}
+use Rattle.gix_config.specs.Environment.{AreEntriesPut, Edited, env_meta, HaveSectionNames, IncludeHeaded, IsEntryPut, IsFromEnv, IsOverrides, IsPutUnder, IsValuePushed, IsValuePut}
 use Rattle.gix_config.specs.Repository.{folder_of, has_worktree, IsExpandedBehind, IsJoined, IsPutBehind, IsRepository, IsWorktree, IsWorktreeBehind, local_path, repository_rules, RepositoryFiles, worktree_path}
 use Rattle.gix_config.specs.SectionEditors.{editor_at, IsFoundOr}
 use Rattle.gix_config.proofs.NewEditors.{clean_picked}
@@ -93,15 +93,15 @@ empty_headed : (meta : Meta) → IsHeaded (empty_file meta)
 empty_headed meta = record { clean = record { sections = tt; blanks = refl; names = refl }; front = refl }
 
 -- a file with what it includes
-expanded_headed : (files : List ℕ → FileReport) (asks : Asks) (old new : State) → asks.table ≡ Some files → AreHeaded files → IsHeaded old → MakesOf (λ n. n) asks (Ok new) (Ok old) → IsHeaded new
-expanded_headed files asks old new tells headed is (On done, expands, e) = subst IsHeaded (sym e) (headed_stays files asks.rules.max_depth asks None old (On done) tells headed is expands)
-expanded_headed files asks old new tells headed is (Ended n end, expands, e) = absurd e
+expanded_headed : (asks : Asks) (old new : State) → IncludesHeaded asks.rules.max_depth asks old → IsHeaded old → MakesOf (λ n. n) asks (Ok new) (Ok old) → IsHeaded new
+expanded_headed asks old new included is (On done, expands, e) = subst IsHeaded (sym e) (headed_stays asks.rules.max_depth asks None old (On done) included is expands)
+expanded_headed asks old new included is (Ended n end, expands, e) = absurd e
 
-env_headed : (variables : List ℕ → VariableReport) (files : List ℕ → FileReport) (asks : Asks) (file : State) → HaveSectionNames variables → asks.table ≡ Some files → AreHeaded files
+env_headed : (variables : List ℕ → VariableReport) (asks : Asks) (file : State) → HaveSectionNames variables → IncludeHeaded variables asks
     → IsFromEnv (Some variables) asks (Ok (Some file)) → IsHeaded file
-env_headed variables files asks file named tells headed (inl wanting) = absurd (cc)
-env_headed variables files asks file named tells headed (inr (Err n, counts, e)) = absurd (cc)
-env_headed variables files asks file named tells headed (inr (Ok count, counts, made)) = go (count == 0) made
+env_headed variables asks file named included (inl wanting) = absurd (cc)
+env_headed variables asks file named included (inr (Err n, counts, e)) = absurd (cc)
+env_headed variables asks file named included (inr (Ok count, counts, made)) = go (count == 0) made
   where
     file_in : Result (Option State) ℕ → State
     file_in (Ok (Some s)) = s
@@ -111,7 +111,7 @@ env_headed variables files asks file named tells headed (inr (Ok count, counts, 
     of_entries (Err n, put, e) = absurd (cc)
     of_entries (Ok state, put, (Err n, expands, e)) = absurd (cc)
     of_entries (Ok state, put, (Ok full, expands, e)) =
-        subst IsHeaded (sym (ap file_in e)) (expanded_headed files asks state full tells headed (entries_headed variables named count 0 (empty_file env_meta) state (empty_headed env_meta) put) expands)
+        subst IsHeaded (sym (ap file_in e)) (expanded_headed asks state full (included count state put) (entries_headed variables named count 0 (empty_file env_meta) state (empty_headed env_meta) put) expands)
 
     go : (none : Bool) → elim none as (λ _. Type 0) [
       | true ↦ ◌≡◌ {A = Result (Option State) ℕ} (Ok (Some file)) (Ok None)
@@ -120,13 +120,13 @@ env_headed variables files asks file named tells headed (inr (Ok count, counts, 
     go true e = absurd (cc)
     go false made = of_entries made
 
-overrides_headed : (variables : List ℕ → VariableReport) (places : Places) (files : List ℕ → FileReport) (file : State) → HaveSectionNames variables → AreHeaded files
-    → IsOverrides (Some variables) places (Some files) (Ok file) → IsHeaded file
-overrides_headed variables places files file named headed (inl wanting) = absurd (cc)
-overrides_headed variables places files file named headed (inr (Err n, made, e)) = absurd (cc)
-overrides_headed variables places files file named headed (inr (Ok None, made, e)) = subst IsHeaded (sym (ap (state_in file) e)) (empty_headed api_meta)
-overrides_headed variables places files file named headed (inr (Ok (Some state), made, e)) =
-    subst IsHeaded (sym (ap (state_in file) e)) (env_headed variables files (record { rules = home_rules places; table = Some files }) state named refl headed made)
+overrides_headed : (variables : List ℕ → VariableReport) (places : Places) (table : Option (List ℕ → FileReport)) (file : State) → HaveSectionNames variables
+    → IncludeHeaded variables (record { rules = home_rules places; table = table }) → IsOverrides (Some variables) places table (Ok file) → IsHeaded file
+overrides_headed variables places table file named included (inl wanting) = absurd (cc)
+overrides_headed variables places table file named included (inr (Err n, made, e)) = absurd (cc)
+overrides_headed variables places table file named included (inr (Ok None, made, e)) = subst IsHeaded (sym (ap (state_in file) e)) (empty_headed api_meta)
+overrides_headed variables places table file named included (inr (Ok (Some state), made, e)) =
+    subst IsHeaded (sym (ap (state_in file) e)) (env_headed variables (record { rules = home_rules places; table = table }) state named included made)
 
 -- a file after another one
 put_behind_headed : (target other now : State) → IsHeaded target → IsHeaded other → IsPutBehind target other (Ok now) → IsHeaded now
@@ -140,7 +140,7 @@ put_behind_headed target other now is more (inr put) = go (has_room_behind targe
 module _ (variables : List ℕ → VariableReport) (places : Places) (files : List ℕ → FileReport) (named : HaveSectionNames variables) (headed : AreHeaded files) where
   behind_expanded : (asks : Asks) (target file now : State) → asks.table ≡ Some files → IsHeaded target → IsHeaded file → IsExpandedBehind asks target file (Ok now) → IsHeaded now
   behind_expanded asks target file now tells is more (Err n, expands, e) = absurd (cc)
-  behind_expanded asks target file now tells is more (Ok full, expands, put) = put_behind_headed target full now is (expanded_headed files asks file full tells headed more expands) put
+  behind_expanded asks target file now tells is more (Ok full, expands, put) = put_behind_headed target full now is (expanded_headed asks file full (all_headed files asks tells headed asks.rules.max_depth file) more expands) put
 
   worktree_behind : (asks : Asks) (worktree : Option State) (target now : State) → asks.table ≡ Some files → IsHeaded target → ((file : State) → worktree ≡ Some file → IsHeaded file)
       → IsWorktreeBehind asks worktree target (Ok now) → IsHeaded now
@@ -154,10 +154,11 @@ module _ (variables : List ℕ → VariableReport) (places : Places) (files : Li
   joined_headed asks parts now tells globals local worktree (Ok first, expands, (Ok all, (Err n, second, e), rest)) = absurd (cc)
   joined_headed asks parts now tells globals local worktree (Ok first, expands, (Ok all, (Ok both, second, third), (Err n, made, e))) = absurd (cc)
   joined_headed asks parts now tells globals local worktree (Ok first, expands, (Ok all, (Ok both, second, third), (Ok overrides, made, put))) =
-      let one = expanded_headed files asks parts.globals first tells headed globals expands in
+      let one = expanded_headed asks parts.globals first (all_headed files asks tells headed asks.rules.max_depth parts.globals) globals expands in
       let two = behind_expanded asks first parts.local both tells one local second in
       let three = worktree_behind asks parts.worktree both all tells two worktree third in
-      put_behind_headed all overrides now three (overrides_headed variables places files overrides named headed made) put
+      put_behind_headed all overrides now three (overrides_headed variables places (Some files) overrides named
+      (λ count set put. all_headed files (record { rules = home_rules places; table = Some files }) refl headed 10 set) made) put
 
   worktree_headed : (folder : List ℕ) (local : State) (worktree : Option State) → IsWorktree (Some files) folder local (Ok worktree) → (file : State) → worktree ≡ Some file → IsHeaded file
   worktree_headed folder local worktree is file some = go (has_worktree local) is
@@ -190,7 +191,7 @@ module _ (variables : List ℕ → VariableReport) (places : Places) (files : Li
   repository_headed dir real file (inr (Ok parts, inr (Ok local, of_local, (Ok worktree, of_worktree, (Err n, globals, e))), joined)) = absurd (cc)
   repository_headed dir real file (inr (Ok parts, inr (Ok local, of_local, (Ok worktree, of_worktree, (Ok globals, of_globals, e))), joined)) =
       let is : parts ≡ record { local = local; worktree = worktree; globals = globals } = ap parts_in e in
-      let clean = global_clean (Some variables) places files globals headed of_globals in
+      let clean = global_clean (Some variables) places (Some files) globals (all_global_headed (Some variables) places files headed) of_globals in
       joined_headed (record { rules = repository_rules places (folder_of (local_path dir)) real; table = Some files }) parts file refl
       (subst (λ (p : RepositoryFiles). IsHeaded p.globals) (sym is) (record { clean = clean.0; front = clean.1 }))
       (subst (λ (p : RepositoryFiles). IsHeaded p.local) (sym is) (path_headed files (local_path dir) Local local headed of_local))
@@ -202,13 +203,13 @@ module _ (variables : List ℕ → VariableReport) (places : Places) (files : Li
       parts_in (Err n) = parts
 
 -- as the laws say it
-pub env_clean : (variables : List ℕ → VariableReport) (files : List ℕ → FileReport) (asks : Asks) (file : State) → HaveSectionNames variables → asks.table ≡ Some files → AreHeaded files
+pub env_clean : (variables : List ℕ → VariableReport) (asks : Asks) (file : State) → HaveSectionNames variables → IncludeHeaded variables asks
     → IsFromEnv (Some variables) asks (Ok (Some file)) → IsClean file × (entries_of file.front ≡ [])
-env_clean variables files asks file named tells headed made = let is = env_headed variables files asks file named tells headed made in (is.clean, is.front)
+env_clean variables asks file named included made = let is = env_headed variables asks file named included made in (is.clean, is.front)
 
-pub overrides_clean : (variables : List ℕ → VariableReport) (places : Places) (files : List ℕ → FileReport) (file : State) → HaveSectionNames variables → AreHeaded files
-    → IsOverrides (Some variables) places (Some files) (Ok file) → IsClean file × (entries_of file.front ≡ [])
-overrides_clean variables places files file named headed made = let is = overrides_headed variables places files file named headed made in (is.clean, is.front)
+pub overrides_clean : (variables : List ℕ → VariableReport) (places : Places) (table : Option (List ℕ → FileReport)) (file : State) → HaveSectionNames variables
+    → IncludeHeaded variables (record { rules = home_rules places; table = table }) → IsOverrides (Some variables) places table (Ok file) → IsClean file × (entries_of file.front ≡ [])
+overrides_clean variables places table file named included made = let is = overrides_headed variables places table file named included made in (is.clean, is.front)
 
 pub repository_clean : (variables : List ℕ → VariableReport) (places : Places) (files : List ℕ → FileReport) (dir : List ℕ) (real : Option (List ℕ)) (file : State) → HaveSectionNames variables → AreHeaded files
     → IsRepository (Some variables) places (Some files) dir real (Ok file) → IsClean file × (entries_of file.front ≡ [])

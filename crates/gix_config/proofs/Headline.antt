@@ -32,7 +32,7 @@ use Rattle.gitconf_includes.specs.declared.includes.Error.{Error as IncludesErro
 use Rattle.gitconf_includes.specs.Errors.{includes_number}
 use Rattle.gitconf_includes.specs.Expansion as expansions
 use Rattle.gitconf_includes.specs.Expansion.{Asks, Ended, Expands, On, Reached}
-use Rattle.gitconf_includes.specs.Laws.{AreHeaded, file_of}
+use Rattle.gitconf_includes.specs.Laws.{file_of, IncludesHeaded}
 use Rattle.gitconf_includes.proofs.States.{clean_stays, items_stay}
 use Rattle.gitconf_lookups.specs.ValuePlaces.{value_place}
 use Rattle.gitconf_store.specs.declared.set_raw_value.Error.{Error as SetError}
@@ -40,7 +40,7 @@ use Rattle.gitconf_store.specs.Edited.{IsEdited, bytes_in, causes, put_bytes}
 use Rattle.gitconf_store.specs.Existing.{IsRewritten, IsSetWhere, rewriting}
 use Rattle.gitconf_store.specs.SetErrors.{set_refusal}
 use Rattle.gitconf_store.specs.Several.{AreRewritten, all_deleted}
-use Rattle.gix_config.specs.Headline.{IsOneEnding, Call, DeletesAll, Edits, Ending, Ends, IsCleanCall, IsHanded, LeavesFile, Resolves, Runs, SetsAllExisting, SetsExisting, SetsValues}
+use Rattle.gix_config.specs.Headline.{AreCleanCalls, Call, DeletesAll, Edits, Ending, Ends, IsCleanCall, IsHanded, IsOneEnding, LeavesFile, Resolves, Runs, SetsAllExisting, SetsExisting, SetsValues}
 use Rattle.gix_config.proofs.NewEditors.{editor_of_value}
 
 -- If none of the causes holds, the names are valid.
@@ -149,37 +149,37 @@ kept_by_deletions (place ∷ places) old kept =
     (apply_items (edits.DeleteAt place.0 place.1) (all_deleted places old) tt before.0, apply_clean (edits.DeleteAt place.0 place.1) (all_deleted places old) tt before.1)
 
 -- so does an expansion
-kept_by_expansion : (asks : Asks) (result : Result (Unit {0}) IncludesError) (old new : State) (files : List ℕ → FileReport) → asks.table ≡ Some files → AreHeaded files → Keeps old
+kept_by_expansion : (asks : Asks) (result : Result (Unit {0}) IncludesError) (old new : State) → IncludesHeaded asks.rules.max_depth asks old → Keeps old
     → expansions.Resolves includes_number asks old result new → Keeps new
-kept_by_expansion asks result old new files table heads kept is = left result is.0 is.2 (reached (asks.rules.max_depth == 0) is.1)
+kept_by_expansion asks result old new included kept is = left result is.0 is.2 (reached (asks.rules.max_depth == 0) is.1)
   where
     reached : (b : Bool) → (elim b as (λ _. Type 0) [ true ↦ is.0 ≡ On old | false ↦ Expands asks.rules.max_depth asks None old is.0 ]) → Keeps (file_of is.0)
     reached true same = subst (λ r. Keeps (file_of r)) (sym same) kept
-    reached false all = (items_stay asks.rules.max_depth asks None old is.0 kept.0 all, clean_stays files asks.rules.max_depth asks None old is.0 table heads kept.1 all)
+    reached false all = (items_stay asks.rules.max_depth asks None old is.0 kept.0 all, clean_stays asks.rules.max_depth asks None old is.0 included kept.1 all)
 
     left : (result : Result (Unit {0}) IncludesError) (r : Reached) → expansions.Leaves includes_number result new r → Keeps (file_of r) → Keeps new
     left (Ok done) r leaves there = subst Keeps (ap file_of leaves) there
     left (Err e) (Ended n file) leaves there = subst Keeps (sym leaves.1) there
     left (Err e) (On done) leaves there = absurd leaves
 
-kept_by : (call : Call) (old new : State) → IsCleanCall call → Keeps old → LeavesFile call old new → Keeps new
+kept_by : (call : Call) (old new : State) → IsCleanCall call old → Keeps old → LeavesFile call old new → Keeps new
 kept_by (Edits edit ending) old new clean kept leaves = kept_by_edit edit old new ending clean.0 clean.1 kept leaves
 kept_by (SetsExisting key value result) old new clean kept leaves = kept_where (value_place key (λ _. true) old) key value result old new kept leaves
 kept_by (SetsAllExisting key values result) old new clean kept (inl unset) = subst Keeps (sym unset.3) kept
 kept_by (SetsAllExisting key values result) old new clean kept (inr set) = kept_by_rewritings set_refusal key.name set.2 values result old new kept set.4
 kept_by (SetsValues key places values result) old new clean kept leaves = kept_by_rewritings span_refusal key places values result old new kept leaves
 kept_by (DeletesAll places) old new clean kept leaves = subst Keeps (sym leaves) (kept_by_deletions places old kept)
-kept_by (Resolves asks result) old new clean kept leaves = kept_by_expansion asks result old new clean.0 clean.1 clean.2 kept leaves
+kept_by (Resolves asks result) old new clean kept leaves = kept_by_expansion asks result old new clean kept leaves
 
-pub runs_keep : (calls : List Call) (old new : State) → AllByRecursion IsCleanCall calls → HasItems old → IsClean old → Runs calls old new → HasItems new × IsClean new
-runs_keep [] old new clean items tidy runs = subst Keeps (sym runs) (items, tidy)
-runs_keep (call ∷ calls) old new clean items tidy runs =
+pub runs_keep : (calls : List Call) (old new : State) (runs : Runs calls old new) → AreCleanCalls calls old new runs → HasItems old → IsClean old → HasItems new × IsClean new
+runs_keep [] old new runs clean items tidy = subst Keeps (sym runs) (items, tidy)
+runs_keep (call ∷ calls) old new runs clean items tidy =
     let kept = kept_by call old runs.0 clean.0 (items, tidy) runs.1 in
-    runs_keep calls runs.0 new clean.1 kept.0 kept.1 runs.2
+    runs_keep calls runs.0 new runs.2 clean.1 kept.0 kept.1
 
 -- So what is written after them reads to their document.
-pub runs_read : (calls : List Call) (old new : State) → AllByRecursion IsCleanCall calls → HasItems old → IsClean old → Runs calls old new → Reads (printed new) (document_of new)
-runs_read calls old new clean items tidy runs = let kept = runs_keep calls old new clean items tidy runs in all_reads_back new kept.0 kept.1
+pub runs_read : (calls : List Call) (old new : State) (runs : Runs calls old new) → AreCleanCalls calls old new runs → HasItems old → IsClean old → Reads (printed new) (document_of new)
+runs_read calls old new runs clean items tidy = let kept = runs_keep calls old new runs clean items tidy in all_reads_back new kept.0 kept.1
 
 -- A whole load has items and is clean.
 pub made_is_load : (parts : List Part) (place : Meta) (bytes : ℕ) (file : State) → IsMade (tokens_of parts) place bytes file → IsFullLoad parts file

@@ -16,6 +16,7 @@ use Rattle.gitconf_state.specs.Edits.{Push}
 use Rattle.gitconf_state.specs.Editors.{Editor}
 use Rattle.gitconf_state.specs.State.{State}
 use Rattle.gitconf_includes.specs.Expansion.{Asks}
+use Rattle.gitconf_includes.specs.Laws.{IncludesHeaded}
 use Rattle.gitconf_includes.specs.Outcomes.{IsCause}
 use Rattle.gitconf_loaders.specs.Resolving.{MakesOf}
 use Rattle.gitconf_loaders.specs.Globals.{empty_file, home_rules, IsOrEmpty}
@@ -94,6 +95,10 @@ IsEnvCause variables options table e = (index : ℕ) × IsEntryCause index e
 abbrev pub HaveSectionNames : (variables : List ℕ → VariableReport) → Type 0
 HaveSectionNames variables = (index : ℕ) (text : List ℕ) (key : Key) → ◌≡◌ {A = Result (List ℕ) ℕ} (reported_key (variables (key_variable index))) (Ok text) → parsed_key text ≡ Some key
     → is_nameless (made_header key.section key.subsection) ≡ false
+
+-- no file that the file of variables includes has an entry before its first section
+abbrev pub IncludeHeaded : (variables : List ℕ → VariableReport) → Asks → Type 0
+IncludeHeaded variables asks = (count : ℕ) (file : State) → AreEntriesPut (Some variables) count 0 (empty_file env_meta) (Ok file) → IncludesHeaded asks.rules.max_depth asks file
 
 -- the overrides: includes know the home folder of the places, and without entries the file is empty
 abbrev pub IsOverrides : Option (List ℕ → VariableReport) → Places → Option (List ℕ → FileReport) → Result State ℕ → Type 0

@@ -2,14 +2,13 @@
 use Rattle.std.specs.Prelude.{◌≡◌, ℕ, List, [], ◌∷◌, Option, Some, Result, Ok, Err, IfOk}
 use Rattle.gitconf_text.specs.declared.memory.NoMemory.{NoMemory}
 use Rattle.gitconf_sources.specs.Key.{Key}
-use Rattle.gitconf_sources.specs.Reports.{FileReport}
 use Rattle.gitconf_state.specs.Edits.{Answer, Append, Edit, IsCleanEdit, IsEditor, Push, PushAfterLast, PushLineEnd, PushSection, SetValue, WriteAt, answer}
 use Rattle.gitconf_state.specs.State.{HasItems, HasSectionItems, State}
 use Rattle.gitconf_includes.specs.declared.includes.Error.{Error as IncludesError}
 use Rattle.gitconf_includes.specs.Errors.{includes_number}
 use Rattle.gitconf_includes.specs.Expansion as expansions
 use Rattle.gitconf_includes.specs.Expansion.{Asks}
-use Rattle.gitconf_includes.specs.Laws.{AreHeaded}
+use Rattle.gitconf_includes.specs.Laws.{IncludesHeaded}
 use Rattle.gitconf_body.specs.Done.{Cause}
 use Rattle.gitconf_body.specs.Refusals.{span_refusal}
 use Rattle.gitconf_store.specs.declared.set_raw_value.Error.{Error as SetError}
@@ -72,9 +71,14 @@ IsHanded (PushSection detached) = HasSectionItems detached.section
 IsHanded (Append other) = HasItems other
 IsHanded _ = Unit {0}
 
--- What is asked of a call, so that what is written after it reads back: a clean edit of what it is handed; and that no text that may be included
--- has an entry before its first section.
-abbrev pub IsCleanCall : Call → Type 0
-IsCleanCall (Edits edit ending) = IsHanded edit × IsCleanEdit edit
-IsCleanCall (Resolves asks result) = (files : List ℕ → FileReport) × (asks.table ≡ Some files) × AreHeaded files
-IsCleanCall _ = Unit {0}
+-- What is asked of a call on a file, so that what is written after it reads back: a clean edit of what it is handed; and that no file that is
+-- included has an entry before its first section.
+abbrev pub IsCleanCall : Call → (old : State) → Type 0
+IsCleanCall (Edits edit ending) old = IsHanded edit × IsCleanEdit edit
+IsCleanCall (Resolves asks result) old = IncludesHeaded asks.rules.max_depth asks old
+IsCleanCall _ old = Unit {0}
+
+-- the same of calls, each on the file that the one before it left
+abbrev pub AreCleanCalls : (calls : List Call) → (old new : State) → Runs calls old new → Type 0
+AreCleanCalls [] old new runs = Unit {0}
+AreCleanCalls (call ∷ calls) old new runs = IsCleanCall call old × AreCleanCalls calls runs.0 new runs.2

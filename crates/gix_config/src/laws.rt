@@ -21,11 +21,12 @@ ghost use Rattle.gitconf_state.specs.Editors.{Editor, editor_of};
 ghost use Rattle.gitconf_state.specs.State.{document_of, entries_of, HasItems, SectionState, State};
 ghost use Rattle.gitconf_includes.specs.Expansion.{Asks};
 ghost use Rattle.gitconf_includes.specs.Laws.{AreHeaded};
+ghost use Rattle.gitconf_loaders.specs.Globals.{home_rules};
 ghost use Rattle.gitconf_lookups.specs.Lookups.{implicit_at, value_at, values_at};
 ghost use Rattle.gitconf_lookups.specs.Picks.{picked};
 ghost use Rattle.gitconf_sources.specs.Key.{Key};
 ghost use Rattle.gitconf_lookups.specs.ValuePlaces.{editor_of_numbered};
-ghost use Rattle.gix_config.specs.Headline.{IsOneEnding, Call, Ending, Ends, IsCleanCall, Runs, no_memory};
+ghost use Rattle.gix_config.specs.Headline.{AreCleanCalls, IsOneEnding, Call, Ending, Ends, Runs, no_memory};
 ghost use Rattle.gitconf_text.specs.declared.memory.NoMemory.{NoMemory};
 ghost use Rattle.bstr.specs.declared.bstring.BString.{BString};
 ghost use Rattle.gitconf_body.specs.Refusals.{header_refusal, span_refusal, value_refusal};
@@ -36,7 +37,7 @@ ghost use Rattle.gitconf_store.specs.declared.rename_section.Error.{Error as Ren
 ghost use Rattle.gitconf_store.specs.declared.set_raw_value.Error.{Error as SetError};
 ghost use Rattle.gitconf_text.specs.declared.parse.section.header.Error.{Error as HeaderError};
 ghost use Rattle.gitconf_state.specs.Inserted.{Inserted, IsByteForByte};
-ghost use Rattle.gix_config.specs.Environment.{HaveSectionNames, IsFromEnv, IsOverrides};
+ghost use Rattle.gix_config.specs.Environment.{HaveSectionNames, IncludeHeaded, IsFromEnv, IsOverrides};
 ghost use Rattle.gitconf_store.specs.Edited.{put_bytes, IsEdited};
 ghost use Rattle.gix_config.specs.Repository.{IsRepository};
 ghost use Rattle.gix_config.specs.SectionEditors.{with_leading};
@@ -75,13 +76,13 @@ pub fn edits_put_no_more_than_their_tokens()
 {}
 
 /// The file that variables set is clean, and that of the overrides, if no key names a section with an empty name and no subsection, and no
-/// text that may be included has an entry before its first section.
+/// file that is included has an entry before its first section.
 pub fn files_of_variables_are_clean()
-    ensures made { (variables : List ℕ → VariableReport) (files : List ℕ → FileReport) (asks : Asks) (file : State) → HaveSectionNames variables
-        → asks.table ≡ Some files → AreHeaded files
+    ensures made { (variables : List ℕ → VariableReport) (asks : Asks) (file : State) → HaveSectionNames variables → IncludeHeaded variables asks
         → IsFromEnv (Some variables) asks (Ok (Some file)) → IsClean file × (entries_of file.front ≡ []) }
-    ensures overrides { (variables : List ℕ → VariableReport) (places : Places) (files : List ℕ → FileReport) (file : State)
-        → HaveSectionNames variables → AreHeaded files → IsOverrides (Some variables) places (Some files) (Ok file) → IsClean file × (entries_of file.front ≡ []) }
+    ensures overrides { (variables : List ℕ → VariableReport) (places : Places) (table : Option (List ℕ → FileReport)) (file : State)
+        → HaveSectionNames variables → IncludeHeaded variables (record { rules = home_rules places; table = table })
+        → IsOverrides (Some variables) places table (Ok file) → IsClean file × (entries_of file.front ≡ []) }
 {}
 
 /// The configuration of a repository is clean, if that holds of variables and of texts, also those of the repository's own files: so what is
@@ -128,20 +129,20 @@ pub fn calls_end_as_their_contracts_say()
 /// The calls are all edits, values of existing entries set, one or several, entries deleted, and includes resolved. The file was loaded,
 /// whole or lossy, or has items such as a text may have and is clean: so is one that a loader made ([`files_of_variables_are_clean`], [`repositories_are_clean`], and
 /// [`loaders`]). Of the calls it is asked that edits are handed what the library makes ([`new_editors_are_editors`]); that no header has an empty
-/// name and no subsection; that blanks before names that were set are spaces and tabs; and that no file that is appended or may be included
-/// has an entry before its first section. Then the file after them is such a one again, the text that is written of it has exactly its
+/// name and no subsection; that blanks before names that were set are spaces and tabs; and that no file that is appended or included has an
+/// entry before its first section. Then the file after them is such a one again, the text that is written of it has exactly its
 /// document, and a file that is loaded from this text has the same document and is equal to it.
 pub fn headline()
-    ensures kept { (calls : List Call) (old new : State) → AllByRecursion IsCleanCall calls → HasItems old → IsClean old → Runs calls old new
+    ensures kept { (calls : List Call) (old new : State) (runs : Runs calls old new) → AreCleanCalls calls old new runs → HasItems old → IsClean old
         → HasItems new × IsClean new }
-    ensures reads { (calls : List Call) (old new : State) → AllByRecursion IsCleanCall calls → HasItems old → IsClean old → Runs calls old new
+    ensures reads { (calls : List Call) (old new : State) (runs : Runs calls old new) → AreCleanCalls calls old new runs → HasItems old → IsClean old
         → Reads (printed new) (document_of new) }
     ensures loaded { (text : List ℕ) (parts : List Part) (place : Meta) (bytes : ℕ) (calls : List Call) (old new : State)
-        → IsText text parts → IsMade (tokens_of parts) place bytes old → AllByRecursion IsCleanCall calls → Runs calls old new
+        → IsText text parts → IsMade (tokens_of parts) place bytes old → (runs : Runs calls old new) → AreCleanCalls calls old new runs
         → Reads (printed new) (document_of new) }
     ensures lossy { (text : List ℕ) (parts : List Part) (place : Meta) (bytes : ℕ) (calls : List Call) (old new : State)
         → IsText text parts → IsMade (filter (keeps_token keeps_meaning) (tokens_of parts)) place bytes old → entries_of old.front ≡ []
-        → AllByRecursion IsCleanCall calls → Runs calls old new → Reads (printed new) (document_of new) }
+        → (runs : Runs calls old new) → AreCleanCalls calls old new runs → Reads (printed new) (document_of new) }
     ensures unedited { (text : List ℕ) (parts : List Part) (place : Meta) (bytes : ℕ) (file : State) → IsText text parts
         → IsMade (tokens_of parts) place bytes file
         → Inserted (map spelled_token (tokens_of parts)) (printed file) × (IsByteForByte parts → printed file ≡ unmarked text) }

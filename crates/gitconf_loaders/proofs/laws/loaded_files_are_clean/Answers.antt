@@ -12,8 +12,7 @@ pub returns-clause-globals : goal.returns-clause-globals
 returns-clause-globals c = global_clean
 
 pub returns-clause-whole : goal.returns-clause-whole
-returns-clause-whole c = λ files asks text place file tells heads whole made. made_whole files asks tells heads init_number text place file whole made
+returns-clause-whole c = λ asks text place file whole included is_made. made_whole asks init_number text place file whole included is_made
 
 pub returns-clause-text : goal.returns-clause-text
-returns-clause-text c = λ files asks text place file tells heads none is_made.
-    let headed = made files asks tells heads init_number text place file none is_made in (headed.clean, headed.front)
+returns-clause-text c = λ asks text place file none is_made. let headed = made asks init_number text place file none is_made in (headed.clean, headed.front)

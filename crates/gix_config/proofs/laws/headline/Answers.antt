@@ -20,14 +20,14 @@ pub returns-clause-reads : goal.returns-clause-reads
 returns-clause-reads c = runs_read
 
 pub returns-clause-loaded : goal.returns-clause-loaded
-returns-clause-loaded c = λ text parts place bytes calls old new is made clean runs.
+returns-clause-loaded c = λ text parts place bytes calls old new is made runs clean.
     let load = made_is_load parts place bytes old made in
-    runs_read calls old new clean (full_has_items parts old is.fits load) (full_is_clean parts old is.fits load) runs
+    runs_read calls old new runs clean (full_has_items parts old is.fits load) (full_is_clean parts old is.fits load)
 
 pub returns-clause-lossy : goal.returns-clause-lossy
-returns-clause-lossy c = λ text parts place bytes calls old new is made none clean runs.
+returns-clause-lossy c = λ text parts place bytes calls old new is made none runs clean.
     let load : IsLoad keeps_meaning parts old = record { tokens = made.tokens_are; held = made.held } in
-    runs_read calls old new clean (kept_has_items keeps_meaning parts old (lossy_keeps_entries (tokens_of parts)) is.fits load) (lossy_is_clean parts old is.fits load none) runs
+    runs_read calls old new runs clean (kept_has_items keeps_meaning parts old (lossy_keeps_entries (tokens_of parts)) is.fits load) (lossy_is_clean parts old is.fits load none)
 
 pub returns-clause-again : goal.returns-clause-again
 returns-clause-again c = λ parts place bytes new again. loads_equal new again parts place bytes
