@@ -6,9 +6,9 @@
     'https://example.org/a.git'
 """
 from gixcfg._config import Config, Entry, Includes, Key, Section, SectionEditor
-from gixcfg._errors import ConfigError, IncludeError, KeyNotFound, Locked, NotOfType, ParseError, Refused
+from gixcfg._errors import ConfigError, IncludeError, KeyNotFound, Locked, NotOfType, ParseError, Refused, VariableError
 
 __all__ = [
     "Config", "ConfigError", "Entry", "IncludeError", "Includes", "Key", "KeyNotFound", "Locked", "NotOfType", "ParseError", "Refused", "Section",
-    "SectionEditor",
+    "SectionEditor", "VariableError",
 ]
