@@ -88,6 +88,22 @@ class Section(NamedTuple):
     entries: List[Entry]
 
 
+SOURCES = ("git-installation", "system", "git", "user", "local", "worktree", "env", "cli", "api", "env-override")
+
+
+class Origin(NamedTuple):
+    """Where a whole file comes from, as the library knows it."""
+
+    source: str
+    """The place that it was read from: "system", "user", "local" and so on; "api" for a text that was parsed."""
+    level: int
+    """How many includes led to it."""
+    is_trusted: bool
+    """Whether it is fully trusted."""
+    path: Optional[str]
+    """Its path, if it has one."""
+
+
 class Includes(NamedTuple):
     """How includes are followed: ten files deep, and no deeper."""
 
@@ -250,6 +266,16 @@ class Config:
     def text(self) -> str:
         """The text of the file."""
         return _decoded(bytes(self))
+
+    @property
+    def origin(self) -> Origin:
+        """Where the file comes from."""
+        origin, block = c.Origin(), c.Block()
+        number = c.LIBRARY.gix_config_file_origin(self._file, origin, block)
+        if number != c.DONE:
+            _refuse(number)
+        path = os.fsdecode(self._taken(block)) if origin.has_path else None
+        return Origin(SOURCES[origin.source.bit_length() - 1], origin.level, origin.trust == c.TRUST_FULL, path)
 
     @staticmethod
     def _taken(block: c.Block) -> bytes:

@@ -84,6 +84,10 @@ class Repository(ctypes.Structure):
     _fields_ = [("git_folder", Text), ("real_git_folder", Text), ("places", Places)]
 
 
+class Origin(ctypes.Structure):
+    _fields_ = [("source", ctypes.c_uint32), ("level", ctypes.c_uint32), ("trust", ctypes.c_uint32), ("has_path", ctypes.c_bool)]
+
+
 class Place(ctypes.Structure):
     _fields_ = [("line", ctypes.c_size_t), ("column", ctypes.c_size_t), ("offset", ctypes.c_size_t)]
 
@@ -94,6 +98,7 @@ CALLS = {
     "file_clone": [ctypes.POINTER(Handle), ctypes.POINTER(Handle)],
     "file_append": [ctypes.POINTER(Handle), ctypes.POINTER(Handle)],
     "file_text": [ctypes.POINTER(Handle), ctypes.POINTER(Block)],
+    "file_origin": [ctypes.POINTER(Handle), ctypes.POINTER(Origin), ctypes.POINTER(Block)],
     "value": [ctypes.POINTER(Handle), ctypes.POINTER(Key), ctypes.POINTER(Block)],
     "values": [ctypes.POINTER(Handle), ctypes.POINTER(Key), ctypes.POINTER(Handle)],
     "list_at": [ctypes.POINTER(Handle), ctypes.c_size_t, ctypes.POINTER(Span)],
