@@ -31,7 +31,9 @@ enum {
     /* Nothing was told of a file that is needed: tell it, and call again. */
     GIX_CONFIG_NOT_TOLD = 103,
     /* No source, or no trust, has the number. */
-    GIX_CONFIG_NO_SUCH_NUMBER = 104
+    GIX_CONFIG_NO_SUCH_NUMBER = 104,
+    /* Nothing was told of a variable that is needed: tell it, and call again. */
+    GIX_CONFIG_VARIABLE_NOT_TOLD = 105
 };
 
 /* Where sections come from, and how far that is trusted. The numbers of sources add up. */
@@ -75,7 +77,7 @@ typedef struct gix_config_list {
     void *at;
 } gix_config_list;
 
-/* A place for what a program tells of files, {0} at first. It is never copied, and closed with
+/* A place for what a program tells of files and of variables, {0} at first. It is never copied, and closed with
  * gix_config_told_close. */
 typedef struct gix_config_told {
     void *at;
@@ -263,6 +265,43 @@ typedef struct gix_config_load {
     gix_config_includes includes;
 } gix_config_load;
 
+/* The places of configuration that a program knows: what variables of the environment say comes before it. */
+typedef struct gix_config_places {
+    /* Whether there is configuration that was installed with git. */
+    bool has_installation;
+    /* Its path, if there is some. */
+    gix_config_text installation;
+    /* The folder that `etc/gitconfig` is in, the configuration of the whole machine: `/` for most. */
+    gix_config_text system_prefix;
+    /* Whether the user's home folder is known. */
+    bool has_home;
+    /* The user's home folder, for `~/` in the paths of includes. */
+    gix_config_text home;
+} gix_config_places;
+
+/* A repository: its folders, and the places of configuration besides. */
+typedef struct gix_config_repository {
+    /* The folder of the repository, such as `/home/ada/project/.git`: its configuration is in the file `config`
+     * there. */
+    gix_config_text git_folder;
+    /* The same folder, with its symbolic links resolved. */
+    gix_config_text real_git_folder;
+    /* The places of configuration. */
+    gix_config_places places;
+} gix_config_repository;
+
+/* Where a whole file comes from. */
+typedef struct gix_config_origin {
+    /* The place that it was read from: one of the sources' numbers. */
+    uint32_t source;
+    /* How many includes led to it: 0 for a file that was not included. */
+    uint32_t level;
+    /* How far it is trusted: one of the numbers of trust. */
+    uint32_t trust;
+    /* Whether it has a path. */
+    bool has_path;
+} gix_config_origin;
+
 /* A line of a section: a name, with a value, a comment behind it, both or none. */
 typedef struct gix_config_line {
     /* The name. */
@@ -340,6 +379,40 @@ uint32_t gix_config_entries(gix_config_file *file, gix_config_list *list);
  * 100 for a number past the end, 102 if the handle has no list of entries; the place is then as it was. */
 uint32_t gix_config_list_entry(gix_config_list *list, size_t index, gix_config_entry *entry);
 
+/* Loads the file of the entries that variables of the environment set (`GIT_CONFIG_COUNT`, `GIT_CONFIG_KEY_0`,
+ * `GIT_CONFIG_VALUE_0` and so on), with what it includes, from what a program told of variables and of files.
+ * What was in the file's handle before is closed.
+ *
+ * 100 if they set none. 105 if nothing was told of a variable that is needed, 103 if nothing was told of a file
+ * that is included: its name or path is then in the block, whose bytes from before are freed; tell it, and call
+ * again. 23 for a count that is no number; of an entry whose key or value isn't set 24 or 26, or isn't UTF-8 22,
+ * and 25 for a key without a dot: the name of the variable is then in the block, too. 4, 5 and 6 for names that
+ * can't be written into a file. 19 if a file that is included was told to have a fault: its path is then in the
+ * block; 20 if one can't be read. 1, 2, 3 and 12 to 18 if an include is refused. 101 if a text that has to be
+ * UTF-8 isn't, 102 if the handle is not one for what is told, 27 when out of memory. The file's handle is as it
+ * was after any number but 0, and the block after any but 19, 22 to 26, 103 and 105. */
+uint32_t gix_config_load_env_told(gix_config_told *told, const gix_config_includes *includes,
+    gix_config_file *file, gix_config_bytes *asked);
+
+/* Gives the last entry of a key another value: in the last section of the key's names that has one. No entry is
+ * made.
+ *
+ * 7 or 8 if there is no such section, 6 for a name that can't be a value's, 9 if none of the sections has such
+ * an entry, 3 if the file would be too long. 101 if the section's or the value's name is not UTF-8, 102 if the
+ * handle has no file, 27 when out of memory. The file is then as it was. */
+uint32_t gix_config_set_existing_value(gix_config_file *file, const gix_config_key *key, const uint8_t *value,
+    size_t value_len);
+
+/* Gives the entries of a key other values: the first entry the first value, and so on, up to the end of the
+ * shorter list; in all sections of the key's names, in the order in which these were made. No entry is made.
+ *
+ * 7 or 8 if there is no such section, 6 for a name that can't be a value's, 9 if none of the sections has such
+ * an entry: the file is then as it was. 3 if the file would be too long, 27 when out of memory: the entries
+ * before the one that was refused then have their values. 101 if the section's or the value's name is not UTF-8,
+ * 102 if the handle has no file. */
+uint32_t gix_config_set_existing_values(gix_config_file *file, const gix_config_key *key,
+    const gix_config_text *values, size_t values_len);
+
 /* Hands out the text of a file. What the block had is freed.
  *
  * 102 if the handle has no file, 27 when out of memory; the block is then as it was. */
@@ -376,6 +449,19 @@ uint32_t gix_config_integer_filter(gix_config_file *file, const gix_config_key *
 uint32_t gix_config_file_text_filter(gix_config_file *file, const gix_config_filter *filter,
     gix_config_bytes *text);
 
+/* Loads the configuration of the machine and of the user, from what a program told of files and of variables:
+ * the files that were installed with git, of the machine, and the user's two, in this order, each with what it
+ * includes; an empty file if there is none. What was in the file's handle before is closed.
+ *
+ * 105 if nothing was told of a variable that says where these files are, 103 if nothing was told of a file that
+ * is needed: its name or path is then in the block, whose bytes from before are freed; tell it, and call again.
+ * 21 if one of these files, and 19 if one that is included, was told to have a fault: its path is then in the
+ * block, too; 20 if one that is included can't be read. 1, 2, 3 and 12 to 18 if a file or its includes are
+ * refused. 101 if a place is not UTF-8, 102 if the handle is not one for what is told, 27 when out of memory.
+ * The file's handle is as it was after any number but 0, and the block after any but 19, 21, 103 and 105. */
+uint32_t gix_config_load_globals_told(gix_config_told *told, const gix_config_places *places,
+    gix_config_file *file, gix_config_bytes *asked);
+
 /* Fills in the usual layout: a tab before names, ` = `, the line ending of the text, one line ending at the end,
  * and all blank lines. */
 void gix_config_layout_default(gix_config_layout *layout);
@@ -394,6 +480,30 @@ uint32_t gix_config_normalize(const uint8_t *text, size_t text_len, const gix_co
  * 27 when out of memory; the boolean is then as it was. */
 uint32_t gix_config_wildmatch(const uint8_t *pattern, size_t pattern_len, const uint8_t *text,
     size_t text_len, bool ignore_case, bool *is_match);
+
+/* Adds an entry to the section at a place, counted from 0, below its last entry, or below its header if it has
+ * none: comments and blank lines behind it stay behind the new one. It is where `git config` puts a new entry.
+ *
+ * 100 if there is no such section, 6 for a name that can't be a value's, 3 if the file would be too long. 101 if
+ * the name is not UTF-8, 102 if the handle has no file, 27 when out of memory. The file is then as it was. */
+uint32_t gix_config_push_below_last_at(gix_config_file *file, size_t place,
+    const gix_config_assigned *assigned);
+
+/* Adds a line ending, the file's, to the section at a place, counted from 0, after all that it has: a blank
+ * line.
+ *
+ * 100 if there is no such section, 3 if the file would be too long. 102 if the handle has no file, 27 when out
+ * of memory. The file is then as it was. */
+uint32_t gix_config_push_newline_at(gix_config_file *file, size_t place);
+
+/* Removes the marked entries of a name from the section at a place, counted from 0: the first of its entries of
+ * the name goes if the first mark is true, and so on; those behind the last mark stay. Each goes with the blanks
+ * before it and the line endings after it. Tells how many went.
+ *
+ * 100 if there is no such section. 101 if the name is not UTF-8, 102 if the handle has no file, 27 when out of
+ * memory; the file is then as it was, and so is the count. */
+uint32_t gix_config_remove_marked_at(gix_config_file *file, size_t place, const uint8_t *name,
+    size_t name_len, const bool *marks, size_t marks_len, size_t *count);
 
 /* Tells how many texts, entries, sections or differences are in a list: 0 if the handle has no list. */
 size_t gix_config_list_len(gix_config_list *list);
@@ -453,6 +563,12 @@ uint32_t gix_config_boolean(gix_config_file *file, const gix_config_key *key, bo
  * the value's name is not UTF-8, 102 if the handle has no file, 27 when out of memory. The integer is then as it
  * was. */
 uint32_t gix_config_integer(gix_config_file *file, const gix_config_key *key, int64_t *value);
+
+/* Tells where a file comes from, and hands out its path, if it has one: that of the file itself, also where its
+ * sections come from others. What the block had is freed then.
+ *
+ * 102 if the handle has no file, 27 when out of memory. Origin and block are then as they were. */
+uint32_t gix_config_file_origin(gix_config_file *file, gix_config_origin *origin, gix_config_bytes *path);
 
 /* Adds a line to the section at a place, counted from 0, after all others that it has: also one of a name that
  * is there already, with the blanks that the section uses. A comment comes after ` #`.
@@ -533,6 +649,22 @@ uint32_t gix_config_file_clone(gix_config_file *file, gix_config_file *other_fil
 uint32_t gix_config_path(gix_config_file *file, const gix_config_key *key, const gix_config_folders *folders,
     gix_config_bytes *path);
 
+/* Loads the configuration of a repository, from what a program told of files and of variables: that of the
+ * machine and of the user (gix_config_load_globals_told), of the repository (`config` in its folder), of its
+ * worktree (`config.worktree`, if `extensions.worktreeConfig` is true), and the entries that variables set
+ * (gix_config_load_env_told), one after the other, each with what it includes. What was in the file's handle
+ * before is closed.
+ *
+ * 105 if nothing was told of a variable that is needed, 103 if nothing was told of a file that is: its name or
+ * path is then in the block, whose bytes from before are freed; tell it, and call again. 21 if one of these
+ * files, and 19 if one that is included, was told to have a fault: its path is then in the block, too; 20 if one
+ * that is included can't be read; 22 to 26 for the entries of variables, as gix_config_load_env_told has them. 1
+ * to 6 and 12 to 18 if a file, an entry or an include is refused. 101 if a text that has to be UTF-8 isn't, 102
+ * if the handle is not one for what is told, 27 when out of memory. The file's handle is as it was after any
+ * number but 0, and the block after any but 19, 21 to 26, 103 and 105. */
+uint32_t gix_config_load_repository_told(gix_config_told *told, const gix_config_repository *repository,
+    gix_config_file *file, gix_config_bytes *asked);
+
 /* Hands out the sections of a file, in order: their names, where they come from, and how many entries each has.
  * What was in the list's handle is closed.
  *
@@ -583,7 +715,8 @@ uint32_t gix_config_section_rename(gix_config_file *file, const gix_config_secti
 uint32_t gix_config_set_value(gix_config_file *file, const gix_config_key *key, const uint8_t *value,
     size_t value_len, bool *had, gix_config_bytes *old);
 
-/* Makes a place for what a program tells of files: nothing as yet. What was in the handle before is closed.
+/* Makes a place for what a program tells of files and of variables: nothing as yet. What was in the handle
+ * before is closed.
  *
  * 27 when out of memory; the handle is then as it was. */
 uint32_t gix_config_told_new(gix_config_told *told);
@@ -608,6 +741,21 @@ uint32_t gix_config_told_missing(gix_config_told *told, const uint8_t *path, siz
  * told is then as it was. */
 uint32_t gix_config_told_fault(gix_config_told *told, const uint8_t *path, size_t path_len, bool opens);
 
+/* Tells what a variable of the environment is set to, in place of what was told of it before. The bytes are
+ * copied. Of bytes that are not UTF-8 a key or a value can't be made, and a variable that says where a file is
+ * counts as not set then.
+ *
+ * 101 if the name is not UTF-8, 102 if the handle is not one for what is told, 27 when out of memory; what was
+ * told is then as it was. */
+uint32_t gix_config_told_variable(gix_config_told *told, const uint8_t *name, size_t name_len,
+    const uint8_t *value, size_t value_len);
+
+/* Tells that a variable of the environment isn't set, in place of what was told of it before.
+ *
+ * 101 if the name is not UTF-8, 102 if the handle is not one for what is told, 27 when out of memory; what was
+ * told is then as it was. */
+uint32_t gix_config_told_no_variable(gix_config_told *told, const uint8_t *name, size_t name_len);
+
 /* Closes what was told; an empty handle stays empty. */
 void gix_config_told_close(gix_config_told *told);
 
@@ -626,6 +774,16 @@ uint32_t gix_config_text_value(const uint8_t *text, size_t text_len, const gix_c
  * The numbers of gix_config_text_value; the list's handle is as it was after any but 0. */
 uint32_t gix_config_text_values(const uint8_t *text, size_t text_len, const gix_config_key *key,
     gix_config_list *list, gix_config_place *place);
+
+/* Tells where the text that was told of a path can't be read on: a load that needs that file is refused. The
+ * text is read once more. A load that is answered with 1 or 2 leaves in its block the path that it asked for
+ * last, which is that of the refused file for a program that tells one file after the other.
+ *
+ * Refusal 1 for a text that can't be read on at some place, 2 for one of more than 4294967295 bytes; then the
+ * place says where, else it is as it was. 0 for a text that can be read, 100 if no text was told of the path.
+ * 101 if the path is not UTF-8, 102 if the handle is not one for what is told, 27 when out of memory. */
+uint32_t gix_config_told_place(gix_config_told *told, const uint8_t *path, size_t path_len,
+    gix_config_place *place);
 
 #ifdef __cplusplus
 }

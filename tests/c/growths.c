@@ -50,6 +50,16 @@ static int calls(bool lossy)
         gix_config_assigned assigned = { text_of("n"), text_of("2") };
         count += refused(gix_config_push_line_at(&file, 0, &line));
         count += refused(gix_config_set_value_at(&file, 0, &assigned, &had, &bytes));
+        static const bool marks[] = { false, true };
+        gix_config_text values[] = { text_of("1 #"), text_of("2") };
+        gix_config_origin origin = { 0, 0, 0, false };
+        size_t removed = 0;
+        count += refused(gix_config_push_below_last_at(&file, 0, &assigned));
+        count += refused(gix_config_push_newline_at(&file, 0));
+        count += refused(gix_config_remove_marked_at(&file, 0, (const uint8_t *)"n", 1, marks, 2, &removed));
+        count += refused(gix_config_set_existing_value(&file, &editor, (const uint8_t *)"; x", 3));
+        count += refused(gix_config_set_existing_values(&file, &url, values, 2));
+        count += refused(gix_config_file_origin(&file, &origin, &name));
         count += refused(gix_config_remove_value_at(&file, 0, (const uint8_t *)"n", 1, &bytes));
         count += refused(gix_config_pop_value_at(&file, 0, &name, &bytes));
         count += refused(gix_config_section_set_trust_at(&file, 0, GIX_CONFIG_TRUST_REDUCED));

@@ -36,6 +36,16 @@ static void without_file(gix_config_file *file)
     CHECK(gix_config_integer_filter(file, &key, &filter, &integer) == GIX_CONFIG_WRONG_HANDLE && integer == 5);
     CHECK(gix_config_file_text_filter(file, &filter, &bytes) == GIX_CONFIG_WRONG_HANDLE);
     CHECK(gix_config_path(file, &key, &folders, &bytes) == GIX_CONFIG_WRONG_HANDLE);
+    gix_config_assigned assigned = { text_of("k"), text_of("v") };
+    gix_config_text values[] = { text_of("v") };
+    gix_config_origin origin = { 5, 6, 7, true };
+    size_t count = 7;
+    CHECK(gix_config_push_below_last_at(file, 0, &assigned) == GIX_CONFIG_WRONG_HANDLE);
+    CHECK(gix_config_push_newline_at(file, 0) == GIX_CONFIG_WRONG_HANDLE);
+    CHECK(gix_config_remove_marked_at(file, 0, (const uint8_t *)"k", 1, &boolean, 1, &count) == GIX_CONFIG_WRONG_HANDLE && count == 7);
+    CHECK(gix_config_set_existing_value(file, &key, (const uint8_t *)"v", 1) == GIX_CONFIG_WRONG_HANDLE);
+    CHECK(gix_config_set_existing_values(file, &key, values, 1) == GIX_CONFIG_WRONG_HANDLE);
+    CHECK(gix_config_file_origin(file, &origin, &bytes) == GIX_CONFIG_WRONG_HANDLE && origin.source == 5 && origin.has_path);
     CHECK(gix_config_file_equal(file, &other_file, &boolean) == GIX_CONFIG_WRONG_HANDLE && boolean);
     CHECK(gix_config_differences(file, &other_file, &list) == GIX_CONFIG_WRONG_HANDLE);
     CHECK(file->at == at && bytes.at == NULL && bytes.len == 0 && bytes.owner == NULL && list.at == NULL && other_file.at == NULL);

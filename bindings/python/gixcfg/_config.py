@@ -4,10 +4,10 @@ import ctypes
 import itertools
 import os
 import weakref
-from typing import Iterator, List, NamedTuple, NoReturn, Optional, Tuple, Union, cast
+from typing import Iterator, List, NamedTuple, NoReturn, Optional, Sequence, Tuple, Union, cast
 
 from gixcfg import _library as c
-from gixcfg._errors import ConfigError, IncludeError, KeyNotFound, NotOfType, ParseError, Refused
+from gixcfg._errors import ConfigError, IncludeError, KeyNotFound, NotOfType, ParseError, Refused, VariableError
 from gixcfg._including import Asked
 from gixcfg._saving import Lock, PathName
 
@@ -15,7 +15,7 @@ from gixcfg._saving import Lock, PathName
 Key = Union[str, Tuple[str, str], Tuple[str, str, str]]
 
 KINDS = {7: KeyNotFound, 8: KeyNotFound, 9: KeyNotFound, c.NOTHING_THERE: KeyNotFound, 11: NotOfType,
-         **{number: IncludeError for number in (12, 13, 14, 15, 16, 17, 18, 19, 20, 21)}}
+         **{number: IncludeError for number in (12, 13, 14, 15, 16, 17, 18, 19, 20, 21)}, **{number: VariableError for number in (22, 23, 24, 25, 26)}}
 
 
 def _encoded(text: str) -> bytes:
@@ -56,6 +56,12 @@ def _includes(includes: "Includes") -> c.Includes:
                       includes.branch is not None, _text(includes.branch or ""))
 
 
+def _places(installation: Optional[PathName], prefix: PathName, home: Optional[PathName]) -> c.Places:
+    """The places of configuration, for the library."""
+    user = os.path.expanduser("~") if home is None else os.fspath(home)
+    return c.Places(installation is not None, _text(os.fspath(installation or "")), _text(os.fspath(prefix)), True, _text(user))
+
+
 def _refuse(number: int, key: Optional[Key] = None) -> NoReturn:
     """Raises what stands for the number of a refusal."""
     if number == c.OUT_OF_MEMORY:
@@ -80,6 +86,22 @@ class Section(NamedTuple):
     name: str
     subsection: Optional[str]
     entries: List[Entry]
+
+
+SOURCES = ("git-installation", "system", "git", "user", "local", "worktree", "env", "cli", "api", "env-override")
+
+
+class Origin(NamedTuple):
+    """Where a whole file comes from, as the library knows it."""
+
+    source: str
+    """The place that it was read from: "system", "user", "local" and so on; "api" for a text that was parsed."""
+    level: int
+    """How many includes led to it."""
+    is_trusted: bool
+    """Whether it is fully trusted."""
+    path: Optional[str]
+    """Its path, if it has one."""
 
 
 class Includes(NamedTuple):
@@ -150,6 +172,38 @@ class Config:
         made._follow(Asked(lambda told, asked: int(c.LIBRARY.gix_config_load_told(told, load, made._file, asked))))
         return made
 
+    @classmethod
+    def load_globals(cls, installation: Optional[PathName] = None, prefix: PathName = "/", home: Optional[PathName] = None) -> "Config":
+        """The configuration of the machine and of the user, with what it includes: the file that was installed with git, if its path is given,
+        `etc/gitconfig` below the prefix, and the user's two, as the variables of the process say it (`GIT_CONFIG_NOSYSTEM`,
+        `GIT_CONFIG_SYSTEM`, `GIT_CONFIG_GLOBAL`, `XDG_CONFIG_HOME`, `HOME`). An empty file if there is none. It is for look-ups, as that of
+        `load_with_includes`, and raises as that does. The home folder is that for `~/` in the paths of includes."""
+        made, places = cls(), _places(installation, prefix, home)
+        made._follow(Asked(lambda told, asked: int(c.LIBRARY.gix_config_load_globals_told(told, places, made._file, asked))))
+        return made
+
+    @classmethod
+    def load_environment(cls, includes: Includes = Includes()) -> "Config":
+        """The entries that variables of the process set (`GIT_CONFIG_COUNT`, `GIT_CONFIG_KEY_0`, `GIT_CONFIG_VALUE_0` and so on), with what
+        they include; an empty file if they set none. Raises VariableError for a count that is no number, a key or a value that isn't set or
+        isn't UTF-8, and a key without a dot; else as `load_with_includes`."""
+        made, given = cls(), _includes(includes)
+        asked = Asked(lambda told, asked: int(c.LIBRARY.gix_config_load_env_told(told, given, made._file, asked)))
+        if asked.number != c.NOTHING_THERE:
+            made._follow(asked)
+        return made
+
+    @classmethod
+    def load_repository(cls, git_folder: PathName, installation: Optional[PathName] = None, prefix: PathName = "/",
+                        home: Optional[PathName] = None) -> "Config":
+        """The configuration of a repository by its folder, as `.git`: that of `load_globals`, its own, that of its worktree if
+        `extensions.worktreeConfig` is true, and the entries of `load_environment`, one after the other. Raises as these do, and IncludeError
+        if the repository's `config` is missing."""
+        git = os.path.abspath(os.fspath(git_folder))
+        made, repository = cls(), c.Repository(_text(git), _text(os.path.realpath(git)), _places(installation, prefix, home))
+        made._follow(Asked(lambda told, asked: int(c.LIBRARY.gix_config_load_repository_told(told, repository, made._file, asked))))
+        return made
+
     def resolve_includes(self, includes: Includes = Includes()) -> None:
         """Reads the files that the sections include, and puts the sections of each where it is included. A file that was parsed from a text has
         no path, so that relative paths of includes are refused. Raises as `load_with_includes`; the file is then as it was."""
@@ -168,7 +222,7 @@ class Config:
                 error.path = os.fsdecode(asked.path)
                 raise
         if asked.number != c.DONE:
-            _refuse(asked.number, os.fsdecode(asked.path) if asked.path else None)
+            _refuse(asked.number, os.fsdecode(asked.about) if asked.about else None)
 
     @classmethod
     @contextlib.contextmanager
@@ -212,6 +266,16 @@ class Config:
     def text(self) -> str:
         """The text of the file."""
         return _decoded(bytes(self))
+
+    @property
+    def origin(self) -> Origin:
+        """Where the file comes from."""
+        origin, block = c.Origin(), c.Block()
+        number = c.LIBRARY.gix_config_file_origin(self._file, origin, block)
+        if number != c.DONE:
+            _refuse(number)
+        path = os.fsdecode(self._taken(block)) if origin.has_path else None
+        return Origin(SOURCES[origin.source.bit_length() - 1], origin.level, origin.trust == c.TRUST_FULL, path)
 
     @staticmethod
     def _taken(block: c.Block) -> bytes:
@@ -334,6 +398,21 @@ class Config:
             _refuse(number, key)
         return _decoded(self._taken(old)) if had.value else None
 
+    def set_existing(self, key: Key, value: str) -> None:
+        """Gives the last entry of a key a value; none is made. Raises KeyNotFound, and Refused."""
+        encoded = _encoded(value)
+        number = c.LIBRARY.gix_config_set_existing_value(self._file, _key(key), encoded, len(encoded))
+        if number != c.DONE:
+            _refuse(number, key)
+
+    def set_all(self, key: Key, values: Sequence[str]) -> None:
+        """Gives the entries of a key these values, the first entry the first value and so on, up to the end of the shorter list; none is made.
+        Raises KeyNotFound, and Refused: for a file that would be too long after the entries before have their values."""
+        texts = (c.Text * max(len(values), 1))(*[_text(it) for it in values])
+        number = c.LIBRARY.gix_config_set_existing_values(self._file, _key(key), texts, len(values))
+        if number != c.DONE:
+            _refuse(number, key)
+
     def __setitem__(self, key: Key, value: str) -> None:
         """As `set`."""
         self.set(key, value)
@@ -393,6 +472,22 @@ class SectionEditor:
         old, encoded = c.Block(), _encoded(name)
         self._done(c.LIBRARY.gix_config_remove_value_at(self._config._file, self._place, encoded, len(encoded), old), name)
         return _decoded(self._config._taken(old))
+
+    def add_below(self, name: str, value: str) -> None:
+        """Adds an entry below the last one, before the comments and blank lines behind that, as `git config` does. Raises Refused."""
+        self._done(c.LIBRARY.gix_config_push_below_last_at(self._config._file, self._place, c.Assigned(_text(name), _text(value))), name)
+
+    def add_blank_line(self) -> None:
+        """Adds a line ending after all that the section has."""
+        self._done(c.LIBRARY.gix_config_push_newline_at(self._config._file, self._place), "a blank line")
+
+    def remove_all(self, name: str) -> int:
+        """Removes all entries of a name, and returns how many these were."""
+        count, encoded, entries = ctypes.c_size_t(), _encoded(name), len(self._config.sections()[self._place].entries)
+        marks = (ctypes.c_bool * max(entries, 1))(*[True] * entries)
+        number = c.LIBRARY.gix_config_remove_marked_at(self._config._file, self._place, encoded, len(encoded), marks, entries, count)
+        self._done(number, name)
+        return count.value
 
     def pop(self) -> Tuple[str, str]:
         """Removes the last entry, with all that is after it, and returns its name and what its value means. Raises KeyNotFound."""

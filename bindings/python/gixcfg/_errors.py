@@ -46,5 +46,10 @@ class IncludeError(ConfigError):
     (17, 18)."""
 
 
+class VariableError(ConfigError, ValueError):
+    """Variables of the environment set entries that are refused: their count (23), a key or a value that isn't set (24, 26) or isn't UTF-8
+    (22), or a key without a dot (25)."""
+
+
 class Locked(FileExistsError):
     """FILE.lock is there already, so another program edits the file."""

@@ -1,4 +1,4 @@
-"""Files that the library asks for while it follows includes."""
+"""Files and variables that the library asks for while it loads."""
 import os
 from typing import Callable, Optional, Tuple
 
@@ -21,8 +21,16 @@ def _tell(told: c.Handle, path: bytes) -> Tuple[int, Optional[bytes]]:
     return c.LIBRARY.gix_config_told_text(told, path, len(path), text, len(text)), text
 
 
+def _tell_variable(told: c.Handle, name: bytes) -> int:
+    """Tells what a variable of the process is set to, if it is. Returns the answer."""
+    value = os.environb.get(name)
+    if value is None:
+        return int(c.LIBRARY.gix_config_told_no_variable(told, name, len(name)))
+    return int(c.LIBRARY.gix_config_told_variable(told, name, len(name), value, len(value)))
+
+
 class Asked:
-    """A call that asks for files: it is made again and again, each time with one file more, until it asks for none."""
+    """A call that asks for files and variables: it is made again and again, each time with one more, until it asks for none."""
 
     number: int
     """What the call answers at last."""
@@ -30,18 +38,24 @@ class Asked:
     """The file that was asked for last."""
     text: Optional[bytes]
     """Its text, if it has one."""
+    about: bytes
+    """The file or the variable that the call named last."""
 
     def __init__(self, call: Callable[[c.Handle, c.Block], int]) -> None:
         told, asked = c.Handle(), c.Block()
-        self.path, self.text = b"", None
+        self.path, self.text, self.about = b"", None, b""
         try:
             self.number = c.LIBRARY.gix_config_told_new(told)
             while self.number == c.DONE:
                 self.number = call(told, asked)
-                if self.number != c.NOT_TOLD:
+                self.about = c.bytes_at(asked)
+                if self.number == c.NOT_TOLD:
+                    self.path = self.about
+                    self.number, self.text = _tell(told, self.path)
+                elif self.number == c.VARIABLE_NOT_TOLD:
+                    self.number = _tell_variable(told, self.about)
+                else:
                     break
-                self.path = c.bytes_at(asked)
-                self.number, self.text = _tell(told, self.path)
         finally:
             c.LIBRARY.gix_config_told_close(told)
             c.LIBRARY.gix_config_bytes_free(asked)

@@ -6,7 +6,7 @@ from pathlib import Path
 
 NAME = "libgix_config.so.0"
 
-DONE, OUT_OF_MEMORY, NOTHING_THERE, NOT_UTF8, NOT_TOLD = 0, 27, 100, 101, 103
+DONE, OUT_OF_MEMORY, NOTHING_THERE, NOT_UTF8, NOT_TOLD, VARIABLE_NOT_TOLD = 0, 27, 100, 101, 103, 105
 SOURCE_API, TRUST_FULL = 256, 1
 
 
@@ -76,6 +76,18 @@ class Load(ctypes.Structure):
     _fields_ = [("path", Text), ("source", ctypes.c_uint32), ("trust", ctypes.c_uint32), ("includes", Includes)]
 
 
+class Places(ctypes.Structure):
+    _fields_ = [("has_installation", ctypes.c_bool), ("installation", Text), ("system_prefix", Text), ("has_home", ctypes.c_bool), ("home", Text)]
+
+
+class Repository(ctypes.Structure):
+    _fields_ = [("git_folder", Text), ("real_git_folder", Text), ("places", Places)]
+
+
+class Origin(ctypes.Structure):
+    _fields_ = [("source", ctypes.c_uint32), ("level", ctypes.c_uint32), ("trust", ctypes.c_uint32), ("has_path", ctypes.c_bool)]
+
+
 class Place(ctypes.Structure):
     _fields_ = [("line", ctypes.c_size_t), ("column", ctypes.c_size_t), ("offset", ctypes.c_size_t)]
 
@@ -86,6 +98,7 @@ CALLS = {
     "file_clone": [ctypes.POINTER(Handle), ctypes.POINTER(Handle)],
     "file_append": [ctypes.POINTER(Handle), ctypes.POINTER(Handle)],
     "file_text": [ctypes.POINTER(Handle), ctypes.POINTER(Block)],
+    "file_origin": [ctypes.POINTER(Handle), ctypes.POINTER(Origin), ctypes.POINTER(Block)],
     "value": [ctypes.POINTER(Handle), ctypes.POINTER(Key), ctypes.POINTER(Block)],
     "values": [ctypes.POINTER(Handle), ctypes.POINTER(Key), ctypes.POINTER(Handle)],
     "list_at": [ctypes.POINTER(Handle), ctypes.c_size_t, ctypes.POINTER(Span)],
@@ -98,18 +111,31 @@ CALLS = {
     "set_value": [
         ctypes.POINTER(Handle), ctypes.POINTER(Key), ctypes.c_char_p, ctypes.c_size_t, ctypes.POINTER(ctypes.c_bool), ctypes.POINTER(Block),
     ],
+    "set_existing_value": [ctypes.POINTER(Handle), ctypes.POINTER(Key), ctypes.c_char_p, ctypes.c_size_t],
+    "set_existing_values": [ctypes.POINTER(Handle), ctypes.POINTER(Key), ctypes.POINTER(Text), ctypes.c_size_t],
     "push_value": [ctypes.POINTER(Handle), ctypes.POINTER(Key), ctypes.c_bool, ctypes.c_char_p, ctypes.c_size_t],
     "remove_value": [ctypes.POINTER(Handle), ctypes.POINTER(Key), ctypes.POINTER(Block)],
     "push_line_at": [ctypes.POINTER(Handle), ctypes.c_size_t, ctypes.POINTER(Line)],
     "set_value_at": [ctypes.POINTER(Handle), ctypes.c_size_t, ctypes.POINTER(Assigned), ctypes.POINTER(ctypes.c_bool), ctypes.POINTER(Block)],
     "remove_value_at": [ctypes.POINTER(Handle), ctypes.c_size_t, ctypes.c_char_p, ctypes.c_size_t, ctypes.POINTER(Block)],
     "pop_value_at": [ctypes.POINTER(Handle), ctypes.c_size_t, ctypes.POINTER(Block), ctypes.POINTER(Block)],
+    "push_below_last_at": [ctypes.POINTER(Handle), ctypes.c_size_t, ctypes.POINTER(Assigned)],
+    "push_newline_at": [ctypes.POINTER(Handle), ctypes.c_size_t],
+    "remove_marked_at": [
+        ctypes.POINTER(Handle), ctypes.c_size_t, ctypes.c_char_p, ctypes.c_size_t, ctypes.POINTER(ctypes.c_bool), ctypes.c_size_t,
+        ctypes.POINTER(ctypes.c_size_t),
+    ],
     "section_rename_at": [ctypes.POINTER(Handle), ctypes.c_size_t, ctypes.POINTER(SectionKey)],
     "section_remove_at": [ctypes.POINTER(Handle), ctypes.c_size_t],
     "told_new": [ctypes.POINTER(Handle)],
     "told_text": [ctypes.POINTER(Handle), ctypes.c_char_p, ctypes.c_size_t, ctypes.c_char_p, ctypes.c_size_t],
     "told_missing": [ctypes.POINTER(Handle), ctypes.c_char_p, ctypes.c_size_t],
     "told_fault": [ctypes.POINTER(Handle), ctypes.c_char_p, ctypes.c_size_t, ctypes.c_bool],
+    "told_variable": [ctypes.POINTER(Handle), ctypes.c_char_p, ctypes.c_size_t, ctypes.c_char_p, ctypes.c_size_t],
+    "told_no_variable": [ctypes.POINTER(Handle), ctypes.c_char_p, ctypes.c_size_t],
+    "load_globals_told": [ctypes.POINTER(Handle), ctypes.POINTER(Places), ctypes.POINTER(Handle), ctypes.POINTER(Block)],
+    "load_env_told": [ctypes.POINTER(Handle), ctypes.POINTER(Includes), ctypes.POINTER(Handle), ctypes.POINTER(Block)],
+    "load_repository_told": [ctypes.POINTER(Handle), ctypes.POINTER(Repository), ctypes.POINTER(Handle), ctypes.POINTER(Block)],
     "load_told": [ctypes.POINTER(Handle), ctypes.POINTER(Load), ctypes.POINTER(Handle), ctypes.POINTER(Block)],
     "resolve_includes_told": [ctypes.POINTER(Handle), ctypes.POINTER(Handle), ctypes.POINTER(Includes), ctypes.POINTER(Block)],
 }

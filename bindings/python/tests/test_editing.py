@@ -89,6 +89,28 @@ class Places(unittest.TestCase):
         self.assertRaises(IndexError, self.config.edit_section, 2)
         self.assertRaises(IndexError, self.config.remove_section, 2)
 
+    def test_values_that_are_there(self) -> None:
+        config = Config.parse("[a]\n\tk = 1\n\tk = 2 ; two\n")
+        config.set_existing("a.k", "3")
+        self.assertRaises(KeyNotFound, config.set_existing, "a.j", "3")
+        self.assertRaises(KeyNotFound, config.set_all, "b.k", ["3"])
+        self.assertEqual(config.get_all("a.k"), ["1", "3"])
+        config.set_all("a.k", ["x", " y", "z"])
+        self.assertEqual(config.text, '[a]\n\tk = x\n\tk = " y" ; two\n')
+        config.set_all("a.k", [])
+        self.assertEqual(config.get_all("a.k"), ["x", " y"])
+
+    def test_lines_of_a_section(self) -> None:
+        config = Config.parse("[a]\n\tk = 1\n\tj = 2\n\tK = 3\n# of b\n[b]\n")
+        editor = config.edit_section(0)
+        editor.add_below("n", "4")
+        self.assertEqual(config.text, "[a]\n\tk = 1\n\tj = 2\n\tK = 3\n\tn = 4\n# of b\n[b]\n")
+        self.assertEqual((editor.remove_all("k"), editor.remove_all("none")), (2, 0))
+        self.assertEqual(config.text, "[a]\n\tj = 2\n\tn = 4\n# of b\n[b]\n")
+        config.edit_section(1).add_blank_line()
+        self.assertEqual(config.text, "[a]\n\tj = 2\n\tn = 4\n# of b\n[b]\n\n")
+        self.assertRaises(Refused, editor.add_below, "n n", "5")
+
 
 if __name__ == "__main__":
     unittest.main()

@@ -29,6 +29,12 @@ class Loads(unittest.TestCase):
         self.assertEqual([it.name for it in config.sections()], ["x", "include", "x", "include", "y", "x"])
         self.assertRaises(ValueError, config.save)
 
+    def test_origins(self) -> None:
+        path = self.put("a", "[include]\n\tpath = b\n")
+        self.put("b", "[x]\n")
+        self.assertEqual(Config.load_with_includes(path).origin, ("api", 0, True, str(path)))
+        self.assertEqual(Config.parse("[x]\n").origin, ("api", 0, True, None))
+
     def test_what_is_no_file_is_left_out(self) -> None:
         path = self.put("a", "[include]\n\tpath = none\n\tpath = .\n[x]\n\tk = 1\n")
         self.assertEqual(Config.load_with_includes(path)["x.k"], "1")

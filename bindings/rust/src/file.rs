@@ -1,8 +1,10 @@
 //! A file of configuration.
 use std::cell::UnsafeCell;
+use std::env;
 use std::fmt;
+use std::fs;
 use std::io;
-use std::path::Path;
+use std::path::{Path, PathBuf};
 use std::str::FromStr;
 
 use bstr::{BStr, BString, ByteSlice};
@@ -58,6 +60,29 @@ pub(crate) fn section_names<'a>(name: &'a str, subsection: Option<&'a BStr>) -> 
         name: sys::Text::of(name.as_bytes()),
         has_subsection: subsection.is_some(),
         subsection: sys::Text::of(subsection.unwrap_or_default()),
+    }
+}
+
+/// The user's home folder.
+fn home() -> Option<PathBuf> {
+    env::var_os("HOME").map(PathBuf::from)
+}
+
+/// The places of the machine, with the user's home folder.
+fn places(home: Option<&Path>) -> includes::Places<'_> {
+    includes::Places {
+        installation_config: None,
+        system_prefix: Path::new("/"),
+        home,
+    }
+}
+
+/// What the number of a call that sets values says.
+fn set(number: u32) -> Result<(), set_raw_value::Error> {
+    match number {
+        DONE => Ok(()),
+        OUT_OF_MEMORY => out_of_memory(),
+        number => Err(set_raw_value::Error { number }),
     }
 }
 
@@ -195,20 +220,23 @@ impl File {
     /// The last value of a key in a type, by a call of the library.
     fn typed<T: Default>(
         &self,
-        key: KeyRef<'_>,
+        key: Option<KeyRef<'_>>,
         message: &'static str,
         call: unsafe extern "C" fn(*mut sys::Handle, *const sys::Key<'_>, *mut T) -> u32,
-    ) -> Option<Result<T, value::Error>> {
+    ) -> Result<Option<T>, value::Error> {
+        let Some(key) = key else {
+            return Ok(None);
+        };
         let mut found = T::default();
         let names = names(key.section_name, key.subsection_name, key.value_name);
         // SAFETY: the handle has a file, which no other call has now.
         match unsafe { call(self.handle(), &names, &mut found) } {
-            DONE => Some(Ok(found)),
-            NOTHING_THERE => None,
+            DONE => Ok(Some(found)),
+            NOTHING_THERE => Ok(None),
             OUT_OF_MEMORY => out_of_memory(),
             _ => {
                 let input = self.string(key).unwrap_or_default();
-                Some(Err(value::Error { message, input }))
+                Err(value::Error { message, input })
             }
         }
     }
@@ -218,9 +246,8 @@ impl File {
     /// # Errors
     ///
     /// The value is no boolean.
-    #[must_use]
-    pub fn boolean(&self, key: impl AsKey) -> Option<Result<bool, value::Error>> {
-        self.typed(key.try_as_key()?, "not a boolean", sys::gix_config_boolean)
+    pub fn boolean(&self, key: impl AsKey) -> Result<Option<bool>, value::Error> {
+        self.typed(key.try_as_key(), "not a boolean", sys::gix_config_boolean)
     }
 
     /// As [`File::boolean`], by names.
@@ -228,13 +255,12 @@ impl File {
     /// # Errors
     ///
     /// The value is no boolean.
-    #[must_use]
     pub fn boolean_by(
         &self,
         section_name: impl AsRef<str>,
         subsection_name: Option<&BStr>,
         value_name: impl AsRef<str>,
-    ) -> Option<Result<bool, value::Error>> {
+    ) -> Result<Option<bool>, value::Error> {
         let (section_name, value_name) = (section_name.as_ref(), value_name.as_ref());
         self.boolean(KeyRef {
             section_name,
@@ -248,9 +274,8 @@ impl File {
     /// # Errors
     ///
     /// The value is no integer of 64 bits.
-    #[must_use]
-    pub fn integer(&self, key: impl AsKey) -> Option<Result<i64, value::Error>> {
-        self.typed(key.try_as_key()?, "not an integer", sys::gix_config_integer)
+    pub fn integer(&self, key: impl AsKey) -> Result<Option<i64>, value::Error> {
+        self.typed(key.try_as_key(), "not an integer", sys::gix_config_integer)
     }
 
     /// As [`File::integer`], by names.
@@ -258,13 +283,12 @@ impl File {
     /// # Errors
     ///
     /// The value is no integer of 64 bits.
-    #[must_use]
     pub fn integer_by(
         &self,
         section_name: impl AsRef<str>,
         subsection_name: Option<&BStr>,
         value_name: impl AsRef<str>,
-    ) -> Option<Result<i64, value::Error>> {
+    ) -> Result<Option<i64>, value::Error> {
         let (section_name, value_name) = (section_name.as_ref(), value_name.as_ref());
         self.integer(KeyRef {
             section_name,
@@ -388,9 +412,7 @@ impl File {
         options: includes::Options<'_>,
         files: &mut impl includes::Files,
     ) -> Result<File, includes::Error> {
-        let file = File {
-            handle: UnsafeCell::new(sys::Handle::empty()),
-        };
+        let file = File::empty_handle();
         let real = options.real_git_dir();
         let load = sys::Load {
             path: sys::Text::of(includes::bytes(path)),
@@ -399,8 +421,141 @@ impl File {
             includes: options.given(real.as_bstr()),
         };
         // SAFETY: what is told is another handle than the file's.
-        includes::ask(files, |told, asked| unsafe {
+        let host = includes::Host {
+            files,
+            variables: &mut includes::Process,
+        };
+        includes::ask(host, |told, asked| unsafe {
             sys::gix_config_load_told(told, &load, file.handle(), asked)
+        })?;
+        Ok(file)
+    }
+
+    /// A file whose handle is empty as yet.
+    fn empty_handle() -> File {
+        File {
+            handle: UnsafeCell::new(sys::Handle::empty()),
+        }
+    }
+
+    /// The configuration of the machine and of the user, by the variables of the process (`GIT_CONFIG_NOSYSTEM`, `GIT_CONFIG_SYSTEM`,
+    /// `GIT_CONFIG_GLOBAL`, `XDG_CONFIG_HOME`, `HOME`), with what it includes; an empty file if there is none. What was installed with git
+    /// is not looked for: [`File::from_globals_of`] takes its path.
+    ///
+    /// # Errors
+    ///
+    /// A file can't be opened or read, or an include is refused.
+    pub fn from_globals() -> Result<File, includes::Error> {
+        let home = home();
+        File::from_globals_of(
+            &places(home.as_deref()),
+            &mut includes::Disk,
+            &mut includes::Process,
+        )
+    }
+
+    /// As [`File::from_globals`], with places, files and variables from elsewhere.
+    ///
+    /// # Errors
+    ///
+    /// Those of [`File::from_globals`].
+    pub fn from_globals_of(
+        places: &includes::Places<'_>,
+        files: &mut impl includes::Files,
+        variables: &mut impl includes::Variables,
+    ) -> Result<File, includes::Error> {
+        let file = File::empty_handle();
+        let given = places.given();
+        // SAFETY: what is told is another handle than the file's.
+        includes::ask(includes::Host { files, variables }, |told, asked| unsafe {
+            sys::gix_config_load_globals_told(told, &given, file.handle(), asked)
+        })?;
+        Ok(file)
+    }
+
+    /// The file of the entries that variables of the process set (`GIT_CONFIG_COUNT`, `GIT_CONFIG_KEY_0`, `GIT_CONFIG_VALUE_0` and so on),
+    /// with what it includes; `None` if they set none.
+    ///
+    /// # Errors
+    ///
+    /// The count is no number, a key or a value isn't set or isn't UTF-8, a key has no dot, a name can't be written into a file; or an
+    /// include is refused.
+    pub fn from_env(options: includes::Options<'_>) -> Result<Option<File>, includes::Error> {
+        File::from_env_of(options, &mut includes::Disk, &mut includes::Process)
+    }
+
+    /// As [`File::from_env`], with files and variables from elsewhere.
+    ///
+    /// # Errors
+    ///
+    /// Those of [`File::from_env`].
+    pub fn from_env_of(
+        options: includes::Options<'_>,
+        files: &mut impl includes::Files,
+        variables: &mut impl includes::Variables,
+    ) -> Result<Option<File>, includes::Error> {
+        let file = File::empty_handle();
+        let real = options.real_git_dir();
+        let given = options.given(real.as_bstr());
+        // SAFETY: what is told is another handle than the file's.
+        let made = includes::ask(includes::Host { files, variables }, |told, asked| unsafe {
+            sys::gix_config_load_env_told(told, &given, file.handle(), asked)
+        });
+        match made {
+            Ok(()) => Ok(Some(file)),
+            Err(refusal) if refusal.number == NOTHING_THERE => Ok(None),
+            Err(refusal) => Err(refusal),
+        }
+    }
+
+    /// [`File::from_env`], whose includes know the user's home folder; an empty file if that is `None`.
+    ///
+    /// # Errors
+    ///
+    /// Those of [`File::from_env`].
+    pub fn from_environment_overrides() -> Result<File, includes::Error> {
+        let home = home();
+        let options = includes::Options::follow_without_conditional(home.as_deref());
+        Ok(File::from_env(options)?.unwrap_or_default())
+    }
+
+    /// The configuration of a repository by its folder, as `.git`: that of [`File::from_globals`], its own, that of its worktree if
+    /// `extensions.worktreeConfig` is true, and the entries of [`File::from_env`], one after the other.
+    ///
+    /// # Errors
+    ///
+    /// Those of the calls named above; and the repository's `config` is missing.
+    pub fn from_git_dir(dir: impl AsRef<Path>) -> Result<File, includes::Error> {
+        let home = home();
+        File::from_git_dir_of(
+            dir.as_ref(),
+            &places(home.as_deref()),
+            &mut includes::Disk,
+            &mut includes::Process,
+        )
+    }
+
+    /// As [`File::from_git_dir`], with places, files and variables from elsewhere.
+    ///
+    /// # Errors
+    ///
+    /// Those of [`File::from_git_dir`].
+    pub fn from_git_dir_of(
+        dir: &Path,
+        places: &includes::Places<'_>,
+        files: &mut impl includes::Files,
+        variables: &mut impl includes::Variables,
+    ) -> Result<File, includes::Error> {
+        let file = File::empty_handle();
+        let real = fs::canonicalize(dir).unwrap_or_else(|_| dir.to_owned());
+        let repository = sys::Repository {
+            git_folder: sys::Text::of(includes::bytes(dir)),
+            real_git_folder: sys::Text::of(includes::bytes(&real)),
+            places: places.given(),
+        };
+        // SAFETY: what is told is another handle than the file's.
+        includes::ask(includes::Host { files, variables }, |told, asked| unsafe {
+            sys::gix_config_load_repository_told(told, &repository, file.handle(), asked)
         })?;
         Ok(file)
     }
@@ -430,7 +585,11 @@ impl File {
         let real = options.real_git_dir();
         let given = options.given(real.as_bstr());
         // SAFETY: what is told is another handle than the file's, which no other call has now.
-        includes::ask(files, |told, asked| unsafe {
+        let host = includes::Host {
+            files,
+            variables: &mut includes::Process,
+        };
+        includes::ask(host, |told, asked| unsafe {
             sys::gix_config_resolve_includes_told(told, self.handle(), &given, asked)
         })
     }
@@ -467,6 +626,51 @@ impl File {
         }
     }
 
+    /// Gives the last entry of a key another value; no entry is made.
+    ///
+    /// # Errors
+    ///
+    /// There is no such entry, the name can't be written, or the file would be too long. The file is then as it was.
+    pub fn set_existing_raw_value_by<'b>(
+        &mut self,
+        section_name: impl AsRef<str>,
+        subsection_name: Option<&BStr>,
+        value_name: impl AsRef<str>,
+        new_value: impl Into<&'b BStr>,
+    ) -> Result<(), set_raw_value::Error> {
+        let new_value = new_value.into();
+        let key = names(section_name.as_ref(), subsection_name, value_name.as_ref());
+        let (at, len) = (new_value.as_ptr(), new_value.len());
+        // SAFETY: the handle has a file, and the value is as long as is said.
+        set(unsafe { sys::gix_config_set_existing_value(self.handle(), &key, at, len) })
+    }
+
+    /// Gives the entries of a key other values, the first entry the first value and so on, up to the end of the shorter list; no entry is
+    /// made.
+    ///
+    /// # Errors
+    ///
+    /// There is no such entry, or the name can't be written: the file is then as it was. The file would be too long: the entries before the
+    /// one that was refused then have their values.
+    pub fn set_existing_raw_multi_value_by<Iter, Item>(
+        &mut self,
+        section_name: impl AsRef<str>,
+        subsection_name: Option<&BStr>,
+        value_name: impl AsRef<str>,
+        new_values: Iter,
+    ) -> Result<(), set_raw_value::Error>
+    where
+        Iter: IntoIterator<Item = Item>,
+        Item: AsRef<[u8]>,
+    {
+        let kept: Vec<Item> = new_values.into_iter().collect();
+        let values: Vec<_> = kept.iter().map(|it| sys::Text::of(it.as_ref())).collect();
+        let key = names(section_name.as_ref(), subsection_name, value_name.as_ref());
+        let (at, len) = (values.as_ptr(), values.len());
+        // SAFETY: the handle has a file, and there are as many values as is said, which lie there until the call is done.
+        set(unsafe { sys::gix_config_set_existing_values(self.handle(), &key, at, len) })
+    }
+
     /// Gives all sections that have the name and the subsection another name and subsection.
     ///
     /// # Errors
@@ -491,15 +695,15 @@ impl File {
 
     /// Adds the sections of another file after all others.
     ///
-    /// # Panics
+    /// # Errors
     ///
-    /// If the file would have more than 4294967295 bytes, or as many sections.
-    pub fn append(&mut self, other: File) -> &mut File {
+    /// The file would have more than 4294967295 bytes, or as many sections. It is then as it was.
+    pub fn append(&mut self, other: File) -> Result<&mut File, parse::span::Error> {
         // SAFETY: both handles have files, and they are two.
         match unsafe { sys::gix_config_file_append(self.handle(), other.handle()) } {
-            DONE => self,
+            DONE => Ok(self),
             OUT_OF_MEMORY => out_of_memory(),
-            number => panic!("{}", words(number)),
+            number => Err(parse::span::Error { number }),
         }
     }
 
@@ -526,6 +730,13 @@ impl File {
     /// Those of the writer.
     pub fn write_to(&self, mut out: impl io::Write) -> io::Result<()> {
         out.write_all(self.text().bytes())
+    }
+}
+
+impl Default for File {
+    /// An empty file.
+    fn default() -> File {
+        File::try_from("").unwrap_or_else(|_| out_of_memory())
     }
 }
 

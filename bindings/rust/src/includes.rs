@@ -5,6 +5,7 @@ use std::path::Path;
 
 use bstr::{BStr, BString, ByteSlice};
 
+use crate::refusal::{out_of_memory, DONE, NOT_TOLD, OUT_OF_MEMORY, VARIABLE_NOT_TOLD};
 use crate::sys;
 
 /// What the conditions of `includeIf` are about.
@@ -118,13 +119,13 @@ fn known(path: Option<&Path>) -> (sys::Text<'_>, bool) {
     (sys::Text::of(path.map_or(b"", bytes)), path.is_some())
 }
 
-/// Why includes are refused: for a file, its path, its depth, or a condition.
+/// Why a load is refused: for a file, an include or an entry that variables set.
 #[derive(Clone, Debug, PartialEq, Eq, thiserror::Error)]
 #[error("{}", crate::refusal::words(*number))]
 pub struct Error {
     /// The number of the refusal in docs/refusals.md.
     pub number: u32,
-    /// The path of the file that was asked for last, if one was.
+    /// The path of the file, or the name of the variable, that was asked for last, if one was.
     pub path: Option<BString>,
 }
 
@@ -167,24 +168,76 @@ impl Files for Disk {
     }
 }
 
-/// Makes a call again and again, each time with one file more, until it asks for none.
+/// Where variables of the environment come from.
+pub trait Variables {
+    /// What a variable is set to, if it is set.
+    fn get(&mut self, name: &str) -> Option<Vec<u8>>;
+}
+
+/// The variables of the process.
+#[derive(Clone, Copy, Debug, Default)]
+pub struct Process;
+
+impl Variables for Process {
+    fn get(&mut self, name: &str) -> Option<Vec<u8>> {
+        std::env::var_os(name).map(std::os::unix::ffi::OsStringExt::into_vec)
+    }
+}
+
+/// What a call asks for besides what it is given.
+pub(crate) struct Host<'a> {
+    pub(crate) files: &'a mut dyn Files,
+    pub(crate) variables: &'a mut dyn Variables,
+}
+
+/// The places of configuration that a program knows.
+#[derive(Clone, Copy, Debug)]
+pub struct Places<'a> {
+    /// The path of the configuration that was installed with git, if there is some.
+    pub installation_config: Option<&'a Path>,
+    /// The folder that `etc/gitconfig` is in, the configuration of the whole machine.
+    pub system_prefix: &'a Path,
+    /// The user's home folder, for `~/` in the paths of includes.
+    pub home: Option<&'a Path>,
+}
+
+impl<'a> Places<'a> {
+    /// The same as the library takes it.
+    pub(crate) fn given(&self) -> sys::Places<'a> {
+        let (installation, has_installation) = known(self.installation_config);
+        let (home, has_home) = known(self.home);
+        sys::Places {
+            has_installation,
+            installation,
+            system_prefix: sys::Text::of(bytes(self.system_prefix)),
+            has_home,
+            home,
+        }
+    }
+}
+
+/// Makes a call again and again, each time with one file or variable more, until it asks for none.
 pub(crate) fn ask(
-    files: &mut impl Files,
+    host: Host<'_>,
     mut call: impl FnMut(*mut sys::Handle, &mut sys::Block) -> u32,
 ) -> Result<(), Error> {
     let mut told = sys::Told::new();
-    let mut path = None;
+    let mut last = None;
     loop {
         let mut asked = sys::Block::empty();
-        match call(told.handle(), &mut asked) {
-            crate::refusal::DONE => return Ok(()),
-            crate::refusal::NOT_TOLD => {
-                let at = asked.bytes();
-                told.tell(at, &files.find(&path_of(at)));
-                path = Some(at.into());
+        let number = call(told.handle(), &mut asked);
+        let about = asked.bytes();
+        if !about.is_empty() {
+            last = Some(about.into());
+        }
+        match number {
+            DONE => return Ok(()),
+            NOT_TOLD => told.tell(about, &host.files.find(&path_of(about))),
+            VARIABLE_NOT_TOLD => {
+                told.tell_variable(about, host.variables.get(&about.to_str_lossy()).as_deref());
             }
-            crate::refusal::OUT_OF_MEMORY => crate::refusal::out_of_memory(),
-            number => return Err(Error { number, path }),
+            OUT_OF_MEMORY => out_of_memory(),
+            number => return Err(Error { number, path: last }),
         }
     }
 }

@@ -22,3 +22,14 @@ impl Error {
         self.column
     }
 }
+
+/// Where the parts of a file lie.
+pub mod span {
+    /// Why a file isn't changed: it would be too long.
+    #[derive(Clone, Copy, Debug, PartialEq, Eq, thiserror::Error)]
+    #[error("{}", crate::refusal::words(*number))]
+    pub struct Error {
+        /// The number of the refusal in docs/refusals.md.
+        pub number: u32,
+    }
+}

@@ -5,6 +5,7 @@ pub(crate) const DONE: u32 = 0;
 pub(crate) const OUT_OF_MEMORY: u32 = 27;
 pub(crate) const NOTHING_THERE: u32 = 100;
 pub(crate) const NOT_TOLD: u32 = 103;
+pub(crate) const VARIABLE_NOT_TOLD: u32 = 105;
 
 /// What a number says.
 pub(crate) fn words(number: u32) -> &'static str {

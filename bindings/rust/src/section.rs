@@ -144,6 +144,16 @@ impl<'a> SectionMut<'a> {
         self.push_line(value_name.as_ref(), value, None)
     }
 
+    /// Adds a line ending after all that the section has.
+    ///
+    /// # Errors
+    ///
+    /// The file would be too long.
+    pub fn push_newline(&mut self) -> Result<(), Error> {
+        // SAFETY: the handle has a file, which no other call has now.
+        done(unsafe { sys::gix_config_push_newline_at(self.file.handle(), self.place) })
+    }
+
     /// As [`SectionMut::push`], with a comment behind it.
     ///
     /// # Errors

@@ -104,13 +104,31 @@ pub(crate) struct Load<'a> {
     pub(crate) includes: Includes<'a>,
 }
 
+/// The places of configuration that a program knows.
+#[repr(C)]
+pub(crate) struct Places<'a> {
+    pub(crate) has_installation: bool,
+    pub(crate) installation: Text<'a>,
+    pub(crate) system_prefix: Text<'a>,
+    pub(crate) has_home: bool,
+    pub(crate) home: Text<'a>,
+}
+
+/// A repository.
+#[repr(C)]
+pub(crate) struct Repository<'a> {
+    pub(crate) git_folder: Text<'a>,
+    pub(crate) real_git_folder: Text<'a>,
+    pub(crate) places: Places<'a>,
+}
+
 /// The number of what the calling program sets.
 pub(crate) const SOURCE_API: u32 = 256;
 
 /// The number of full trust.
 pub(crate) const TRUST_FULL: u32 = 1;
 
-/// What is told of files, which is freed with this.
+/// What is told of files and of variables, which is freed with this.
 pub(crate) struct Told(Handle);
 
 impl Told {
@@ -140,6 +158,23 @@ impl Told {
                 }
                 Found::Unopened => gix_config_told_fault(&mut self.0, at, len, false),
                 Found::Unread => gix_config_told_fault(&mut self.0, at, len, true),
+            }
+        };
+        if answer != DONE {
+            out_of_memory()
+        }
+    }
+
+    /// Tells what a variable is set to, whose name is UTF-8; that it isn't set for `None`.
+    pub(crate) fn tell_variable(&mut self, name: &[u8], value: Option<&[u8]>) {
+        let (at, len) = (name.as_ptr(), name.len());
+        // SAFETY: the handle has what is told, and name and value are as long as is said.
+        let answer = unsafe {
+            match value {
+                Some(value) => {
+                    gix_config_told_variable(&mut self.0, at, len, value.as_ptr(), value.len())
+                }
+                None => gix_config_told_no_variable(&mut self.0, at, len),
             }
         };
         if answer != DONE {
@@ -381,6 +416,19 @@ extern "C" {
         had: *mut bool,
         old: *mut Block,
     ) -> u32;
+    pub(crate) fn gix_config_set_existing_value(
+        file: *mut Handle,
+        key: *const Key<'_>,
+        value: *const u8,
+        len: usize,
+    ) -> u32;
+    pub(crate) fn gix_config_set_existing_values(
+        file: *mut Handle,
+        key: *const Key<'_>,
+        values: *const Text<'_>,
+        len: usize,
+    ) -> u32;
+    pub(crate) fn gix_config_push_newline_at(file: *mut Handle, place: usize) -> u32;
     pub(crate) fn gix_config_entries(file: *mut Handle, list: *mut Handle) -> u32;
     pub(crate) fn gix_config_sections(file: *mut Handle, list: *mut Handle) -> u32;
     pub(crate) fn gix_config_file_equal(
@@ -431,6 +479,32 @@ extern "C" {
     fn gix_config_told_missing(told: *mut Handle, path: *const u8, len: usize) -> u32;
     fn gix_config_told_fault(told: *mut Handle, path: *const u8, len: usize, opens: bool) -> u32;
     fn gix_config_told_close(told: *mut Handle);
+    fn gix_config_told_variable(
+        told: *mut Handle,
+        name: *const u8,
+        name_len: usize,
+        value: *const u8,
+        value_len: usize,
+    ) -> u32;
+    fn gix_config_told_no_variable(told: *mut Handle, name: *const u8, name_len: usize) -> u32;
+    pub(crate) fn gix_config_load_globals_told(
+        told: *mut Handle,
+        places: *const Places<'_>,
+        file: *mut Handle,
+        asked: *mut Block,
+    ) -> u32;
+    pub(crate) fn gix_config_load_env_told(
+        told: *mut Handle,
+        includes: *const Includes<'_>,
+        file: *mut Handle,
+        asked: *mut Block,
+    ) -> u32;
+    pub(crate) fn gix_config_load_repository_told(
+        told: *mut Handle,
+        repository: *const Repository<'_>,
+        file: *mut Handle,
+        asked: *mut Block,
+    ) -> u32;
     pub(crate) fn gix_config_load_told(
         told: *mut Handle,
         load: *const Load<'_>,

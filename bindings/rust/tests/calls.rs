@@ -1,6 +1,6 @@
 //! The calls, as they are meant to be called.
 use bstr::{BStr, BString, ByteSlice};
-use gix_config::includes::{Files, Found, Options};
+use gix_config::includes::{Files, Found, Options, Places, Variables};
 use gix_config::{lookup, File, KeyRef};
 use std::path::Path;
 
@@ -44,18 +44,17 @@ fn values() {
 #[test]
 fn typed_values() {
     let file = file();
-    assert_eq!(file.boolean("core.bare"), Some(Ok(true)));
-    assert_eq!(file.integer_by("core", None, "n"), Some(Ok(2048)));
-    assert_eq!(file.boolean("core.none"), None);
+    assert_eq!(file.boolean("core.bare"), Ok(Some(true)));
+    assert_eq!(file.integer_by("core", None, "n"), Ok(Some(2048)));
+    assert_eq!(file.boolean("core.none"), Ok(None));
     let refused = file
         .boolean("core.editor")
-        .expect("a value")
         .expect_err("which is no boolean");
     assert_eq!(
         (refused.message, refused.input),
         ("not a boolean", "vi".into())
     );
-    assert!(file.integer("core.editor").expect("a value").is_err());
+    assert!(file.integer("core.editor").is_err());
 }
 
 #[test]
@@ -104,7 +103,8 @@ fn edits() {
     );
     assert_eq!(copy.to_bstring(), TEXT);
     let mut all = File::try_from("[a]\n\tk = 1\n").expect("a text");
-    all.append(File::try_from("[b]\n\tk = 2\n").expect("a text"));
+    all.append(File::try_from("[b]\n\tk = 2\n").expect("a text"))
+        .expect("room");
     let mut written = Vec::new();
     all.write_to(&mut written).expect("room");
     assert_eq!(written.as_bstr(), "[a]\n\tk = 1\n[b]\n\tk = 2\n");
@@ -261,4 +261,97 @@ fn what_is_handed_out_may_be_sent() {
     is_send::<Options<'_>>();
     is_send::<gix_config::includes::Error>();
     is_send::<gix_config::parse::Error>();
+}
+
+/// Variables that are kept by a test.
+struct Set(Vec<(&'static str, &'static [u8])>);
+
+impl Variables for Set {
+    fn get(&mut self, name: &str) -> Option<Vec<u8>> {
+        let found = self.0.iter().find(|it| it.0 == name)?;
+        Some(found.1.to_vec())
+    }
+}
+
+fn of_ada() -> Places<'static> {
+    Places {
+        installation_config: None,
+        system_prefix: Path::new("/"),
+        home: Some(Path::new("/home/ada")),
+    }
+}
+
+#[test]
+fn machine_user_and_repository() {
+    let text = |words: &str| Found::Text(words.as_bytes().to_vec());
+    let mut files = Kept(
+        vec![
+            ("/etc/gitconfig", text("[a]\n\tk = machine\n")),
+            (
+                "/home/ada/.gitconfig",
+                text("[a]\n\tk = ada\n[include]\n\tpath = ~/more\n"),
+            ),
+            ("/home/ada/more", text("[a]\n\tk = more\n")),
+            ("/repo/.git/config", text("[a]\n\tk = repo\n")),
+        ],
+        0,
+    );
+    let mut variables = Set(vec![
+        ("HOME", b"/home/ada"),
+        ("GIT_CONFIG_COUNT", b"1"),
+        ("GIT_CONFIG_KEY_0", b"a.k"),
+        ("GIT_CONFIG_VALUE_0", b"env"),
+    ]);
+    let all = |file: &File| file.strings("a.k").unwrap_or_default();
+    let globals = File::from_globals_of(&of_ada(), &mut files, &mut variables).expect("files");
+    assert_eq!(all(&globals), texts(&["machine", "ada", "more"]));
+    let git = Path::new("/repo/.git");
+    let whole =
+        File::from_git_dir_of(git, &of_ada(), &mut files, &mut variables).expect("a repository");
+    // (as in gix-config, the files of the machine and of the user are expanded once more)
+    let values = texts(&["machine", "ada", "more", "more", "repo", "env"]);
+    assert_eq!(all(&whole), values);
+    files.0[3].1 = Found::Missing;
+    let refused = File::from_git_dir_of(git, &of_ada(), &mut files, &mut variables)
+        .expect_err("no repository");
+    let path = Some("/repo/.git/config".into());
+    assert_eq!((refused.number, refused.path), (21, path));
+}
+
+#[test]
+fn entries_of_variables() {
+    let options = Options::follow_without_conditional(None);
+    let mut files = Kept(Vec::new(), 0);
+    let mut variables = Set(Vec::new());
+    let none = File::from_env_of(options, &mut files, &mut variables).expect("no entries");
+    assert!(none.is_none());
+    variables.0 = vec![("GIT_CONFIG_COUNT", b"1"), ("GIT_CONFIG_KEY_0", b"ab")];
+    let refused = File::from_env_of(options, &mut files, &mut variables).expect_err("no value");
+    let name = Some("GIT_CONFIG_VALUE_0".into());
+    assert_eq!((refused.number, refused.path), (26, name));
+    variables.0.push(("GIT_CONFIG_VALUE_0", b"1"));
+    let refused = File::from_env_of(options, &mut files, &mut variables).expect_err("no dot");
+    assert_eq!(refused.number, 25);
+    variables.0[1].1 = b"a.b";
+    let made = File::from_env_of(options, &mut files, &mut variables).expect("an entry");
+    assert_eq!(made.and_then(|it| it.string("a.b")), Some("1".into()));
+}
+
+#[test]
+fn values_that_are_there() {
+    let mut file = File::try_from("[a]\n\tk = 1\n\tk = 2 ; two\n[a]\n").expect("a text");
+    assert_eq!(file.set_existing_raw_value_by("a", None, "k", "3"), Ok(()));
+    let refused = file.set_existing_raw_value_by("a", None, "j", "3");
+    assert_eq!(refused.map_err(|it| it.number), Err(9));
+    assert_eq!(all_of(&file), texts(&["1", "3"]));
+    let several = file.set_existing_raw_multi_value_by("a", None, "k", ["x", " y", "z"]);
+    assert_eq!(several, Ok(()));
+    assert_eq!(all_of(&file), texts(&["x", " y"]));
+    let mut last = file.section_mut("a", None).expect("a section");
+    assert_eq!(last.push_newline(), Ok(()));
+    assert!(file.to_string().ends_with("; two\n[a]\n\n"));
+}
+
+fn all_of(file: &File) -> Vec<bstr::BString> {
+    file.strings("a.k").unwrap_or_default()
 }

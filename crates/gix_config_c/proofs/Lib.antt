@@ -6,3 +6,4 @@ pub mod ToldLemmas
 pub mod PlaceLemmas
 pub mod FaultLemmas
 pub mod ValueLemmas
+pub mod HostLemmas

@@ -1,14 +1,19 @@
 -- A value that was set and an entry that was pushed, by what the library returned.
-use Rattle.std.proofs.Common.{◌≡◌, ℕ, List, Option, Some, None, Ok, option_map, true, false, refl, ap, sym, subst, ◌∙◌}
+use Rattle.std.proofs.Common.{◌≡◌, ℕ, List, Option, Some, Ok, Err, option_map, true, refl, ap, sym, subst, ◌∙◌}
 use Rattle.bstr.specs.declared.bstring.BString.{BString}
 use Rattle.bstr.specs.Owned.{bstring_bytes}
 use Rattle.gitconf_sources.specs.Key.{Key}
 use Rattle.gitconf_state.specs.Edits.{Raw, answer}
-use Rattle.gitconf_state.specs.Editors.{Editor, editor_of}
-use Rattle.gitconf_state.specs.State.{SectionState, State}
+use Rattle.gitconf_state.specs.Editors.{Editor}
+use Rattle.gitconf_state.specs.State.{State}
 use Rattle.gix_config.specs.SectionEditors.{editor_at}
 use Rattle.gix_config.specs.Keys.{set_by_key, IsSetByKey}
+use Rattle.gitconf_store.specs.SetErrors.{set_number}
+use Rattle.gitconf_store.specs.Several.{AreSetExisting}
+use Rattle.gitconf_store.specs.declared.set_raw_value.Error as set_raw_value
+use Rattle.gix_config_c.specs.Answers.{OfKey}
 use Rattle.gix_config_c.specs.Blocks.{Holds}
+use Rattle.gix_config_c.specs.ExistingValues.{AreValuesSet}
 use Rattle.gix_config_c.specs.Edited.{IsSetTo}
 use Rattle.gix_config_c.specs.Entries.{IsEntryPushed, IsPushed, section_of}
 use Rattle.gix_config_c.specs.declared.block.Block.{Block}
@@ -28,3 +33,15 @@ pushed_in key value old start new number id editor begun found pushed = record {
   where
     some_same : (a b : ℕ × Editor) → Some a ≡ Some b → a ≡ b
     some_same a b is = cc
+
+-- several values that were refused
+pub values_refused : (key : Key) (values : List (List ℕ)) (old new : State) (number : ℕ) (e : set_raw_value.Error) → AreSetExisting key values (Err e) old new
+    → number ≡ set_number e → AreValuesSet key values old new number
+values_refused key values old new number e refused is = record { set = (Err e, refused, is) }
+
+-- what is said of a key, if its names are text
+pub of_key : {said : Key → Type 0} (given : Option Key) (number : ℕ) (key : Key) → Some key ≡ given → said key → OfKey given number said
+of_key {said} given number key is told = record {
+  key = λ others at. let same : key ≡ others = cc in subst said same told;
+  other = λ none. absurd (cc);
+}

@@ -28,4 +28,11 @@ pub mod Telling
 pub mod Followed
 pub mod Loads
 pub mod Loaded
+pub mod Variables
+pub mod KnownPlaces
+pub mod HostLoads
+pub mod ToldPlaces
 pub mod NumberedEdits
+pub mod Lines
+pub mod ExistingValues
+pub mod Metas

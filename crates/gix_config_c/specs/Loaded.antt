@@ -81,4 +81,4 @@ pub record IsResolvedBy (told : Tells) (rules : Rules) (f g : State) (number : �
 
 -- the same for what was told in a handle, and the rules that a program gives
 pub record IsResolvedFrom (it : Option Object) (given : Option Rules) (f g : State) (number : ℕ) (old new : Block) : Type 0 where
-  pub told : OfTold it number (λ told. OfRules given number (λ rules. IsResolvedBy told rules f g number old new))
+  pub told : OfTold it number (λ told. OfRules given number (λ rules. IsResolvedBy told.files rules f g number old new))

@@ -1,5 +1,5 @@
 -- What a program told of files.
-use Rattle.std.specs.Prelude.{ℕ, Bool, false, List, is_some}
+use Rattle.std.specs.Prelude.{ℕ, Bool, false, List, Option, Some, None, is_some}
 use Rattle.std.specs.Map.{lookup}
 use Rattle.std.specs.Str.{bytes_eq}
 use Rattle.std.specs.declared.alloc.Global.{Global}
@@ -29,6 +29,13 @@ told_entries entries = reported_entries report_of entries
 abbrev pub told_at : Tells → (path : List ℕ) → FileReport
 told_at told path = entry_at (Unopened false) told path
 
--- whether something was told of a path
-abbrev pub is_told : Tells → (path : List ℕ) → Bool
-is_told told path = is_some (lookup (bytes_eq path) told)
+-- whether something was told of a path, or of a variable
+abbrev pub is_told : {W : Type 0} → List (List ℕ × W) → (name : List ℕ) → Bool
+is_told told name = is_some (lookup (bytes_eq name) told)
+
+-- the text of a file, if there is one
+abbrev pub text_told : FileReport → Option (List ℕ)
+text_told (IsFile text trust) = Some text
+text_told NoFile = None
+text_told (Unopened not_found) = None
+text_told Unread = None

@@ -89,12 +89,18 @@ fn message(number: u32) -> &'static [u8]
         19 => b"a file that is included can't be opened",
         20 => b"a file that is included can't be read",
         21 => b"the file can't be opened or read",
+        22 => b"the key or the value that variables set is not UTF-8",
+        23 => b"GIT_CONFIG_COUNT is no number",
+        24 => b"the variable of a key is not set",
+        25 => b"the key that variables set has no dot",
+        26 => b"the variable of a value is not set",
         27 => b"out of memory",
         100 => b"there is no such thing",
         101 => b"a name is not UTF-8",
         102 => b"the handle is empty or holds something else",
         103 => b"nothing was told of a file that is needed",
         104 => b"no source or trust has the number",
+        105 => b"nothing was told of a variable that is needed",
         _ => b"",
     }
 }

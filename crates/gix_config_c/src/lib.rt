@@ -11,26 +11,33 @@ pub mod difference;
 mod editing;
 mod entries;
 pub mod entry;
+mod env_loads;
+mod existing;
 pub mod fault;
 mod files;
 mod filtered;
 mod finding;
 pub mod folders;
+mod global_loads;
 pub mod includes;
 pub mod key;
 pub mod layout;
 mod layouts;
 pub mod line;
+mod lines;
 mod lists;
 pub mod load;
 mod loading;
 mod look_ups;
+mod metas;
 mod numbered;
 pub mod object;
 mod opening;
 pub mod origin;
 mod parts;
 mod paths;
+pub mod places;
+mod repository_loads;
 pub mod section;
 mod section_lists;
 mod sections;
@@ -39,6 +46,8 @@ pub mod slot;
 mod telling;
 mod texts;
 pub mod told;
+mod told_places;
+pub mod variables;
 
 /// The call is done.
 pub const DONE: u32 = 0;
@@ -60,3 +69,6 @@ pub const NOT_TOLD: u32 = 103;
 
 /// No source, or no trust, has the number.
 pub const NO_SUCH_NUMBER: u32 = 104;
+
+/// Nothing was told of a variable that is needed: tell it, and call again.
+pub const VARIABLE_NOT_TOLD: u32 = 105;

@@ -24,7 +24,7 @@ use crate::lists::put_list;
 use crate::load::{Load, Wanted, want};
 use crate::object::Object;
 use crate::slot::Slot;
-use crate::told::Told;
+use crate::told::ToldFiles;
 use crate::{DONE, NOT_TOLD, NOT_UTF8, NOTHING_THERE, OUT_OF_MEMORY, WRONG_HANDLE};
 use gitconf_includes::{includes, init};
 use gitconf_loaders::from_paths;
@@ -50,7 +50,7 @@ pub extern "C" fn gix_config_load_told(
     file: &mut Slot,
     path: &mut Block,
 ) -> u32
-    ensures answer { OfTold told.old.it result (λ t. OfWanted (wanted_of load.now) result (λ w. IsLoadedBy t w result file.new.it path.old path.new)) }
+    ensures answer { OfTold told.old.it result (λ t. OfWanted (wanted_of load.now) result (λ w. IsLoadedBy t.files w result file.new.it path.old path.new)) }
     ensures kept { (result ≡ 0 → ⊥) → file.new.it ≡ file.old.it }
     ensures kept_path { (result ≡ 19 → ⊥) → (result ≡ 21 → ⊥) → (result ≡ 103 → ⊥) → IsKept path.old path.new }
     ensures same { told.new.it ≡ told.old.it }
@@ -59,7 +59,7 @@ pub extern "C" fn gix_config_load_told(
         return WRONG_HANDLE;
     };
     let answer = match &*object {
-        Object::Told(it) => load_by(alloc, it, load, file, path),
+        Object::Told(it) => load_by(alloc, &it.files, load, file, path),
         _ => WRONG_HANDLE,
     };
     told.put(object);
@@ -67,7 +67,13 @@ pub extern "C" fn gix_config_load_told(
 }
 
 /// Loads the file that a program wants.
-fn load_by(alloc: Global, told: &Told, load: &Load<'_>, file: &mut Slot, path: &mut Block) -> u32
+fn load_by(
+    alloc: Global,
+    told: &ToldFiles,
+    load: &Load<'_>,
+    file: &mut Slot,
+    path: &mut Block,
+) -> u32
     ensures answer { OfWanted (wanted_of load.now) result (λ w. IsLoadedBy told.now w result file.new.it path.old path.new) }
     ensures kept { (result ≡ 0 → ⊥) → file.new.it ≡ file.old.it }
     ensures kept_path { (result ≡ 19 → ⊥) → (result ≡ 21 → ⊥) → (result ≡ 103 → ⊥) → IsKept path.old path.new }
@@ -81,7 +87,7 @@ fn load_by(alloc: Global, told: &Told, load: &Load<'_>, file: &mut Slot, path: &
 /// Puts a file that is loaded into a handle.
 fn put_loaded(
     alloc: Global,
-    told: &Told,
+    told: &ToldFiles,
     wanted: Wanted<'_>,
     file: &mut Slot,
     path: &mut Block,
@@ -118,7 +124,11 @@ fn metas_of(
 }
 
 /// The file that is loaded, with what it includes.
-fn loaded(alloc: Global, told: &Told, wanted: Wanted<'_>) -> Result<Option<File>, from_paths::Error>
+fn loaded(
+    alloc: Global,
+    told: &ToldFiles,
+    wanted: Wanted<'_>,
+) -> Result<Option<File>, from_paths::Error>
     ensures loaded { IsLoadOfPaths true false (asks_by told.now (plain_wanted wanted.entry).rules) ((plain_wanted wanted.entry).meta ∷ [])
         (numbered paths_number result) }
     ensures faulty { IfErr result (λ e. IsFaulty told.now (load_path e)) }
@@ -141,7 +151,12 @@ fn loaded(alloc: Global, told: &Told, wanted: Wanted<'_>) -> Result<Option<File>
 }
 
 /// The number of a refused load. Hands out the path of a file that can't be opened or read.
-fn refused_load(alloc: Global, told: &Told, refusal: &from_paths::Error, path: &mut Block) -> u32
+pub(crate) fn refused_load(
+    alloc: Global,
+    told: &ToldFiles,
+    refusal: &from_paths::Error,
+    path: &mut Block,
+) -> u32
     ensures answer { (result ≡ 27 → ⊥) → IsAnswered told.now (load_path refusal.now) (paths_number refusal.now) result path.old path.new }
     ensures kept { (result ≡ 19 → ⊥) → (result ≡ 21 → ⊥) → (result ≡ 103 → ⊥) → IsKept path.old path.new }
 {
@@ -154,7 +169,12 @@ fn refused_load(alloc: Global, told: &Told, refusal: &from_paths::Error, path: &
 }
 
 /// The number of a refused include. Hands out the path of a file that can't be opened.
-fn refused_include(alloc: Global, told: &Told, refusal: &includes::Error, path: &mut Block) -> u32
+pub(crate) fn refused_include(
+    alloc: Global,
+    told: &ToldFiles,
+    refusal: &includes::Error,
+    path: &mut Block,
+) -> u32
     ensures answer { (result ≡ 27 → ⊥) → IsAnswered told.now (include_path refusal.now) (includes_number refusal.now) result path.old path.new }
     ensures kept { (result ≡ 19 → ⊥) → (result ≡ 21 → ⊥) → (result ≡ 103 → ⊥) → IsKept path.old path.new }
 {
@@ -165,7 +185,7 @@ fn refused_include(alloc: Global, told: &Told, refusal: &includes::Error, path: 
 }
 
 /// Hands out the path of a file. The number is that of the refusal if something was told of the file, else 103; or 27 when out of memory.
-fn ask(alloc: Global, told: &Told, at: &str, refusal: u32, path: &mut Block) -> u32
+fn ask(alloc: Global, told: &ToldFiles, at: &str, refusal: u32, path: &mut Block) -> u32
     ensures answer { (result ≡ 27) ⊎ ((result ≡ (if is_told told.now at.now then refusal else 103)) × Holds at.now path.new) }
     ensures kept { result ≡ 27 → (refusal ≡ 27 → ⊥) → IsKept path.old path.new }
 {
@@ -227,7 +247,7 @@ fn resolve_from(
         return WRONG_HANDLE;
     };
     let answer = match &*object {
-        Object::Told(it) => resolve_by(alloc, it, file, includes, path),
+        Object::Told(it) => resolve_by(alloc, &it.files, file, includes, path),
         _ => WRONG_HANDLE,
     };
     told.put(object);
@@ -237,7 +257,7 @@ fn resolve_from(
 /// Resolves the includes of a file as a program says it.
 fn resolve_by(
     alloc: Global,
-    told: &Told,
+    told: &ToldFiles,
     file: &mut File,
     includes: &Includes<'_>,
     path: &mut Block,
@@ -259,7 +279,7 @@ fn resolve_by(
 }
 
 /// A box of a value.
-fn boxed<T: Drop>(alloc: Global, value: T) -> Result<Box<T>, NoMemory>
+pub(crate) fn boxed<T: Drop>(alloc: Global, value: T) -> Result<Box<T>, NoMemory>
     ensures { IfOk result (λ boxed. boxed.value ≡ value) }
 {
     Ok(Box::new(alloc, value)?)
@@ -268,7 +288,7 @@ fn boxed<T: Drop>(alloc: Global, value: T) -> Result<Box<T>, NoMemory>
 /// A copy of a file, with what it includes.
 fn resolved(
     alloc: Global,
-    told: &Told,
+    told: &ToldFiles,
     file: &File,
     includes: includes::Options<'_>,
     lossy: bool,

@@ -33,7 +33,7 @@ use gix_config::refusals::Refusal as _;
 use std::alloc::Global;
 
 /// The number of the section at a place, if there is one.
-fn id_at(file: &File, place: usize) -> Option<SectionId>
+pub(crate) fn id_at(file: &File, place: usize) -> Option<SectionId>
     ensures none { slice_get file.now.sections place ≡ None → result ≡ None }
     ensures found { (s : SectionState) → slice_get file.now.sections place ≡ Some s → result ≡ Some s.number }
     ensures stands { (s : SectionState) → slice_get file.now.sections place ≡ Some s → numbered s.number file.now ≡ Some s }

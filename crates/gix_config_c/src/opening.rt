@@ -16,7 +16,7 @@ use gix_config::{File, parse};
 use std::alloc::Global;
 
 /// The file of a text.
-fn opened(alloc: Global, text: &[u8], lossy: bool) -> Result<File, parse::Error>
+pub(crate) fn opened(alloc: Global, text: &[u8], lossy: bool) -> Result<File, parse::Error>
     ensures ok { IfOk result (IsFileOf lossy text.now) }
     ensures err { IfErr result (λ refusal. (refusal.number ≡ 27 → ⊥) → IsRefused text.now refusal) }
 {

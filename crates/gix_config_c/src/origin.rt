@@ -103,6 +103,19 @@ pub fn trust_of(number: u32) -> Option<Trust>
     }
 }
 
+/// Where a whole file comes from.
+#[repr(C)]
+pub struct Origin {
+    /// The place that it was read from: one of the sources' numbers.
+    pub source: u32,
+    /// How many includes led to it: 0 for a file that was not included.
+    pub level: u32,
+    /// How far it is trusted: one of the numbers of trust.
+    pub trust: u32,
+    /// Whether it has a path.
+    pub has_path: bool,
+}
+
 /// Which sections are asked: those of some sources that are trusted enough.
 #[repr(C)]
 pub struct Filter {

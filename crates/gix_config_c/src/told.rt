@@ -1,9 +1,11 @@
-//! What a program told of files: where loads of programs in C have their files from.
+//! What a program told of files and of variables: where loads of programs in C have these from.
 ghost use Rattle.std.specs.Prelude.{◌≡◌, false, IfOk, OnErr, OnOk, string_bytes};
 ghost use Rattle.gitconf_sources.specs.InMemory.{with_entry};
 ghost use Rattle.gitconf_sources.specs.Reports.{IsReadOf, is_there, trust_of};
-ghost use Rattle.gix_config_c.specs.Told.{is_told, report_of, told_at, told_entries};
+ghost use Rattle.std.specs.Option.{option_map};
+ghost use Rattle.gix_config_c.specs.Told.{is_told, report_of, text_told, told_at, told_entries};
 
+use crate::variables::ToldVariables;
 use gitconf_sources::source::Trust;
 use gitconf_sources::{FileFault, Files, Stage};
 use gix_config::NoMemory;
@@ -37,7 +39,8 @@ fn fault(stage: Stage) -> FileFault
 impl Report {
     ghost use Rattle.std.specs.Prelude.{◌≡◌};
     ghost use Rattle.gitconf_sources.specs.Reports.{IsReadOf, is_there, trust_of};
-    ghost use Rattle.gix_config_c.specs.Told.{report_of};
+    ghost use Rattle.std.specs.Option.{option_map};
+    ghost use Rattle.gix_config_c.specs.Told.{report_of, text_told};
 
     /// Whether a file is there.
     fn is_there(&self) -> bool
@@ -48,6 +51,16 @@ impl Report {
             Report::Text(_) => true,
             Report::Unopened => true,
             Report::Unread => true,
+        }
+    }
+
+    /// Its text, if it has one.
+    fn text(&self) -> Option<&Vec<u8>>
+        ensures { option_map (λ text. text.now.items) result ≡ text_told (report_of self.now) }
+    {
+        match self {
+            Report::Text(text) => Some(text),
+            _ => None,
         }
     }
 
@@ -107,11 +120,11 @@ impl Clone for Report {
 /// What a program told of files, by their paths. It is a source of files in which a path of which nothing was told can't be opened, so that
 /// a load that needs it is refused.
 #[derive(Drop)]
-pub struct Told {
+pub struct ToldFiles {
     files: BTreeMap<String, Report>,
 }
 
-impl Model for Told {
+impl Model for ToldFiles {
     ghost use Rattle.std.specs.Prelude.{ℕ, List};
     ghost use Rattle.gitconf_sources.specs.Reports.{FileReport};
     ghost use Rattle.gix_config_c.specs.Told.{told_entries};
@@ -121,16 +134,17 @@ impl Model for Told {
     ghost view = { λ t. told_entries t.files.entries };
 }
 
-impl Told {
+impl ToldFiles {
     ghost use Rattle.std.specs.Prelude.{◌≡◌, [], IfOk, OnErr, OnOk, string_bytes};
     ghost use Rattle.gitconf_sources.specs.InMemory.{with_entry};
-    ghost use Rattle.gix_config_c.specs.Told.{is_told, report_of};
+    ghost use Rattle.std.specs.Option.{option_map};
+    ghost use Rattle.gix_config_c.specs.Told.{is_told, report_of, text_told, told_at};
 
     /// Nothing was told. Takes no memory.
-    pub fn new(alloc: Global) -> Told
+    pub fn new(alloc: Global) -> ToldFiles
         ensures { result ≡ [] }
     {
-        Told {
+        ToldFiles {
             files: BTreeMap::new(alloc),
         }
     }
@@ -154,21 +168,28 @@ impl Told {
         has(&self.files, path)
     }
 
+    /// The text that was told of a path. Takes a walk down a tree of the paths.
+    pub fn text(&self, path: &str) -> Option<&Vec<u8>>
+        ensures { option_map (λ text. text.now.items) result ≡ text_told (told_at self.now path.now) }
+    {
+        kept_text(&self.files, path)
+    }
+
     /// A copy. Each byte is copied once.
     ///
     /// # Errors
     ///
     /// Out of memory.
-    pub fn try_clone(&self) -> Result<Told, NoMemory>
+    pub fn try_clone(&self) -> Result<ToldFiles, NoMemory>
         ensures { IfOk result (λ copy. copy ≡ self.now) }
     {
-        Ok(Told {
+        Ok(ToldFiles {
             files: copied(&self.files)?,
         })
     }
 }
 
-impl Files for Told {
+impl Files for ToldFiles {
     ghost use Rattle.std.specs.Prelude.{None, Some};
     ghost use Rattle.gix_config_c.specs.Told.{told_at};
 
@@ -187,6 +208,15 @@ impl Files for Told {
     fn trust(&mut self, path: &str) -> Result<Trust, FileFault> {
         trust_at(&self.files, path)
     }
+}
+
+/// What a program told of files and of variables.
+#[derive(Drop)]
+pub struct Told {
+    /// What is at paths.
+    pub files: ToldFiles,
+    /// What variables are set to.
+    pub variables: ToldVariables,
 }
 
 /// Puts what was told of a path into a tree of the paths.
@@ -220,6 +250,16 @@ fn is_there(files: &BTreeMap<String, Report>, path: &str) -> bool
     match files.get(path) {
         Some(report) => report.is_there(),
         None => true,
+    }
+}
+
+/// The text at a path, by a tree of the paths.
+fn kept_text<'a>(files: &'a BTreeMap<String, Report>, path: &str) -> Option<&'a Vec<u8>>
+    ensures { option_map (λ text. text.now.items) result ≡ text_told (told_at (told_entries files.now.entries) path.now) }
+{
+    match files.get(path) {
+        Some(report) => report.text(),
+        None => None,
     }
 }
 
