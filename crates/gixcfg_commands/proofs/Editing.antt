@@ -17,7 +17,8 @@ use Rattle.bstr.specs.declared.bstring.BString.{BString}
 use Rattle.gixcfg_core.specs.Answers.{Answers}
 use Rattle.gixcfg_core.specs.declared.trouble.Trouble.{Trouble}
 use Rattle.gixcfg_core.specs.declared.trouble.Trouble.TheVariants.{Memory}
-use Rattle.gixcfg_commands.specs.Edits.{IsCarriedOut, edited_text, marked, marked_answer, others_of, removal_of, trouble_for, trouble_of_renaming, unrenamed}
+use Rattle.gixcfg_commands.specs.Answered.{IsCarriedOut, edited_text, marked, marked_answer}
+use Rattle.gixcfg_commands.specs.Edits.{others_of, removal_of, trouble_for, trouble_of_renaming, unrenamed}
 
 pub some_same : {A : Type 0} (x y : A) → Some x ≡ Some y → x ≡ y
 some_same x y same = ap (λ o. unwrap_or o x) same

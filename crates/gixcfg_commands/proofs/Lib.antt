@@ -1,2 +1,6 @@
 mod Editing
 mod Checking
+mod Marking
+mod MeantLemmas
+mod Unsetting
+mod SettingLemmas

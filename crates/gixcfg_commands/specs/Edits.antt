@@ -1,18 +1,19 @@
 -- What the program's edits make of a text.
--- Source: the manual page of `git-config`: `rename-section`, `remove-section`.
-use Rattle.std.specs.Prelude.{◌≡◌, ◌⊎◌, ℕ, Bool, true, not, ◌==◌, nat_eq, List, ◌++◌, length, Option, Some, None, Result, Ok, Err, IfOk, IfErr, if◌then◌else◌}
-use Rattle.std.specs.List.{list_any, starts_with}
+-- Source: the manual page of `git-config`: `rename-section`, `remove-section`, `unset`.
+use Rattle.std.specs.Prelude.{◌≡◌, ◌⊎◌, ℕ, Bool, true, not, ◌==◌, ◌&&◌, ltb, List, length, map, Option, Some, None, Result, Ok, Err, IfOk, IfErr, if◌then◌else◌}
+use Rattle.std.specs.List.{list_any}
 use Rattle.std.specs.Option.{option_copied, option_map}
 use Rattle.bstr.specs.Owned.{bstring_bytes}
 use Rattle.bstr.specs.declared.bstring.BString.{BString}
 use Rattle.gitconf_text.specs.Part.{Part}
 use Rattle.gitconf_text.specs.Document.{IsText}
 use Rattle.gitconf_text.specs.Token.{tokens_of}
+use Rattle.gitconf_sources.specs.Key.{Key, key_of}
 use Rattle.gitconf_sources.specs.Metadata.{api_meta}
 use Rattle.gitconf_state.specs.Made.{IsMade}
 use Rattle.gitconf_state.specs.Edits.{RenameAll, apply}
 use Rattle.gitconf_state.specs.Lookup.{is_named, listed, listing}
-use Rattle.gitconf_state.specs.Printing.{printed, printed_kept}
+use Rattle.gitconf_state.specs.Printing.{printed_kept}
 use Rattle.gitconf_state.specs.State.{State}
 use Rattle.gitconf_text.specs.declared.parse.section.header.Error.TheVariants as headers
 use Rattle.gitconf_text.specs.declared.parse.section.header.Error.TheVariants.{InvalidName, InvalidSubSection, Span}
@@ -23,22 +24,16 @@ use Rattle.gitconf_body.specs.Done as reasons
 use Rattle.gitconf_body.specs.Done.{Cause, first_cause}
 use Rattle.gitconf_store.specs.Edited.{causes}
 use Rattle.gitconf_layout.specs.Layout.{IsLayout}
-use Rattle.gixcfg_core.specs.Line.{mark}
 use Rattle.gixcfg_core.specs.Answers.{Answers, IsRefusedText}
 use Rattle.gixcfg_core.specs.declared.trouble.Trouble.{Trouble}
-use Rattle.gixcfg_core.specs.declared.trouble.Trouble.TheVariants.{BadName, Memory, NoSection, Refused}
+use Rattle.gixcfg_core.specs.declared.trouble.Trouble.TheVariants.{BadName, Memory, NoEntry, NoSection, Refused, Several}
+use Rattle.gixcfg_words.specs.declared.command.Unset.{Unset as TheUnset}
+use Rattle.gixcfg_commands.specs.Answered.{edited_text, marked_answer}
 use Rattle.gixcfg_commands.specs.Layouts.{layout_asked}
+use Rattle.gixcfg_commands.specs.Setting.{SetsTo}
+use Rattle.gixcfg_commands.specs.Meant.{ByMeant, count_marked, values_of_key, without_marked}
 use Rattle.gixcfg_commands.specs.declared.edits.Edit.{Edit}
-use Rattle.gixcfg_commands.specs.declared.edits.Edit.TheVariants.{Fmt, RemoveSection, RenameSection}
-
--- an edited text behind the mark that the text before began with
-abbrev pub marked : (before text : List ℕ) → List ℕ
-marked before text = if starts_with nat_eq before mark then mark ++ text else text
-
--- a text that is made of a file, behind the mark of the text that the file was read from
-abbrev pub marked_answer : (before : List ℕ) → Result (List ℕ) Trouble → Result (List ℕ) Trouble
-marked_answer before (Ok text) = Ok (marked before text)
-marked_answer before (Err trouble) = Err trouble
+use Rattle.gixcfg_commands.specs.declared.edits.Edit.TheVariants.{Fmt, RemoveSection, RenameSection, Set, Unset}
 
 -- the file without the sections of these names
 abbrev pub others_of : (name : List ℕ) (subsection : Option (List ℕ)) → State → List ℕ
@@ -75,20 +70,24 @@ trouble_of_renaming (Section (Span number)) = no_room number
 trouble_of_renaming (Section headers.Memory) = Memory
 trouble_of_renaming renamings.Memory = Memory
 
--- An edit of a file is done, and what is printed of it then is what this makes of it; or it is refused for that reason; else memory ran out.
-abbrev pub IsCarriedOut : (refusal : Option Trouble) (done : State → State) → Result (Unit {0}) Trouble → (old new : State) → Type 0
-IsCarriedOut refusal done (Ok _) old new = (refusal ≡ None) × (printed new ≡ printed (done old))
-IsCarriedOut refusal done (Err trouble) old new = (trouble ≡ Memory) ⊎ (refusal ≡ Some trouble)
-
--- what is printed of an edited file, or why there is nothing
-abbrev pub edited_text : (refusal : Option Trouble) (done : State → State) → State → Result (List ℕ) Trouble
-edited_text (Some trouble) done file = Err trouble
-edited_text None done file = Ok (printed (done file))
-
 -- `rename-section`: the file in which the sections of these names have those names
 abbrev pub renaming_of : (name : List ℕ) (subsection : Option (List ℕ)) (new_name : List ℕ) (new_subsection : Option (List ℕ)) → State → Result (List ℕ) Trouble
 renaming_of name subsection new_name new_subsection file =
     edited_text (unrenamed name subsection new_name new_subsection file) (apply (RenameAll name subsection (λ _. true) new_name new_subsection)) file
+
+-- why entries of a key aren't removed, of which so many are meant: there is none; or there are several, where there may be one only
+abbrev pub unremoved : (is_all : Bool) (count : ℕ) → Option Trouble
+unremoved is_all count = if count == 0 then Some NoEntry else if ltb 1 count && not is_all then Some Several else None
+
+-- what is printed of the file without the entries of a key that a test says; or why they stay
+abbrev pub unsetting_of : (is_all : Bool) (means : Option (List ℕ) → Bool) → Key → State → Result (List ℕ) Trouble
+unsetting_of is_all means key file =
+    let marks = map means (values_of_key key file) in edited_text (unremoved is_all (count_marked marks)) (without_marked key marks) file
+
+-- `unset`: the file without the entries of the key that are meant
+abbrev pub UnsetsTo : TheUnset → (text : List ℕ) → State → Result BString Trouble → Type 0
+UnsetsTo unset text file result =
+    ByMeant unset.values (λ means. Answers bstring_bytes result (marked_answer text (unsetting_of unset.is_all means (key_of unset.key) file))) result
 
 -- A text is that of a file of which this holds, or it is told how the text is refused.
 abbrev pub IsOfText : (text : List ℕ) (is_colored : Bool) (holds : State → Type 0) → Result BString Trouble → Type 0
@@ -96,7 +95,7 @@ IsOfText text is_colored holds result =
     ((parts : List Part) × (file : State) × IsText text parts × IsMade (tokens_of parts) api_meta (length text) file × holds file)
     ⊎ ((trouble : Trouble) × (result ≡ Err trouble) × IsRefusedText text is_colored trouble)
 
--- what an edit makes of a text: by the definitions above for two of them, by that of a layout for `fmt`; of the other two it isn't said
+-- what an edit makes of a text: by that of a layout for `fmt`, by the definitions above and that of `set` for the others
 abbrev pub EditsTo : Edit → (text : List ℕ) (is_colored : Bool) → Result BString Trouble → Type 0
 EditsTo (RemoveSection removal) text is_colored result = IsOfText text is_colored (λ file. Answers bstring_bytes result
     (marked_answer text (removal_of removal.now.names.name.now (option_copied removal.now.names.subsection_name) file))) result
@@ -105,4 +104,5 @@ EditsTo (RenameSection renaming) text is_colored result = IsOfText text is_color
     (option_copied renaming.now.new.subsection_name) file))) result
 EditsTo (Fmt fmt) text is_colored result =
     IfOk result (λ laid_out. IsLayout (layout_asked fmt.now) text (bstring_bytes laid_out)) × IfErr result (IsRefusedText text is_colored)
-EditsTo edit text is_colored result = Unit {0}
+EditsTo (Unset unset) text is_colored result = IsOfText text is_colored (λ file. UnsetsTo unset.now text file result) result
+EditsTo (Set set) text is_colored result = IsOfText text is_colored (λ file. SetsTo set.now text file result) result

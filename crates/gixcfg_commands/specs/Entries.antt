@@ -1,6 +1,6 @@
 -- What `list` prints of a file.
 -- Source: the manual page of `git-config`, `list`.
-use Rattle.std.specs.Prelude.{ℕ, ◌-◌, List, [], length, flat_map, Option, Some, None, Result, Ok, Err}
+use Rattle.std.specs.Prelude.{◌≡◌, ℕ, ◌-◌, Bool, List, [], ◌∷◌, length, filter, flat_map, Option, Some, None, Result, Ok, Err, if◌then◌else◌, unwrap_or}
 use Rattle.std.specs.List.{slice_get}
 use Rattle.gitconf_text.specs.Document.{Document}
 use Rattle.gitconf_text.specs.Header.{subsection_of}
@@ -8,7 +8,9 @@ use Rattle.gitconf_sources.specs.Key.{Key}
 use Rattle.gitconf_state.specs.State.{SectionState, State}
 use Rattle.gitconf_parse.specs.Lookup.{values_of}
 use Rattle.gixcfg_words.specs.declared.command.Form.{Form}
-use Rattle.gixcfg_core.specs.Entries.{found_in, line_of, section_lines, PlainFound}
+use Rattle.gixcfg_words.specs.declared.command.Values.{Values}
+use Rattle.gixcfg_core.specs.Entries.{found_in, is_listed_under, line_of, section_lines, PlainFound}
+use Rattle.gixcfg_core.specs.Patterns.{is_found, IsRegexOfKeys, Means, Regex}
 use Rattle.gixcfg_core.specs.Origins.{before_of, entries_line, values_line}
 use Rattle.gixcfg_core.specs.declared.origins.Located.{Located}
 use Rattle.gixcfg_core.specs.declared.trouble.Trouble.{Trouble}
@@ -29,6 +31,29 @@ entries_in form read s = found_in (before_of form s.meta read) (subsection_of s.
 -- the entries of a file, in the same order
 abbrev pub file_entries : Form → Located → State → List PlainFound
 file_entries form read file = flat_map (entries_in form read) file.sections
+
+-- the elements of a list that are marked, in order
+abbrev pub marked : {A : Type 0} → (marks : List Bool) → List A → List A
+marked [] xs = []
+marked (m ∷ marks) [] = []
+marked (m ∷ marks) (x ∷ xs) = if m then x ∷ marked marks xs else marked marks xs
+
+-- what a pattern is sought in: the value of an entry, nothing for one without `=`
+abbrev pub value_text : PlainFound → List ℕ
+value_text f = unwrap_or f.value []
+
+-- those entries whose values are meant, in order
+abbrev pub AreMeant : Values → (entries found : List PlainFound) → Type 0
+AreMeant values entries found = (test : List ℕ → Bool) × Means values test × (found ≡ filter (λ f. test (value_text f)) entries)
+
+-- those entries in whose names a pattern is found, in order
+abbrev pub AreLike : (pattern : List ℕ) → (entries found : List PlainFound) → Type 0
+AreLike pattern entries found = (regex : Regex) × IsRegexOfKeys pattern regex × (found ≡ filter (λ f. is_found regex f.names) entries)
+
+-- the entries of a key, in order
+abbrev pub key_entries : Form → Located → Key → State → List PlainFound
+key_entries form read key file =
+    flat_map (λ s. found_in (before_of form s.meta read) (subsection_of s.header) (Some key.name) s) (filter (is_listed_under key) file.sections)
 
 -- the last of the values of a key, if there are some
 abbrev pub last_in : Option (List (List ℕ)) → Option (List ℕ)

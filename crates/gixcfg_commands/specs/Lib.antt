@@ -1,6 +1,10 @@
+pub mod Answered
 pub mod Checks
 pub mod Differing
 pub mod Edits
 pub mod Entries
+pub mod Getting
 pub mod Layouts
+pub mod Meant
+pub mod Setting
 pub mod Status

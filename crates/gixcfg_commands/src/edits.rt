@@ -1,17 +1,26 @@
 //! Edits with options: `set`, `unset`, `rename-section`, `remove-section` and `fmt`.
-ghost use Rattle.std.specs.Prelude.{◌≡◌, List, length, option_map, true, IfErr, IfOk, Ok};
+ghost use Rattle.std.specs.Prelude.{◌≡◌, List, length, map, option_map, false, true, IfErr, IfOk, None, Ok, OnOk};
 ghost use Rattle.std.specs.Option.{option_copied};
 ghost use Rattle.bstr.specs.Owned.{bstring_bytes};
 ghost use Rattle.gitconf_text.specs.Document.{IsText};
 ghost use Rattle.gitconf_text.specs.Part.{Part};
 ghost use Rattle.gitconf_text.specs.Token.{tokens_of};
+ghost use Rattle.gitconf_sources.specs.Key.{key_of};
 ghost use Rattle.gitconf_sources.specs.Metadata.{api_meta};
 ghost use Rattle.gitconf_state.specs.Made.{IsMade};
-ghost use Rattle.gitconf_state.specs.Edits.{RenameAll, apply};
+ghost use Rattle.gitconf_state.specs.Edits.{RenameAll, apply, apply_all};
+ghost use Rattle.gix_config.specs.Edited.{has_number};
+ghost use Rattle.std.specs.List.{list_all};
 ghost use Rattle.gitconf_state.specs.Printing.{printed};
 ghost use Rattle.gixcfg_core.specs.Answers.{Answers, IsRefusedText};
-ghost use Rattle.gixcfg_commands.specs.Edits as spec;
-ghost use Rattle.gixcfg_commands.specs.Edits.{EditsTo, IsCarriedOut, IsOfText, marked_answer, no_room, others_of, removal_of, renaming_of, trouble_of_renaming, unrenamed};
+ghost use Rattle.gix_config.specs.MultiValueEditors as multi;
+ghost use Rattle.gix_config.specs.MultiValueEditors.{writing};
+ghost use Rattle.gix_config.specs.SectionEditors.{edited, lent};
+ghost use Rattle.gixcfg_commands.specs.Answered as spec;
+ghost use Rattle.gixcfg_commands.specs.Answered.{IsCarriedOut, IsChecked, edited_text, marked_answer};
+ghost use Rattle.gixcfg_commands.specs.Edits.{EditsTo, IsOfText, UnsetsTo, no_room, others_of, removal_of, renaming_of, trouble_of_renaming, unremoved, unrenamed};
+ghost use Rattle.gixcfg_commands.specs.Setting.{IsGivenText, IsPlacedText, IsPushed, IsRewritten, IsSetText, IsStoredValue, IsUnwritten, SetsTo, added, pushing, setting_of, setting_of_one, setting_of_several, unadded};
+ghost use Rattle.gixcfg_commands.specs.Meant.{ByMeant, IsMeant, count_marked, plain_holder, removals, spared, values_of_key, without_marked};
 ghost use Rattle.gitconf_store.specs.declared.rename_section.Error.TheVariants.{Section};
 
 use crate::layouts::laid_out;
@@ -19,7 +28,9 @@ use crate::meant::{Meant, entries_meant, remove_meant};
 use crate::named::Text;
 use bstr::BString;
 use gitconf_text::parse::section::header;
+use gix_config::file::multi_value_mut::MultiValueMut;
 use gix_config::file::rename_section;
+use gix_config::file::section_mut::SectionMut;
 use gix_config::lookup::existing;
 use gix_config::refusals::Refusal;
 use gix_config::{File, KeyRef};
@@ -31,7 +42,7 @@ use gixcfg_core::streams::put;
 use gixcfg_core::trouble::{Trouble, of_number};
 use gixcfg_core::typed::stored;
 use gixcfg_files::{Fault, Place, Replaced, Replacement};
-use gixcfg_words::command::{Fmt, Placing, Removal, Renaming, Set, Unset};
+use gixcfg_words::command::{Fmt, Placing, Removal, Renaming, Set, Unset, Values};
 use gixcfg_words::keys::Names;
 use std::alloc::{AllocError, AllocGlobal, Global};
 use std::io::{Read, Write};
@@ -158,10 +169,8 @@ fn edited(
 {
     let read = Text { name, text };
     match edit {
-        Edit::Set(set) => with_value(alloc, text, parsed(alloc, name, text, outside)?, set),
-        Edit::Unset(unset) => {
-            without_entries(alloc, text, parsed(alloc, name, text, outside)?, unset)
-        }
+        Edit::Set(set) => set_in(alloc, &read, set, outside),
+        Edit::Unset(unset) => unset_in(alloc, &read, unset, outside),
         Edit::RenameSection(renaming) => renamed_in(alloc, &read, renaming, outside),
         Edit::RemoveSection(removal) => removed_in(alloc, &read, removal, outside),
         Edit::Fmt(fmt) => laid_out(alloc, name, text, fmt, outside),
@@ -182,19 +191,241 @@ fn parsed(alloc: Global, name: &str, text: &[u8], outside: Outside<'_>) -> Resul
     )
 }
 
-/// The text of a file, in which a key has got a value, with a comment after it if one is asked for.
-fn with_value(alloc: Global, text: &[u8], file: File, set: &Set<'_>) -> Result<BString, Trouble> {
-    let mut file = file;
-    let value = value_of(alloc, set)?;
-    let entry = Entry {
-        key: set.key,
-        value: &value,
-    };
-    match (put_value(alloc, &mut file, &entry, set)?, set.comment) {
-        (Change::None, _) => Ok(BString::new(text.to_vec(alloc)?)),
-        (Change::Done, None) => written(alloc, text, &file),
-        (Change::Done, Some(comment)) => {
-            marked(alloc, text, commented(alloc, &file, set.key, comment)?)
+/// The text of what is read, in which a key has got a value.
+fn set_in(
+    alloc: Global,
+    read: &Text<'_>,
+    set: &Set<'_>,
+    outside: Outside<'_>,
+) -> Result<BString, Trouble>
+    ensures { IsOfText read.now.text.now outside.entry.is_colored (λ file. SetsTo set.now read.now.text.now file result) result }
+{
+    match parsed(alloc, read.name, read.text, outside) {
+        Ok(file) => {
+            let mut file = file;
+            with_value(alloc, read.text, &mut file, set)
+        }
+        Err(trouble) => Err(trouble),
+    }
+}
+
+/// The text of a file, in which a key has got a value, as it is stored.
+fn with_value(
+    alloc: Global,
+    text: &[u8],
+    file: &mut File,
+    set: &Set<'_>,
+) -> Result<BString, Trouble>
+    ensures { SetsTo set.now text.now file.old result }
+{
+    match value_of(alloc, set) {
+        Ok(value) => {
+            let giving = Giving {
+                before: text,
+                set,
+                value: &value,
+            };
+            placed_text(alloc, file, &giving)
+        }
+        Err(trouble) => Err(trouble),
+    }
+}
+
+/// What is set, in which text.
+#[derive(Clone, Copy)]
+struct Giving<'a> {
+    /// The text.
+    before: &'a [u8],
+    /// What is asked for.
+    set: &'a Set<'a>,
+    /// The value, as it is stored.
+    value: &'a [u8],
+}
+
+/// What becomes of a key's entries that are meant.
+#[derive(Clone, Copy)]
+enum Setting {
+    /// There is none, so that one is added.
+    Add,
+    /// There is one, and it has the value.
+    Keep,
+    /// There is one, at this place among all of the key, and it gets the value.
+    Give(usize),
+    /// There are several; the first one, at this place among all of the key, gets the value, and the others are removed.
+    GiveAlone(usize),
+}
+
+/// The text of a file, in which a key has got a value: the only one, one in place of others, or one more.
+fn placed_text(alloc: Global, file: &mut File, giving: &Giving<'_>) -> Result<BString, Trouble>
+    ensures { giving.now.set.now.comment ≡ None → IsPlacedText giving.now.set.now.placing (key_of giving.now.set.now.key) giving.now.value.now giving.now.before.now file.old result }
+{
+    match giving.set.placing {
+        Placing::New => added_text(alloc, file, giving),
+        Placing::Only(values) => text_in_place(alloc, file, giving, values, false),
+        Placing::All(values) => text_in_place(alloc, file, giving, values, true),
+    }
+}
+
+/// The text of a file, in which a key has got a value in place of entries with such values.
+fn text_in_place(
+    alloc: Global,
+    file: &mut File,
+    giving: &Giving<'_>,
+    values: Values<'_>,
+    is_all: bool,
+) -> Result<BString, Trouble>
+    ensures { let key = key_of giving.now.set.now.key in let value = giving.now.value.now in giving.now.set.now.comment ≡ None →
+        ByMeant values.entry (λ means. let found = values_of_key key file.old in
+        IsSetText (setting_of is_all false value (map means found) found) key value (map means found) giving.now.before.now file.old result) result }
+{
+    match entries_meant(alloc, file, giving.set.key, values) {
+        Ok(meant) => meant_text(alloc, file, giving, meant, is_all),
+        Err(trouble) => Err(trouble),
+    }
+}
+
+/// The text of a file, in which a key has got a value in place of the only entry that is meant, or of all that are.
+fn meant_text(
+    alloc: Global,
+    file: &mut File,
+    giving: &Giving<'_>,
+    meant: Meant,
+    is_all: bool,
+) -> Result<BString, Trouble>
+    ensures { let key = key_of giving.now.set.now.key in let value = giving.now.value.now in
+        (means : _) → IsMeant key means file.old meant → giving.now.set.now.comment ≡ None → let found = values_of_key key file.old in
+        IsSetText (setting_of is_all false value (map means found) found) key value (map means found) giving.now.before.now file.old result }
+{
+    let is_commented = giving.set.comment.is_some();
+    match setting_of(&meant, giving.value, is_commented, is_all) {
+        Ok(Setting::Add) => added_text(alloc, file, giving),
+        Ok(Setting::Keep) => kept_text(alloc, giving),
+        Ok(Setting::Give(at)) => given_text(alloc, file, giving, at),
+        Ok(Setting::GiveAlone(at)) => alone_text(alloc, file, giving, meant, at),
+        Err(trouble) => Err(trouble),
+    }
+}
+
+/// What becomes of entries that are meant.
+fn setting_of(
+    meant: &Meant,
+    value: &[u8],
+    is_commented: bool,
+    is_all: bool,
+) -> Result<Setting, Trouble>
+    ensures { result ≡ setting_of is_all is_commented value.now meant.now.marks.items (map (option_map bstring_bytes) meant.now.values.items) }
+{
+    match meant.first() {
+        Some(first) if meant.count() == 1 => Ok(setting_of_one(meant, value, is_commented, first)),
+        Some(first) => setting_of_several(is_all, first),
+        None => Ok(Setting::Add),
+    }
+}
+
+/// What becomes of the only one, which is at this place.
+fn setting_of_one(meant: &Meant, value: &[u8], is_commented: bool, first: usize) -> Setting
+    ensures { result ≡ setting_of_one is_commented value.now (map (option_map bstring_bytes) meant.now.values.items) first }
+{
+    if !is_commented && meant.is_at(first, value) {
+        Setting::Keep
+    } else {
+        Setting::Give(first)
+    }
+}
+
+/// What becomes of several, of which the first is at this place.
+fn setting_of_several(is_all: bool, first: usize) -> Result<Setting, Trouble>
+    ensures { result ≡ setting_of_several is_all first }
+{
+    if is_all {
+        Ok(Setting::GiveAlone(first))
+    } else {
+        Err(Trouble::Several)
+    }
+}
+
+/// The text of a file, with an entry more.
+fn added_text(alloc: Global, file: &mut File, giving: &Giving<'_>) -> Result<BString, Trouble>
+    ensures { let key = key_of giving.now.set.now.key in giving.now.set.now.comment ≡ None → Answers bstring_bytes result
+        (marked_answer giving.now.before.now (edited_text (unadded key giving.now.value.now file.old) (added key giving.now.value.now) file.old)) }
+{
+    match add(file, giving.set.key, giving.value) {
+        Ok(()) => with_comment(alloc, file, giving),
+        Err(trouble) => Err(trouble),
+    }
+}
+
+/// The text as it was.
+fn kept_text(alloc: Global, giving: &Giving<'_>) -> Result<BString, Trouble>
+    ensures { Answers bstring_bytes result (Ok giving.now.before.now) }
+{
+    Ok(BString::new(giving.before.to_vec(alloc)?))
+}
+
+/// The text of a file, in which the entry of a key at a place among its entries has got another value.
+fn given_text(
+    alloc: Global,
+    file: &mut File,
+    giving: &Giving<'_>,
+    at: usize,
+) -> Result<BString, Trouble>
+    ensures { let key = key_of giving.now.set.now.key in
+        giving.now.set.now.comment ≡ None → IsGivenText key at giving.now.value.now giving.now.before.now file.old result }
+{
+    match rewrite(file, giving.set.key, giving.value, at) {
+        Ok(()) => with_comment(alloc, file, giving),
+        Err(trouble) => Err(trouble),
+    }
+}
+
+/// The same, without the others that are meant. All entries before that one stay.
+fn alone_text(
+    alloc: Global,
+    file: &mut File,
+    giving: &Giving<'_>,
+    meant: Meant,
+    at: usize,
+) -> Result<BString, Trouble>
+    ensures { let key = key_of giving.now.set.now.key in (means : _) → IsMeant key means file.old meant → giving.now.set.now.comment ≡ None →
+        let marks = map means (values_of_key key file.old) in
+        IsGivenText key at giving.now.value.now giving.now.before.now (without_marked key (spared marks at) file.old) result }
+{
+    let mut others = meant;
+    others.spare(at);
+    text_without_others(alloc, file, giving, &others, at)
+}
+
+/// The same, without the entries that are marked.
+fn text_without_others(
+    alloc: Global,
+    file: &mut File,
+    giving: &Giving<'_>,
+    others: &Meant,
+    at: usize,
+) -> Result<BString, Trouble>
+    ensures { let key = key_of giving.now.set.now.key in let holders = map plain_holder others.now.holders.items in
+        list_all (λ h. has_number h.0 file.old) holders ≡ true → giving.now.set.now.comment ≡ None →
+        IsGivenText key at giving.now.value.now giving.now.before.now (apply_all (removals key.name others.now.marks.items holders) file.old) result }
+{
+    let key = giving.set.key;
+    match remove_meant(file, key.value_name, others) {
+        Ok(()) => given_text(alloc, file, giving, at),
+        Err(trouble) => Err(trouble),
+    }
+}
+
+/// The text of a file, with a comment after the value of a key's last entry, if one is asked for.
+fn with_comment(alloc: Global, file: &File, giving: &Giving<'_>) -> Result<BString, Trouble>
+    ensures { giving.now.set.now.comment ≡ None → Answers bstring_bytes result (Ok (spec.marked giving.now.before.now (printed file.now))) }
+{
+    match giving.set.comment {
+        None => written(alloc, giving.before, file),
+        Some(comment) => {
+            marked(
+                alloc,
+                giving.before,
+                commented(alloc, file, giving.set.key, comment)?,
+            )
         }
     }
 }
@@ -203,12 +434,33 @@ fn with_value(alloc: Global, text: &[u8], file: File, set: &Set<'_>) -> Result<B
 fn without_entries(
     alloc: Global,
     text: &[u8],
-    file: File,
+    file: &mut File,
     unset: &Unset<'_>,
-) -> Result<BString, Trouble> {
-    let mut file = file;
-    remove(alloc, &mut file, unset)?;
-    written(alloc, text, &file)
+) -> Result<BString, Trouble>
+    ensures { UnsetsTo unset.now text.now file.old result }
+{
+    match remove(alloc, file, unset) {
+        Ok(()) => written(alloc, text, file),
+        Err(trouble) => Err(trouble),
+    }
+}
+
+/// The text of what is read, from which entries of a key are removed.
+fn unset_in(
+    alloc: Global,
+    read: &Text<'_>,
+    unset: &Unset<'_>,
+    outside: Outside<'_>,
+) -> Result<BString, Trouble>
+    ensures { IsOfText read.now.text.now outside.entry.is_colored (λ file. UnsetsTo unset.now read.now.text.now file result) result }
+{
+    match parsed(alloc, read.name, read.text, outside) {
+        Ok(file) => {
+            let mut file = file;
+            without_entries(alloc, read.text, &mut file, unset)
+        }
+        Err(trouble) => Err(trouble),
+    }
 }
 
 /// The text of a file without the sections of a name.
@@ -318,119 +570,96 @@ fn commented(
     }
 }
 
-/// Whether an edit changes anything.
-#[derive(Clone, Copy)]
-enum Change {
-    /// The file has it already.
-    None,
-    /// The file is changed.
-    Done,
-}
-
 /// A value as it is stored.
-fn value_of(alloc: Global, set: &Set<'_>) -> Result<BString, Trouble> {
+fn value_of(alloc: Global, set: &Set<'_>) -> Result<BString, Trouble>
+    ensures { IsStoredValue set.now result }
+{
     let value = set.value.as_bytes();
     match set.kind {
         None => Ok(BString::new(value.to_vec(alloc)?)),
-        Some(kind) => Ok(stored(alloc, value, kind)?),
+        Some(kind) => match stored(alloc, value, kind) {
+            Ok(text) => Ok(text),
+            Err(fault) => Err(Trouble::from(fault)),
+        },
     }
-}
-
-/// What is set.
-#[derive(Clone, Copy)]
-struct Entry<'a> {
-    key: KeyRef<'a>,
-    value: &'a [u8],
-}
-
-/// Gives a key a value: the only one, one in place of others, or one more.
-fn put_value(
-    alloc: Global,
-    file: &mut File,
-    entry: &Entry<'_>,
-    set: &Set<'_>,
-) -> Result<Change, Trouble> {
-    let is_commented = set.comment.is_some();
-    match set.placing {
-        Placing::New => {
-            add(file, entry)?;
-            Ok(Change::Done)
-        }
-        Placing::Only(values) => {
-            let meant = entries_meant(alloc, file, entry.key, values)?;
-            put_in_place(file, entry, meant, is_commented, false)
-        }
-        Placing::All(values) => {
-            let meant = entries_meant(alloc, file, entry.key, values)?;
-            put_in_place(file, entry, meant, is_commented, true)
-        }
-    }
-}
-
-/// Gives a key a value in place of the only one that is meant, or of all that are.
-fn put_in_place(
-    file: &mut File,
-    entry: &Entry<'_>,
-    mut meant: Meant,
-    is_commented: bool,
-    is_all: bool,
-) -> Result<Change, Trouble> {
-    let Some(first) = meant.first() else {
-        add(file, entry)?;
-        return Ok(Change::Done);
-    };
-    match meant.count() {
-        1 if !is_commented && meant.is_at(first, entry.value) => return Ok(Change::None),
-        1 => {}
-        _ if is_all => {
-            meant.spare(first);
-            remove_meant(file, entry.key.value_name, &meant)?;
-        }
-        _ => return Err(Trouble::Several),
-    }
-    // (all entries before it are there still)
-    rewrite(file, entry, first)?;
-    Ok(Change::Done)
 }
 
 /// Adds an entry after the last one of the last section of its name, as git does it.
-fn add(file: &mut File, entry: &Entry<'_>) -> Result<(), Trouble> {
-    let key = entry.key;
+fn add(file: &mut File, key: KeyRef<'_>, value: &[u8]) -> Result<(), Trouble>
+    ensures { let names = key_of key.entry in IsCarriedOut (unadded names value.now file.old) (added names value.now) result file.old file.new }
+{
     match file.section_mut_or_create_new(key.section_name, key.subsection_name) {
-        Ok(mut section) => match section.push_after_last(key.value_name, Some(entry.value)) {
-            Ok(()) => Ok(()),
-            Err(refusal) => Err(of_number(refusal.number())),
-        },
+        Ok(mut section) => push(&mut section, key.value_name, value),
+        Err(refusal) => Err(of_number(refusal.number())),
+    }
+}
+
+/// Adds an entry after the last one of a section.
+fn push(section: &mut SectionMut<'_>, name: &str, value: &[u8]) -> Result<(), Trouble>
+    ensures same_file { lent section.new ≡ lent section.old }
+    ensures done { IsPushed (pushing section.old name.now value.now) result (edited section.old) (edited section.new) }
+{
+    match section.push_after_last(name, Some(value)) {
+        Ok(()) => Ok(()),
         Err(refusal) => Err(of_number(refusal.number())),
     }
 }
 
 /// Gives the entry of a key at a place among its entries another value.
-fn rewrite(file: &mut File, entry: &Entry<'_>, at: usize) -> Result<(), Trouble> {
-    match file.raw_values_mut(entry.key) {
-        Ok(mut editor) => {
-            if at >= editor.len() {
-                return Err(Trouble::Missing);
-            }
-            match editor.set_at(at, entry.value) {
-                Ok(()) => Ok(()),
-                Err(refusal) => Err(of_number(refusal.number())),
-            }
-        }
+fn rewrite(file: &mut File, key: KeyRef<'_>, value: &[u8], at: usize) -> Result<(), Trouble>
+    ensures done { IfOk result (λ _. IsRewritten (key_of key.entry) at value.now file.old (printed file.new)) }
+    ensures refused { IfErr result IsUnwritten }
+{
+    match file.raw_values_mut(key) {
+        Ok(mut editor) => write_at(&mut editor, value, at),
         Err(existing::Error::Memory) => Err(Trouble::Memory),
         Err(_) => Err(Trouble::Missing),
     }
 }
 
+/// Gives one of the entries another value.
+fn write_at(editor: &mut MultiValueMut<'_>, value: &[u8], at: usize) -> Result<(), Trouble>
+    ensures same_file { multi.lent editor.new ≡ multi.lent editor.old }
+    ensures done { OnOk result (printed (multi.edited editor.new) ≡ printed (apply (writing editor.old at value.now) (multi.edited editor.old))) }
+    ensures refused { IfErr result IsUnwritten }
+{
+    if at >= editor.len() {
+        return Err(Trouble::Missing);
+    }
+    match editor.set_at(at, value) {
+        Ok(()) => Ok(()),
+        Err(refusal) => Err(of_number(refusal.number())),
+    }
+}
+
 /// Removes the only entry of a key, or all of them, as far as their values are meant.
-fn remove(alloc: Global, file: &mut File, unset: &Unset<'_>) -> Result<(), Trouble> {
-    let meant = entries_meant(alloc, file, unset.key, unset.values)?;
-    check_count(meant.count(), unset.is_all)?;
-    remove_meant(file, unset.key.value_name, &meant)
+fn remove(alloc: Global, file: &mut File, unset: &Unset<'_>) -> Result<(), Trouble>
+    ensures { let key = key_of unset.now.key in
+        ByMeant unset.now.values (λ means. let marks = map means (values_of_key key file.old) in
+        IsCarriedOut (unremoved unset.now.is_all (count_marked marks)) (without_marked key marks) result file.old file.new) result }
+{
+    match entries_meant(alloc, file, unset.key, unset.values) {
+        Ok(meant) => remove_found(file, unset, &meant),
+        Err(trouble) => Err(trouble),
+    }
+}
+
+/// Removes the entries of a key that are meant, if there may be so many.
+fn remove_found(file: &mut File, unset: &Unset<'_>, meant: &Meant) -> Result<(), Trouble>
+    ensures { let key = key_of unset.now.key in
+        (means : _) → IsMeant key means file.old meant.now → let marks = map means (values_of_key key file.old) in
+        IsCarriedOut (unremoved unset.now.is_all (count_marked marks)) (without_marked key marks) result file.old file.new }
+{
+    match check_count(meant.count(), unset.is_all) {
+        Ok(()) => remove_meant(file, unset.key.value_name, meant),
+        Err(trouble) => Err(trouble),
+    }
 }
 
 /// Tests that there is an entry, and only one if there may not be several.
-fn check_count(count: usize, is_all: bool) -> Result<(), Trouble> {
+fn check_count(count: usize, is_all: bool) -> Result<(), Trouble>
+    ensures { IsChecked (unremoved is_all count) result }
+{
     match count {
         0 => Err(Trouble::NoEntry),
         count if count > 1 && !is_all => Err(Trouble::Several),

@@ -1,7 +1,11 @@
 //! The entries of a file.
-ghost use Rattle.std.specs.Prelude.{◌≡◌, IfOk, map};
+ghost use Rattle.std.specs.Prelude.{◌≡◌, ◌⊎◌, ℕ, Bool, List, IfErr, IfOk, map};
+ghost use Rattle.gitconf_sources.specs.Key.{key_of};
 ghost use Rattle.gixcfg_core.specs.Entries.{plain_found};
-ghost use Rattle.gixcfg_commands.specs.Entries.{file_entries, file_lines};
+ghost use Rattle.gixcfg_core.specs.Patterns.{is_found, IsNoPatternOfKeys, IsRegexOfKeys, Means, MeansNothing, Regex};
+ghost use Rattle.gixcfg_core.specs.declared.trouble.Trouble.TheVariants as kinds;
+ghost use Rattle.gixcfg_commands.specs.Entries as spec;
+ghost use Rattle.gixcfg_commands.specs.Entries.{file_entries, file_lines, key_entries, value_text, AreLike, AreMeant};
 
 use gix_config::{File, KeyRef};
 use gixcfg_core::entries::{Found, Sought, add_found, add_lines, is_listed_under};
@@ -10,7 +14,7 @@ use gixcfg_core::origins::{Located, before_of};
 use gixcfg_core::patterns::{marks_of, marks_of_keys};
 use gixcfg_core::trouble::Trouble;
 use gixcfg_words::command::{Form, Values};
-use std::alloc::Global;
+use std::alloc::{AllocError, Global};
 
 /// All entries of a file's sections, in order.
 ///
@@ -67,10 +71,12 @@ pub fn entries_of(
     key: KeyRef<'_>,
     form: &Form,
     read: &Located,
-) -> Result<Vec<Found>, Trouble> {
+) -> Result<Vec<Found>, Trouble>
+    ensures { IfOk result (λ found. map plain_found found.items ≡ key_entries form.now read.now (key_of key.entry) file.now) }
+{
     let mut found = Vec::new(alloc);
     for section in file.sections() {
-        if is_listed_under(&section, key) {
+        if is_listed_under(&section, key)? {
             let before = before_of(alloc, section.meta(), form, read)?;
             let sought = Sought {
                 before: &before,
@@ -84,35 +90,61 @@ pub fn entries_of(
 }
 
 /// The entries in whose keys a pattern is found.
+///
+/// # Errors
+///
+/// The pattern can't be read; out of memory.
 pub fn entries_like(
     alloc: Global,
     entries: Vec<Found>,
     pattern: &str,
-) -> Result<Vec<Found>, Trouble> {
+) -> Result<Vec<Found>, Trouble>
+    ensures found { IfOk result (λ found. AreLike pattern.now (map plain_found entries.items) (map plain_found found.items)) }
+    ensures refused { IfErr result (λ trouble. (trouble ≡ kinds.Memory) ⊎ ((trouble ≡ kinds.BadPattern) × IsNoPatternOfKeys pattern.now)) }
+{
     let marks = marks_by_keys(alloc, &entries, pattern)?;
-    marked(alloc, entries, &marks)
+    Ok(marked(alloc, entries, &marks)?)
 }
 
 /// The entries whose values are meant.
+///
+/// # Errors
+///
+/// A pattern can't be read; out of memory.
 pub fn entries_meant(
     alloc: Global,
     entries: Vec<Found>,
     values: Values<'_>,
-) -> Result<Vec<Found>, Trouble> {
+) -> Result<Vec<Found>, Trouble>
+    ensures found { IfOk result (λ found. AreMeant values.entry (map plain_found entries.items) (map plain_found found.items)) }
+    ensures refused { IfErr result (λ trouble. (trouble ≡ kinds.Memory) ⊎ ((trouble ≡ kinds.BadPattern) × MeansNothing values.entry)) }
+{
     if let Values::Any = values {
         return Ok(entries);
     }
     let marks = marks_by_values(alloc, &entries, values)?;
-    marked(alloc, entries, &marks)
+    Ok(marked(alloc, entries, &marks)?)
 }
 
 /// In the keys of which entries a pattern is found.
-fn marks_by_keys(alloc: Global, entries: &[Found], pattern: &str) -> Result<Vec<bool>, Trouble> {
+fn marks_by_keys(alloc: Global, entries: &[Found], pattern: &str) -> Result<Vec<bool>, Trouble>
+    ensures marks { IfOk result (λ marks. (regex : Regex) × IsRegexOfKeys pattern.now regex
+        × (marks.items ≡ map (λ f. is_found regex f.names) (map plain_found entries.now))) }
+    ensures refused { IfErr result (λ trouble. (trouble ≡ kinds.Memory) ⊎ ((trouble ≡ kinds.BadPattern) × IsNoPatternOfKeys pattern.now)) }
+{
+    let keys = keys_of(alloc, entries)?;
+    marks_of_keys(alloc, pattern, &keys)
+}
+
+/// The keys of entries.
+fn keys_of(alloc: Global, entries: &[Found]) -> Result<Vec<&[u8]>, AllocError>
+    ensures { IfOk result (λ keys. map (λ k. k.now) keys.items ≡ map (λ f. f.names) (map plain_found entries.now)) }
+{
     let mut keys = Vec::with_capacity(alloc, entries.len())?;
     for entry in entries {
         keys.push(entry.names.as_slice())?;
     }
-    marks_of_keys(alloc, pattern, &keys)
+    Ok(keys)
 }
 
 /// Which entries have a value that is meant.
@@ -120,22 +152,35 @@ fn marks_by_values(
     alloc: Global,
     entries: &[Found],
     values: Values<'_>,
-) -> Result<Vec<bool>, Trouble> {
+) -> Result<Vec<bool>, Trouble>
+    ensures marks { IfOk result (λ marks. (test : List ℕ → Bool) × Means values.entry test
+        × (marks.items ≡ map (λ f. test (value_text f)) (map plain_found entries.now))) }
+    ensures refused { IfErr result (λ trouble. (trouble ≡ kinds.Memory) ⊎ ((trouble ≡ kinds.BadPattern) × MeansNothing values.entry)) }
+{
+    let texts = texts_of(alloc, entries)?;
+    marks_of(alloc, values, &texts)
+}
+
+/// What the values of entries are, no bytes for one without `=`.
+fn texts_of(alloc: Global, entries: &[Found]) -> Result<Vec<&[u8]>, AllocError>
+    ensures { IfOk result (λ texts. map (λ t. t.now) texts.items ≡ map value_text (map plain_found entries.now)) }
+{
     let mut texts = Vec::with_capacity(alloc, entries.len())?;
     for entry in entries {
         texts.push(entry.value().unwrap_or(b""))?;
     }
-    marks_of(alloc, values, &texts)
+    Ok(texts)
 }
 
-/// Those that are marked.
-fn marked(alloc: Global, entries: Vec<Found>, marks: &[bool]) -> Result<Vec<Found>, Trouble> {
-    let (mut found, mut at) = (Vec::new(alloc), 0usize);
-    for entry in entries {
-        if marks.get(at).copied().unwrap_or(false) {
+/// Those that are marked, in order.
+fn marked(alloc: Global, entries: Vec<Found>, marks: &[bool]) -> Result<Vec<Found>, AllocError>
+    ensures { IfOk result (λ found. map plain_found found.items ≡ spec.marked marks.now (map plain_found entries.items)) }
+{
+    let mut found = Vec::new(alloc);
+    for (entry, mark) in entries.into_iter().zip(marks) {
+        if *mark {
             found.push(entry)?;
         }
-        at = at.saturating_add(1);
     }
     Ok(found)
 }

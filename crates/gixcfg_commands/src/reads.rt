@@ -1,4 +1,7 @@
 //! `get` and `list` with options.
+ghost use Rattle.std.specs.Prelude.{◌≡◌, IfOk, None, map};
+ghost use Rattle.gixcfg_core.specs.Entries.{plain_found};
+ghost use Rattle.gixcfg_commands.specs.Getting.{AreFound, AreMeantLines, IsSought};
 
 use crate::at_once::{key_alone, last_line};
 use crate::effective::effective;
@@ -12,8 +15,8 @@ use gixcfg_core::origins::Located;
 use gixcfg_core::outside::{Inputs, accepted};
 use gixcfg_core::telling::{lines_of_all, lines_of_found};
 use gixcfg_core::trouble::Trouble;
-use gixcfg_words::command::{ForUrl, Get, List, Reading, Source, Wanted};
-use std::alloc::AllocGlobal;
+use gixcfg_words::command::{Form, Get, List, Reading, Source, Wanted};
+use std::alloc::{AllocGlobal, Global};
 use std::io::Read;
 use std::rt::{Env, Files};
 
@@ -52,6 +55,17 @@ pub fn answer<R: Files + Env + Loads + AllocGlobal, I: Read + Drop>(
     }
 }
 
+/// What `get` looks for, with its URL read, if it is one.
+#[derive(Drop)]
+enum Sought<'a> {
+    /// The entries of a key.
+    Key(KeyRef<'a>),
+    /// The entries in whose keys a pattern is found.
+    Keys(&'a str),
+    /// The entries for a URL.
+    ForUrl(Variables<'a>),
+}
+
 /// The lines that `get` prints, of a file that may be missing.
 fn get<R: Files + Env + Loads + AllocGlobal, I: Read + Drop>(
     inputs: &mut Inputs<'_, R, I>,
@@ -62,64 +76,58 @@ fn get<R: Files + Env + Loads + AllocGlobal, I: Read + Drop>(
         return last_line(inputs, key, &get.form, read);
     }
     let (alloc, home) = (inputs.rt.alloc(), inputs.outside.home);
-    let found = found_by(inputs, get, read)?;
-    let found = entries_meant(alloc, found, get.values)?;
-    lines_of_found(alloc, &found, get.choice, &get.form, home)
+    let sought = sought_by(alloc, get.wanted)?;
+    let found = match file_at(inputs, &get.reading, read)? {
+        Some(file) => found_in(alloc, &file, &sought, &get.form, read)?,
+        None => Vec::new(alloc),
+    };
+    lines_of_meant(alloc, found, get, home)
 }
 
-/// The entries that `get` looks for.
-fn found_by<R: Files + Env + Loads + AllocGlobal, I: Read + Drop>(
-    inputs: &mut Inputs<'_, R, I>,
-    get: &Get<'_>,
-    read: &Located,
-) -> Result<Vec<Found>, Trouble> {
-    match get.wanted {
-        Wanted::Key(key) => found_of(inputs, get, key, read),
-        Wanted::Keys(pattern) => found_like(inputs, get, pattern, read),
-        Wanted::ForUrl(wanted) => found_for_url(inputs, get, &wanted, read),
+/// What is looked for.
+fn sought_by<'a>(alloc: Global, wanted: Wanted<'a>) -> Result<Sought<'a>, Trouble>
+    ensures { IfOk result (IsSought wanted.entry) }
+{
+    match wanted {
+        Wanted::Key(key) => Ok(Sought::Key(key)),
+        Wanted::Keys(pattern) => Ok(Sought::Keys(pattern)),
+        Wanted::ForUrl(wanted) => Ok(Sought::ForUrl(Variables::of(alloc, &wanted)?)),
     }
 }
 
-/// The entries of a key.
-fn found_of<R: Files + Env + Loads + AllocGlobal, I: Read + Drop>(
-    inputs: &mut Inputs<'_, R, I>,
-    get: &Get<'_>,
-    key: KeyRef<'_>,
+/// The entries of a file that are looked for.
+fn found_in(
+    alloc: Global,
+    file: &File,
+    sought: &Sought<'_>,
+    form: &Form,
     read: &Located,
-) -> Result<Vec<Found>, Trouble> {
-    let alloc = inputs.rt.alloc();
-    match file_at(inputs, &get.reading, read)? {
-        Some(file) => entries_of(alloc, &file, key, &get.form, read),
-        None => Ok(Vec::new(alloc)),
+) -> Result<Vec<Found>, Trouble>
+    ensures { IfOk result (λ found. AreFound sought.now form.now read.now file.now (map plain_found found.items)) }
+{
+    match sought {
+        Sought::Key(key) => entries_of(alloc, file, *key, form, read),
+        Sought::Keys(pattern) => {
+            entries_like(alloc, all_entries(alloc, file, form, read)?, pattern)
+        }
+        Sought::ForUrl(variables) => {
+            entries_for_url(alloc, file.sections(), variables, form, read)
+        }
     }
 }
 
-/// The entries in whose keys a pattern is found.
-fn found_like<R: Files + Env + Loads + AllocGlobal, I: Read + Drop>(
-    inputs: &mut Inputs<'_, R, I>,
+/// The lines of those entries whose values are meant.
+fn lines_of_meant(
+    alloc: Global,
+    found: Vec<Found>,
     get: &Get<'_>,
-    pattern: &str,
-    read: &Located,
-) -> Result<Vec<Found>, Trouble> {
-    let alloc = inputs.rt.alloc();
-    match file_at(inputs, &get.reading, read)? {
-        Some(file) => entries_like(alloc, all_entries(alloc, &file, &get.form, read)?, pattern),
-        None => Ok(Vec::new(alloc)),
-    }
-}
-
-/// The entries for a URL, which is read before the file is.
-fn found_for_url<R: Files + Env + Loads + AllocGlobal, I: Read + Drop>(
-    inputs: &mut Inputs<'_, R, I>,
-    get: &Get<'_>,
-    wanted: &ForUrl<'_>,
-    read: &Located,
-) -> Result<Vec<Found>, Trouble> {
-    let alloc = inputs.rt.alloc();
-    let variables = Variables::of(alloc, wanted)?;
-    match file_at(inputs, &get.reading, read)? {
-        Some(file) => entries_for_url(alloc, file.sections(), &variables, &get.form, read),
-        None => Ok(Vec::new(alloc)),
+    home: Option<&str>,
+) -> Result<Vec<u8>, Trouble>
+    ensures { get.now.form.kind ≡ None → AreMeantLines get.now (map plain_found found.items) result }
+{
+    match entries_meant(alloc, found, get.values) {
+        Ok(meant) => lines_of_found(alloc, &meant, get.choice, &get.form, home),
+        Err(trouble) => Err(trouble),
     }
 }
 

@@ -6,4 +6,6 @@ mod WidthLemmas
 mod Digits
 mod Choices
 mod Told
+mod Negated
+mod Folding
 mod UrlLemmas

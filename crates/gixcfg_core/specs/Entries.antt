@@ -1,13 +1,17 @@
 -- The entries of a section, as they are found and as they are printed.
 -- Source: the manual page of `git-config`, `get`, `list` and their options.
-use Rattle.std.specs.Prelude.{ℕ, Bool, true, List, [], ◌∷◌, ◌++◌, map, filter, flat_map, Option, Some, None, if◌then◌else◌}
+use Rattle.std.specs.Prelude.{◌==◌, ℕ, Bool, true, List, [], ◌∷◌, ◌++◌, map, filter, flat_map, Option, Some, None, if◌then◌else◌}
+use Rattle.std.specs.List.{list_any}
 use Rattle.std.specs.Option.{option_map}
+use Rattle.std.specs.Str.{bytes_eq}
 use Rattle.bstr.specs.Owned.{bstring_bytes}
 use Rattle.gitconf_text.specs.Bytes.{fold}
 use Rattle.gitconf_text.specs.Document.{DocumentEntry}
 use Rattle.gitconf_text.specs.Header.{name_of, subsection_of}
 use Rattle.gitconf_text.specs.Names.{is_same_name}
 use Rattle.gitconf_text.specs.Value.{plain}
+use Rattle.gitconf_sources.specs.Key.{Key}
+use Rattle.gitconf_state.specs.Lookup.{is_named, listing}
 use Rattle.gitconf_state.specs.State.{SectionState, entries_of}
 use Rattle.gixcfg_core.specs.declared.entries.Found.{Found}
 use Rattle.gixcfg_core.specs.declared.lines.Line.{Line}
@@ -16,6 +20,16 @@ use Rattle.gixcfg_core.specs.declared.lines.Line.{Line}
 abbrev pub section_names : (name : List ℕ) (subsection : Option (List ℕ)) → List ℕ
 section_names name None = fold name ++ 46 ∷ []
 section_names name (Some subsection) = fold name ++ 46 ∷ (subsection ++ 46 ∷ [])
+
+-- a name has a dot in it, as that of `[a.b "c"]`
+abbrev pub has_dot : (name : List ℕ) → Bool
+has_dot name = list_any (λ b. b == 46) name
+
+-- The entries of a section are listed under the names of a key: the section has them; or its name has a dot, and with all dots they look alike.
+abbrev pub is_listed_under : Key → SectionState → Bool
+is_listed_under key s =
+    if has_dot (name_of s.header) then bytes_eq (section_names (name_of s.header) (subsection_of s.header)) (section_names key.section key.subsection)
+    else is_named key.section key.subsection (listing s)
 
 -- the names of an entry, with dots between them
 abbrev pub key_text : (section : List ℕ) (subsection : Option (List ℕ)) (name : List ℕ) → List ℕ

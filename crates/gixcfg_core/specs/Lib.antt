@@ -7,6 +7,7 @@ pub mod Colors
 pub mod Dates
 pub mod Numbers
 pub mod Origins
+pub mod Patterns
 pub mod Telling
 pub mod Troubles
 pub mod Typed

@@ -10,11 +10,11 @@ ghost use Rattle.gitconf_items.specs.Items.{entry_of};
 ghost use Rattle.gitconf_sources.specs.Key.{key_of};
 ghost use Rattle.gitconf_state.specs.Lookup.{is_named, listing};
 ghost use Rattle.gitconf_views.specs.Views.{shown};
-ghost use Rattle.gixcfg_core.specs.Entries.{found_in, found_of, is_sought, names_part, plain_found, section_lines, section_names, value_part, values_of_name};
+ghost use Rattle.gixcfg_core.specs.Entries.{found_in, found_of, has_dot, is_listed_under, is_sought, names_part, plain_found, section_lines, section_names, value_part, values_of_name};
 
 use crate::lines::{Line, add_value};
 use crate::names::{add_in_lower_case, add_names, add_section_names};
-use bstr::{BString, ByteSlice};
+use bstr::BString;
 use gitconf_body::entries::next_entry;
 use gitconf_body::meanings::entry_value;
 use gitconf_items::entry::{AssignedRef, Entry};
@@ -22,7 +22,7 @@ use gitconf_sources::key::KeyRef;
 use gitconf_text::NoMemory;
 use gitconf_text::value::normalize;
 use gitconf_views::section::SectionRef;
-use std::alloc::Global;
+use std::alloc::{AllocError, Global};
 use std::borrow::CowSlice;
 
 /// An entry: its names with dots between them, and its value. An entry without `=` has none.
@@ -266,31 +266,34 @@ pub fn is_named(section: &SectionRef<'_>, key: KeyRef<'_>) -> bool
 }
 
 /// Whether `list` prints the entries of a section under the names of a key. That of a section `[a.b "c"]` has the dot of its name before
-/// its subsection, and so is found by a key whose subsection is `b.c`.
-pub fn is_listed_under(section: &SectionRef<'_>, key: KeyRef<'_>) -> bool {
+/// its subsection, and so is found by a key whose subsection is `b.c`. Takes memory only for a section that has a dot in its name.
+///
+/// # Errors
+///
+/// Out of memory.
+pub fn is_listed_under(section: &SectionRef<'_>, key: KeyRef<'_>) -> Result<bool, AllocError>
+    ensures { IfOk result (λ is. is ≡ is_listed_under (key_of key.entry) (shown section.now)) }
+{
     let header = section.header();
-    match (
-        header.name().find_byte(b'.'),
-        header.subsection_name(),
-        key.subsection_name,
-    ) {
-        (Some(dot), Some(subsection_name), Some(wanted)) => {
-            let (name, rest) = header.name().split_at(dot);
-            name.eq_ignore_ascii_case(key.section_name.as_bytes())
-                && is_joined(wanted, rest.split_at(1.min(rest.len())).1, subsection_name)
-        }
-        _ => is_named(section, key),
+    if !has_dot(header.name()) {
+        return Ok(is_named(section, key));
     }
+    let mut names = Vec::new(section.alloc);
+    add_section_names(&mut names, header.name(), header.subsection_name())?;
+    let mut wanted = Vec::new(section.alloc);
+    add_section_names(
+        &mut wanted,
+        key.section_name.as_bytes(),
+        key.subsection_name,
+    )?;
+    Ok(names.as_slice() == wanted.as_slice())
 }
 
-/// Whether a text is these two with a dot between them, the first in lower case.
-fn is_joined(text: &[u8], first: &[u8], last: &[u8]) -> bool {
-    let (start, rest) = text.split_at(first.len().min(text.len()));
-    let is_lower = !start.iter().any(|byte| byte.is_ascii_uppercase());
-    match rest {
-        [b'.', end @ ..] => is_lower && start.eq_ignore_ascii_case(first) && end == last,
-        _ => false,
-    }
+/// Whether there is a dot in a name.
+fn has_dot(name: &[u8]) -> bool
+    ensures { result ≡ has_dot name.now }
+{
+    name.contains(&b'.')
 }
 
 /// Whether a section has this name, without ASCII case, and exactly this subsection.

@@ -1,4 +1,9 @@
 //! What the words of a call without options ask for.
+ghost use Rattle.std.specs.Prelude.{◌≡◌, map};
+ghost use Rattle.std.specs.Option.{option_map};
+ghost use Rattle.gitconf_sources.specs.Key as keys;
+ghost use Rattle.gitconf_sources.specs.Key.{parsed_key};
+ghost use Rattle.gixcfg_words.specs.Plain.{asked, asked_alone, asked_of_input, asked_of_key, plain_of, plain_of_input};
 
 use gitconf_sources::key::KeyRef;
 
@@ -42,7 +47,9 @@ pub enum OnInput<'a> {
 }
 
 /// The task that the words are, if they are one.
-pub fn task_of<'a>(args: &[&'a str]) -> Option<Task<'a>> {
+pub fn task_of<'a>(args: &[&'a str]) -> Option<Task<'a>>
+    ensures { option_map plain_of result ≡ asked (map (λ w. w.now) args.now) }
+{
     match args {
         [word, path, command, key] if *word == "load" && *command == "get" => {
             Some(Task::Load(path, key_of(key)?))
@@ -52,19 +59,33 @@ pub fn task_of<'a>(args: &[&'a str]) -> Option<Task<'a>> {
 }
 
 /// The command that the words are.
-fn command_of<'a>(args: &[&'a str]) -> Option<OnInput<'a>> {
+fn command_of<'a>(args: &[&'a str]) -> Option<OnInput<'a>>
+    ensures { option_map plain_of_input result ≡ asked_of_input (map (λ w. w.now) args.now) }
+{
     match args {
+        [word] => word_command(word),
         [word, key] => key_command(word, key_of(key)?),
         [word, key, value] if *word == "set" => Some(OnInput::Set(key_of(key)?, value)),
-        [word] if *word == "list" => Some(OnInput::Ask(Query::List)),
-        [word] if *word == "print" => Some(OnInput::Print),
-        [word] if *word == "fmt" => Some(OnInput::Fmt),
+        _ => None,
+    }
+}
+
+/// The command that a word alone is.
+fn word_command<'a>(word: &str) -> Option<OnInput<'a>>
+    ensures { option_map plain_of_input result ≡ asked_alone word.now }
+{
+    match word {
+        "list" => Some(OnInput::Ask(Query::List)),
+        "print" => Some(OnInput::Print),
+        "fmt" => Some(OnInput::Fmt),
         _ => None,
     }
 }
 
 /// The command that a word and a key are.
-fn key_command<'a>(word: &str, key: KeyRef<'a>) -> Option<OnInput<'a>> {
+fn key_command<'a>(word: &str, key: KeyRef<'a>) -> Option<OnInput<'a>>
+    ensures { option_map plain_of_input result ≡ asked_of_key word.now (keys.key_of key.entry) }
+{
     match word {
         "get" => Some(OnInput::Ask(Query::Get(key))),
         "all" => Some(OnInput::Ask(Query::All(key))),
@@ -76,6 +97,8 @@ fn key_command<'a>(word: &str, key: KeyRef<'a>) -> Option<OnInput<'a>> {
 }
 
 /// The key that a word is. One without a dot is no key.
-fn key_of(word: &str) -> Option<KeyRef<'_>> {
+fn key_of(word: &str) -> Option<KeyRef<'_>>
+    ensures { option_map keys.key_of result ≡ parsed_key word.now }
+{
     KeyRef::parse_unvalidated(word.as_bytes())
 }

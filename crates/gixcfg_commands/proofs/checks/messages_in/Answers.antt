@@ -1,4 +1,4 @@
-use Rattle.std.proofs.Common.{inl, inr, Result}
+use Rattle.std.proofs.Common.{inr}
 use Rattle.std.proofs.lemmas.Result.{IfOk-weaker}
 use Rattle.gitconf_state.specs.State.{document_of}
 use Rattle.gixcfg_commands.proofs.Checking.{passed}

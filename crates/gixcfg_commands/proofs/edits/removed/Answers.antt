@@ -1,7 +1,7 @@
 use Rattle.std.proofs.Common.{ap, inl, inr, subst, sym, ⊎_elim}
 use Rattle.bstr.specs.Owned.{bstring_bytes}
 use Rattle.gixcfg_core.specs.Answers.{Answers}
-use Rattle.gixcfg_commands.specs.Edits.{marked_answer}
+use Rattle.gixcfg_commands.specs.Answered.{marked_answer}
 use Rattle.gixcfg_commands.proofs.edits.removed.Goals as goal
 
 pub returns-in-Ok : goal.returns-in-Ok

@@ -3,7 +3,8 @@ use Rattle.std.specs.Option.{option_copied}
 use Rattle.std.specs.Prelude.{option_map}
 use Rattle.bstr.specs.Owned.{bstring_bytes}
 use Rattle.gitconf_state.specs.Edits.{RenameAll, apply}
-use Rattle.gixcfg_commands.specs.Edits.{IsCarriedOut, trouble_of_renaming, unrenamed}
+use Rattle.gixcfg_commands.specs.Answered.{IsCarriedOut}
+use Rattle.gixcfg_commands.specs.Edits.{trouble_of_renaming, unrenamed}
 use Rattle.gixcfg_commands.proofs.Editing.{done_so, refused_so}
 use Rattle.gixcfg_commands.proofs.edits.rename.Goals as goal
 

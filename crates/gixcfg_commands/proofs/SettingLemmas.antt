@@ -1,0 +1,217 @@
+-- What becomes of a key's entries when it gets a value.
+use Rattle.std.proofs.Common.{◌≡◌, ◌⊎◌, inl, inr, ◌++◌, ◌&&◌, ◌||◌, ℕ, Bool, true, false, List, [], ◌∷◌, map, Option, Some, None, Result, Ok, Err, refl, sym, ap, ◌∙◌, subst}
+use Rattle.std.specs.Prelude.{◌==◌, IfErr, IfOk, IfSome, IsOk, OnOk, not, unwrap_or}
+use Rattle.std.specs.List.{list_all}
+use Rattle.std.specs.Option.{option_map}
+use Rattle.bstr.specs.Owned.{bstring_bytes}
+use Rattle.bstr.specs.declared.bstring.BString.{BString}
+use Rattle.gitconf_sources.specs.Key.{Key}
+use Rattle.gitconf_state.specs.Edit.{Spacing, new_section, with_used}
+use Rattle.gitconf_state.specs.Edits.{Edit, NewSection, PushAfterLast, apply, apply_all, items_of_numbered, numbered}
+use Rattle.gitconf_state.specs.Editors.{Editor, editor_of}
+use Rattle.gitconf_state.specs.Printing.{printed}
+use Rattle.gitconf_state.specs.State.{SectionState, State}
+use Rattle.gitconf_body.specs.Done.{Cause, InvalidKey, InvalidName, InvalidSubsection, IsRefusedFor, TooLarge, first_cause, is_full}
+use Rattle.gitconf_text.specs.HeaderErrors.{header_number}
+use Rattle.gitconf_text.specs.Names.{is_made_name, is_valid_or_none, is_value_name}
+use Rattle.gitconf_text.specs.Sections.{no_number}
+use Rattle.gitconf_text.specs.declared.parse.section.header.Error.{Error as HeaderError}
+use Rattle.gitconf_body.specs.Growth.{UsedGrows}
+use Rattle.gitconf_body.specs.Refusals.{header_refusal, value_refusal}
+use Rattle.gitconf_body.specs.ValueErrors.{value_number}
+use Rattle.gitconf_body.specs.ValuesAt.{rewritten_put}
+use Rattle.gitconf_body.specs.declared.value.Error.{Error as ValueError}
+use Rattle.gitconf_lookups.specs.ValuePlaces.{key_places}
+use Rattle.gitconf_store.specs.Edited.{IsEdited, causes, done, put_bytes}
+use Rattle.gitconf_store.specs.Several.{one_rewriting}
+use Rattle.gix_config.specs.Edited.{has_number}
+use Rattle.gix_config.specs.SectionEditors.{IsFoundOr, edited, editor, editor_at, making_causes, number_of, told}
+use Rattle.gix_config.specs.MultiValueEditors.{AreTargets, IsOneSet, edited as edited_by, key_of, places_of, targets_of, writing}
+use Rattle.gix_config.specs.Targeted.{Targeted, place_at}
+use Rattle.gix_config.specs.declared.file.multi_value_mut.MultiValueMut.{MultiValueMut}
+use Rattle.gix_config.specs.declared.file.section_mut.SectionMut.{SectionMut}
+use Rattle.gixcfg_core.specs.Answers.{Answers}
+use Rattle.gixcfg_core.specs.Troubles.{trouble_of_number}
+use Rattle.gixcfg_core.specs.declared.trouble.Trouble.{Trouble}
+use Rattle.gixcfg_commands.specs.Answered.{IsCarriedOut, marked}
+use Rattle.gixcfg_commands.specs.Meant.{IsMeant, plain_holder, removals, spared, values_of_key, without_marked}
+use Rattle.gixcfg_commands.specs.Setting.{IsGivenText, IsPushed, IsRewritten, IsUnwritten, added, adding, section_of_key, setting_of, trouble_of_cause, unadded, with_made, with_section}
+use Rattle.gixcfg_commands.specs.declared.edits.Setting.{Setting}
+use Rattle.gixcfg_commands.specs.declared.meant.Meant.{Meant}
+use Rattle.gixcfg_commands.proofs.Unsetting.{holders_stand}
+
+-- what becomes of the entries that were found
+pub setting_same : (key : Key) (means : Option (List ℕ) → Bool) (old : State) (found : Meant) (is_all is_commented : Bool) (value : List ℕ) (result as_told : Result Setting Trouble)
+    → IsMeant key means old found → is_commented ≡ false → result ≡ setting_of is_all is_commented value found.marks.items (map (option_map bstring_bytes) found.values.items)
+    → result ≡ as_told → as_told ≡ setting_of is_all false value (map means (values_of_key key old)) (values_of_key key old)
+setting_same key means old found is_all is_commented value result as_told is plain told same = sym same ∙ told ∙ (λ i. setting_of is_all (plain i) value (is.marks i) (is.values i))
+
+-- the text in which an entry is rewritten
+pub given_so : (key : Key) (at : ℕ) (value before text : List ℕ) (old : State) (result : Result BString Trouble) → IsRewritten key at value old text
+    → Answers bstring_bytes result (Ok (marked before text)) → IsGivenText key at value before old result
+given_so key at value before text old (Ok new) is answers = (text, is, let same : marked before text ≡ bstring_bytes new = cc in sym same)
+given_so key at value before text old (Err trouble) is (inl memory) = inl memory
+given_so key at value before text old (Err trouble) is (inr other) = absurd (cc)
+
+-- the file without the others that are meant
+pub alone_file : (key : Key) (means : Option (List ℕ) → Bool) (at : ℕ) (old new : State) (found others : Meant) → IsMeant key means old found → others.marks.items ≡ spared found.marks.items at
+    → others.holders ≡ found.holders → new ≡ apply_all (removals key.name others.marks.items (map plain_holder others.holders.items)) old
+    → new ≡ without_marked key (spared (map means (values_of_key key old)) at) old
+alone_file key means at old new found others is marks holders done =
+    done ∙ (λ i. apply_all (removals key.name (marks i) (map plain_holder (holders i).items)) old) ∙ (λ i. apply_all (removals key.name (spared (is.marks i) at) (is.holders i)) old)
+
+pub others_stand : (key : Key) (means : Option (List ℕ) → Bool) (old : State) (found others : Meant) → IsMeant key means old found → others.holders ≡ found.holders
+    → list_all (λ h. has_number h.0 old) (map plain_holder others.holders.items) ≡ true
+others_stand key means old found others is holders =
+    (λ i. list_all (λ h. has_number h.0 old) (map plain_holder (holders i).items)) ∙ (λ i. list_all (λ h. has_number h.0 old) (is.holders i)) ∙ holders_stand key old
+
+-- the first of causes, and of others behind them
+first_behind : (xs ys : List (Bool × Cause)) → first_cause xs ≡ None → first_cause (xs ++ ys) ≡ first_cause ys
+first_behind [] ys none = refl
+first_behind (x ∷ xs) ys none = go x.0 refl none (λ rest. first_behind xs ys rest)
+  where
+    go : (b : Bool) → x.0 ≡ b → first_cause (x ∷ xs) ≡ None → (first_cause xs ≡ None → first_cause (xs ++ ys) ≡ first_cause ys) → first_cause (x ∷ (xs ++ ys)) ≡ first_cause ys
+    go true e none later = absurd (let no = rw e at none in cc)
+    go false e none later = rw e (later (rw e at none))
+
+first_stays : (xs ys : List (Bool × Cause)) (cause : Cause) → first_cause xs ≡ Some cause → first_cause (xs ++ ys) ≡ Some cause
+first_stays [] ys cause some = absurd (cc)
+first_stays (x ∷ xs) ys cause some = go x.0 refl some (λ rest. first_stays xs ys cause rest)
+  where
+    go : (b : Bool) → x.0 ≡ b → first_cause (x ∷ xs) ≡ Some cause → (first_cause xs ≡ Some cause → first_cause (xs ++ ys) ≡ Some cause) → first_cause (x ∷ (xs ++ ys)) ≡ Some cause
+    go true e some later = rw e (rw e at some)
+    go false e some later = rw e (later (rw e at some))
+
+-- what is added to a section, or to one that is made
+abbrev adding_to : Key → (value : List ℕ) → State → Option SectionState → Edit
+adding_to key value old o =
+    let s = unwrap_or o (new_section key.section key.subsection old) in PushAfterLast s.number (editor_of old s) key.name (Some value)
+
+-- the editor of a section that is found or made pushes what is to be added
+pub same_adding : (key : Key) (value : List ℕ) (old : State) (e : SectionMut Spacing) → IsFoundOr (editor_at old) key.section key.subsection (section_of_key key old) old (edited e) (told e)
+    → (PushAfterLast (number_of e) (editor e) key.name (Some value) ≡ adding key value old) × (edited e ≡ with_section key old)
+same_adding key value old e is = go (section_of_key key old) refl is
+  where
+    go : (o : Option SectionState) → section_of_key key old ≡ o → IsFoundOr (editor_at old) key.section key.subsection o old (edited e) (told e)
+        → (PushAfterLast (number_of e) (editor e) key.name (Some value) ≡ adding key value old) × (edited e ≡ with_section key old)
+    go (Some s) same is =
+        ((λ i. PushAfterLast (is.1 i).0 (is.1 i).1 key.name (Some value)) ∙ sym (ap (adding_to key value old) same), is.0 ∙ sym (ap (λ o. with_made o key old) same))
+    go None same is =
+        ((λ i. PushAfterLast (is.1 i).0 (is.1 i).1 key.name (Some value)) ∙ sym (ap (adding_to key value old) same), is.0 ∙ sym (ap (λ o. with_made o key old) same))
+
+-- so an entry is added, or it is told why not
+pub added_so : (key : Key) (value : List ℕ) (old : State) (e : SectionMut Spacing) (new : State) (result : Result (Unit {0}) Trouble)
+    → IsFoundOr (editor_at old) key.section key.subsection (section_of_key key old) old (edited e) (told e)
+    → first_cause (making_causes key.section key.subsection (section_of_key key old) old) ≡ None
+    → IsPushed (PushAfterLast (number_of e) (editor e) key.name (Some value)) result (edited e) new
+    → IsCarriedOut (unadded key value old) (added key value) result old new
+added_so key value old e new (Ok _) is none pushed =
+    let same = same_adding key value old e is in
+    let cause : first_cause (causes (adding key value old) (with_section key old)) ≡ None = (λ i. first_cause (causes (sym same.0 i) (sym same.1 i))) ∙ pushed.0 in (
+      ap (option_map trouble_of_cause) (first_behind (making_causes key.section key.subsection (section_of_key key old) old) (causes (adding key value old) (with_section key old)) none ∙ cause),
+      ap printed pushed.1 ∙ (λ i. printed (done (same.0 i) (same.1 i))),
+    )
+added_so key value old e new (Err trouble) is none (inl memory) = inl memory
+added_so key value old e new (Err trouble) is none (inr why) =
+    let same = same_adding key value old e is in
+    inr (ap (option_map trouble_of_cause) (first_behind (making_causes key.section key.subsection (section_of_key key old) old) (causes (adding key value old) (with_section key old)) none
+    ∙ (λ i. first_cause (causes (sym same.0 i) (sym same.1 i)))) ∙ why)
+
+-- a section that is found, or made, had no cause not to be
+pub no_making : {T : Type 0} (o : Option Cause) (made : T) → IsRefusedFor header_refusal o (Ok made) → o ≡ None
+no_making None made told = refl
+no_making (Some cause) made told = absurd (cc)
+
+-- the trouble that the refusal to make a section is
+made_trouble : (a b c : Bool) (cause : Cause) → first_cause ((a, InvalidName) ∷ (b, InvalidSubsection) ∷ (c, TooLarge) ∷ []) ≡ Some cause
+    → trouble_of_number (header_number (header_refusal cause)) ≡ trouble_of_cause cause
+made_trouble true b c cause is = let same : InvalidName ≡ cause = cc in subst (λ it. trouble_of_number (header_number (header_refusal it)) ≡ trouble_of_cause it) same refl
+made_trouble false true c cause is = let same : InvalidSubsection ≡ cause = cc in subst (λ it. trouble_of_number (header_number (header_refusal it)) ≡ trouble_of_cause it) same refl
+made_trouble false false true cause is = let same : TooLarge ≡ cause = cc in subst (λ it. trouble_of_number (header_number (header_refusal it)) ≡ trouble_of_cause it) same refl
+made_trouble false false false cause is = absurd (cc)
+
+making_trouble : (key : Key) (old : State) (o : Option SectionState) (cause : Cause) → first_cause (making_causes key.section key.subsection o old) ≡ Some cause
+    → trouble_of_number (header_number (header_refusal cause)) ≡ trouble_of_cause cause
+making_trouble key old (Some s) cause is = absurd (cc)
+making_trouble key old None cause is =
+    made_trouble (true && not (is_made_name key.section)) (true && not (is_valid_or_none key.subsection))
+    (is_full old.used (put_bytes (NewSection key.section key.subsection) old) || (old.next == no_number)) cause is
+
+pub not_made_so : (T : Type 0) (key : Key) (value : List ℕ) (old new : State) (refusal : HeaderError)
+    → IsRefusedFor {T = T} header_refusal (first_cause (making_causes key.section key.subsection (section_of_key key old) old)) (Err refusal)
+    → IsCarriedOut (unadded key value old) (added key value) (Err (trouble_of_number (header_number refusal))) old new
+not_made_so T key value old new refusal is = go (first_cause (making_causes key.section key.subsection (section_of_key key old) old)) refl is
+  where
+    go : (o : Option Cause) → first_cause (making_causes key.section key.subsection (section_of_key key old) old) ≡ o → IsRefusedFor {T = T} header_refusal o (Err refusal)
+        → IsCarriedOut (unadded key value old) (added key value) (Err (trouble_of_number (header_number refusal))) old new
+    go None e why = inl (ap (λ r. trouble_of_number (header_number r)) why)
+    go (Some cause) e why =
+        let same : refusal ≡ header_refusal cause = cc in
+        inr (ap (option_map trouble_of_cause) (first_stays (making_causes key.section key.subsection (section_of_key key old) old) (causes (adding key value old) (with_section key old)) cause e)
+        ∙ ap Some (sym (ap (λ r. trouble_of_number (header_number r)) same ∙ making_trouble key old (section_of_key key old) cause e)))
+
+-- an entry that is pushed had no cause not to be
+pub pushed_so : (number : ℕ) (e : Editor) (name value : List ℕ) (result : Result (Unit {0}) ValueError) (old new : State)
+    → IsEdited value_refusal (PushAfterLast number e name (Some value)) result old new → result ≡ Ok tt → IsPushed (PushAfterLast number e name (Some value)) (Ok tt) old new
+pushed_so number e name value result old new is ok = go (subst (λ r. IsEdited value_refusal (PushAfterLast number e name (Some value)) r old new) ok is)
+  where
+    none : (o : Option Cause) → IsRefusedFor {T = Unit {0}} value_refusal o (Ok tt) → o ≡ None
+    none None told = refl
+    none (Some cause) told = absurd (cc)
+
+    go : IsEdited {T = Unit {0}} {E = ValueError} value_refusal (PushAfterLast number e name (Some value)) (Ok (tt {0})) old new
+        → IsPushed (PushAfterLast number e name (Some value)) (Ok (tt {0})) old new
+    go is = (none (first_cause (causes (PushAfterLast number e name (Some value)) old)) is.told, is.ok)
+
+-- the trouble that the refusal of an entry is
+pushed_trouble : (a b : Bool) (cause : Cause) → first_cause ((a, InvalidKey) ∷ (b, TooLarge) ∷ []) ≡ Some cause → trouble_of_number (value_number (value_refusal cause)) ≡ trouble_of_cause cause
+pushed_trouble true b cause is = let same : InvalidKey ≡ cause = cc in subst (λ it. trouble_of_number (value_number (value_refusal it)) ≡ trouble_of_cause it) same refl
+pushed_trouble false true cause is = let same : TooLarge ≡ cause = cc in subst (λ it. trouble_of_number (value_number (value_refusal it)) ≡ trouble_of_cause it) same refl
+pushed_trouble false false cause is = absurd (cc)
+
+pub not_pushed_so : (number : ℕ) (e : Editor) (name value : List ℕ) (result : Result (Unit {0}) ValueError) (refusal : ValueError) (old new : State)
+    → IsEdited value_refusal (PushAfterLast number e name (Some value)) result old new → result ≡ Err refusal
+    → IsPushed (PushAfterLast number e name (Some value)) (Err (trouble_of_number (value_number refusal))) old new
+not_pushed_so number e name value result refusal old new is err = go (subst (λ r. IsEdited value_refusal (PushAfterLast number e name (Some value)) r old new) err is)
+  where
+    why : (o : Option Cause) → first_cause (causes (PushAfterLast number e name (Some value)) old) ≡ o → IsRefusedFor {T = Unit {0}} value_refusal o (Err refusal)
+        → IsPushed (PushAfterLast number e name (Some value)) (Err (trouble_of_number (value_number refusal))) old new
+    why None same memory = inl (ap (λ r. trouble_of_number (value_number r)) memory)
+    why (Some cause) same refused =
+        let it : refusal ≡ value_refusal cause = cc in
+        inr (ap (option_map trouble_of_cause) same ∙ ap Some (sym (ap (λ r. trouble_of_number (value_number r)) it ∙ pushed_trouble (not (is_value_name name)) (is_full old.used (put_bytes (PushAfterLast number e name (Some value)) old)) cause same)))
+
+    go : IsEdited {T = Unit {0}} {E = ValueError} value_refusal (PushAfterLast number e name (Some value)) (Err refusal) old new
+        → IsPushed (PushAfterLast number e name (Some value)) (Err (trouble_of_number (value_number refusal))) old new
+    go is = why (first_cause (causes (PushAfterLast number e name (Some value)) old)) refl is.told
+
+-- an entry is rewritten by an editor of the key's values
+pub rewritten_so : (key : Key) (at : ℕ) (value : List ℕ) (old : State) (e : MultiValueMut Targeted) (text : List ℕ) → AreTargets key (key_places key (λ _. true) old) (targets_of e)
+    → edited_by e ≡ old → text ≡ printed (apply (writing e at value) (edited_by e)) → IsRewritten key at value old text
+rewritten_so key at value old e text are same is =
+    (e.targets.places, are.2, is ∙ (λ i. printed (apply (one_rewriting (are.3 i) (place_at e.targets.places at) value (same i)) (same i))))
+
+pub written_so : (e : MultiValueMut Targeted) (at : ℕ) (value : List ℕ) (result : Result (Unit {0}) ℕ) (new : State) → IsOneSet e at value result new → result ≡ Ok tt
+    → printed new ≡ printed (apply (writing e at value) (edited_by e))
+written_so e at value result new is ok = ap printed (subst (λ r. OnOk r (new ≡ with_used new.used (apply (writing e at value) (edited_by e)))) ok is.ok)
+
+pub not_written_so : (e : MultiValueMut Targeted) (at : ℕ) (value : List ℕ) (result : Result (Unit {0}) ℕ) (refusal : ℕ) (new : State) → IsOneSet e at value result new → result ≡ Err refusal
+    → IsUnwritten (trouble_of_number refusal)
+not_written_so e at value result refusal new is err = go (numbered (place_at (places_of e) at).0 (edited_by e)) refl is.used.there
+  where
+    known : (refusal ≡ 3) ⊎ (refusal ≡ 27) → IsUnwritten (trouble_of_number refusal)
+    known (inl three) = inr (inl (ap trouble_of_number three))
+    known (inr memory) = inl (ap trouble_of_number memory)
+
+    go : (o : Option SectionState) → numbered (place_at (places_of e) at).0 (edited_by e) ≡ o
+        → IfSome o (λ _. UsedGrows result (rewritten_put (key_of e) value (items_of_numbered (place_at (places_of e) at).0 (edited_by e))) (edited_by e).used new.used)
+        → IsUnwritten (trouble_of_number refusal)
+    go (Some s) same grows = known (subst (λ r. IfErr r (λ n. (n ≡ 3) ⊎ (n ≡ 27))) err grows.known)
+    go None same grows = absurd (let no : IsOk {T = Unit {0}} {E = ℕ} (Err refusal) = subst (λ r. IsOk r) err (is.missing same) in cc)
+
+-- so it is told
+pub rewritten_as_told : (key : Key) (at : ℕ) (value : List ℕ) (old : State) (before after : MultiValueMut Targeted) (new : State) (result : Result (Unit {0}) Trouble)
+    → AreTargets key (key_places key (λ _. true) old) (targets_of before) → edited_by before ≡ old → edited_by after ≡ new
+    → OnOk result (printed (edited_by after) ≡ printed (apply (writing before at value) (edited_by before))) → IfOk result (λ _. IsRewritten key at value old (printed new))
+rewritten_as_told key at value old before after new (Ok _) are same left is = rewritten_so key at value old before (printed new) are same (sym (ap printed left) ∙ is)
+rewritten_as_told key at value old before after new (Err trouble) are same left is = tt
