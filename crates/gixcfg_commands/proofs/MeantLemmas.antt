@@ -13,8 +13,8 @@ use Rattle.gitconf_state.specs.State.{SectionState, State, with_items}
 use Rattle.gitconf_lookups.specs.Walks.{with_name}
 use Rattle.gitconf_state.specs.Edit.{Spacing}
 use Rattle.gitconf_store.proofs.Places.Numbering.{numbered_has}
-use Rattle.gix_config.specs.Edited.{has_number}
-use Rattle.gix_config.specs.SectionEditors.{IsNumbered, edited, editor_at, number_of, told}
+use Rattle.gitconf_store.specs.Edited.{has_number}
+use Rattle.gix_config.specs.SectionEditors.{IsOfNumber, edited, editor_at, number_of, told}
 use Rattle.gix_config.specs.declared.file.section_mut.SectionMut.{SectionMut}
 use Rattle.gix_config.specs.declared.file.section_mut.making.Error.{Error as NoEditor}
 use Rattle.gix_config.specs.declared.file.section_mut.making.Error.TheVariants.{NonePasses}
@@ -126,9 +126,9 @@ none_has n (s ∷ ss) none = go (s.number == n) refl none (λ rest. none_has n s
 pub none_numbered : (n : ℕ) (file : State) → has_number n file ≡ true → numbered n file ≡ None → ⊥
 none_numbered n file stands none = absurd (let no = none_has n file.sections none in cc (no, stands))
 
-pub none_passes : {T A : Type 0} (shown : T → A) (give : SectionState → A) (n : ℕ) (file : State) (result : Result T NoEditor) → IsNumbered shown give n file result → result ≡ Err NonePasses
+pub none_passes : {T A : Type 0} (shown : T → A) (give : SectionState → A) (n : ℕ) (file : State) (result : Result T NoEditor) → IsOfNumber shown give n file result → result ≡ Err NonePasses
     → numbered n file ≡ None
-none_passes shown give n file result is none = subst (λ r. IsNumbered shown give n file r) none is
+none_passes shown give n file result is none = subst (λ r. IsOfNumber shown give n file r) none is
 
 -- the editor of the section of a number has that number
 pub found_number : (n : ℕ) (file : State) (e : SectionMut Spacing) → option_map (editor_at file) (numbered n file) ≡ Some (told e) → number_of e ≡ n

@@ -8,25 +8,23 @@ use Rattle.bstr.specs.declared.bstring.BString.{BString}
 use Rattle.gitconf_sources.specs.Key.{Key}
 use Rattle.gitconf_state.specs.Edit.{Spacing, new_section, with_used}
 use Rattle.gitconf_state.specs.Edits.{Edit, NewSection, PushAfterLast, apply, apply_all, items_of_numbered, numbered}
-use Rattle.gitconf_state.specs.Editors.{Editor, editor_of}
+use Rattle.gitconf_state.specs.Editors.{Editor, OfEntry, editor_of}
 use Rattle.gitconf_state.specs.Printing.{printed}
 use Rattle.gitconf_state.specs.State.{SectionState, State}
-use Rattle.gitconf_body.specs.Done.{Cause, InvalidKey, InvalidName, InvalidSubsection, IsRefusedFor, TooLarge, first_cause, is_full}
+use Rattle.gitconf_body.specs.Done.{Cause, InvalidKey, InvalidName, InvalidSubsection, IsRefusedFor, Missing, OutOfMemory, TooLarge, first_cause, is_full, key_causes}
 use Rattle.gitconf_text.specs.HeaderErrors.{header_number}
 use Rattle.gitconf_text.specs.Names.{is_made_name, is_valid_or_none, is_value_name}
 use Rattle.gitconf_text.specs.Sections.{no_number}
 use Rattle.gitconf_text.specs.declared.parse.section.header.Error.{Error as HeaderError}
-use Rattle.gitconf_body.specs.Growth.{UsedGrows}
-use Rattle.gitconf_body.specs.Refusals.{header_refusal, value_refusal}
+use Rattle.gitconf_body.specs.Refusals.{header_refusal, span_refusal, value_refusal}
 use Rattle.gitconf_body.specs.ValueErrors.{value_number}
 use Rattle.gitconf_body.specs.ValuesAt.{rewritten_put}
 use Rattle.gitconf_body.specs.declared.value.Error.{Error as ValueError}
 use Rattle.gitconf_lookups.specs.ValuePlaces.{key_places}
-use Rattle.gitconf_store.specs.Edited.{IsEdited, causes, done, put_bytes}
-use Rattle.gitconf_store.specs.Several.{one_rewriting}
-use Rattle.gix_config.specs.Edited.{has_number}
+use Rattle.gitconf_store.specs.Edited.{IsEdited, bytes_in, causes, done, has_number, put_bytes}
+use Rattle.gitconf_store.specs.Existing.{rewriting}
 use Rattle.gix_config.specs.SectionEditors.{IsFoundOr, edited, editor, editor_at, making_causes, number_of, told}
-use Rattle.gix_config.specs.MultiValueEditors.{AreTargets, IsOneSet, edited as edited_by, key_of, places_of, targets_of, writing}
+use Rattle.gix_config.specs.MultiValueEditors.{AreTargets, IsOneSet, edited as edited_by, key_of, places_of, targets_of}
 use Rattle.gix_config.specs.Targeted.{Targeted, place_at}
 use Rattle.gix_config.specs.declared.file.multi_value_mut.MultiValueMut.{MultiValueMut}
 use Rattle.gix_config.specs.declared.file.section_mut.SectionMut.{SectionMut}
@@ -35,7 +33,7 @@ use Rattle.gixcfg_core.specs.Troubles.{trouble_of_number}
 use Rattle.gixcfg_core.specs.declared.trouble.Trouble.{Trouble}
 use Rattle.gixcfg_commands.specs.Answered.{IsCarriedOut, marked}
 use Rattle.gixcfg_commands.specs.Meant.{IsMeant, plain_holder, removals, spared, values_of_key, without_marked}
-use Rattle.gixcfg_commands.specs.Setting.{IsGivenText, IsPushed, IsRewritten, IsUnwritten, added, adding, section_of_key, setting_of, trouble_of_cause, unadded, with_made, with_section}
+use Rattle.gixcfg_commands.specs.Setting.{IsGivenText, IsPushed, IsRewritten, IsUnwritten, added, adding, section_of_key, setting_of, trouble_of_cause, unadded, with_made, with_section, writing}
 use Rattle.gixcfg_commands.specs.declared.edits.Setting.{Setting}
 use Rattle.gixcfg_commands.specs.declared.meant.Meant.{Meant}
 use Rattle.gixcfg_commands.proofs.Unsetting.{holders_stand}
@@ -189,25 +187,34 @@ not_pushed_so number e name value result refusal old new is err = go (subst (λ 
 pub rewritten_so : (key : Key) (at : ℕ) (value : List ℕ) (old : State) (e : MultiValueMut Targeted) (text : List ℕ) → AreTargets key (key_places key (λ _. true) old) (targets_of e)
     → edited_by e ≡ old → text ≡ printed (apply (writing e at value) (edited_by e)) → IsRewritten key at value old text
 rewritten_so key at value old e text are same is =
-    (e.targets.places, are.2, is ∙ (λ i. printed (apply (one_rewriting (are.3 i) (place_at e.targets.places at) value (same i)) (same i))))
+    (e.targets.places, are.2, is ∙ (λ i. printed (apply (rewriting OfEntry (place_at e.targets.places at) (are.3 i) value (same i)) (same i))))
+
+-- how many bytes that adds
+abbrev bytes_of : MultiValueMut Targeted → (at : ℕ) (value : List ℕ) → ℕ
+bytes_of e at value = bytes_in (place_at (places_of e) at).0 (rewritten_put (key_of e) value) (edited_by e)
 
 pub written_so : (e : MultiValueMut Targeted) (at : ℕ) (value : List ℕ) (result : Result (Unit {0}) ℕ) (new : State) → IsOneSet e at value result new → result ≡ Ok tt
     → printed new ≡ printed (apply (writing e at value) (edited_by e))
-written_so e at value result new is ok = ap printed (subst (λ r. OnOk r (new ≡ with_used new.used (apply (writing e at value) (edited_by e)))) ok is.ok)
+written_so e at value result new is ok =
+    ap printed (subst (λ r. OnOk r (new ≡ with_used ((edited_by e).used + bytes_of e at value) (apply (writing e at value) (edited_by e)))) ok is.ok)
 
 pub not_written_so : (e : MultiValueMut Targeted) (at : ℕ) (value : List ℕ) (result : Result (Unit {0}) ℕ) (refusal : ℕ) (new : State) → IsOneSet e at value result new → result ≡ Err refusal
     → IsUnwritten (trouble_of_number refusal)
-not_written_so e at value result refusal new is err = go (numbered (place_at (places_of e) at).0 (edited_by e)) refl is.used.there
+not_written_so e at value result refusal new is err =
+    go (first_cause (key_causes (key_of e) (edited_by e).used (bytes_of e at value)))
+    (subst (IsRefusedFor span_refusal (first_cause (key_causes (key_of e) (edited_by e).used (bytes_of e at value)))) err is.told)
   where
-    known : (refusal ≡ 3) ⊎ (refusal ≡ 27) → IsUnwritten (trouble_of_number refusal)
-    known (inl three) = inr (inl (ap trouble_of_number three))
-    known (inr memory) = inl (ap trouble_of_number memory)
+    unwritten : (cause : Cause) → IsUnwritten (trouble_of_number (span_refusal cause))
+    unwritten OutOfMemory = inl refl
+    unwritten InvalidName = inr (inl refl)
+    unwritten InvalidSubsection = inr (inl refl)
+    unwritten InvalidKey = inr (inl refl)
+    unwritten (Missing miss) = inr (inl refl)
+    unwritten TooLarge = inr (inl refl)
 
-    go : (o : Option SectionState) → numbered (place_at (places_of e) at).0 (edited_by e) ≡ o
-        → IfSome o (λ _. UsedGrows result (rewritten_put (key_of e) value (items_of_numbered (place_at (places_of e) at).0 (edited_by e))) (edited_by e).used new.used)
-        → IsUnwritten (trouble_of_number refusal)
-    go (Some s) same grows = known (subst (λ r. IfErr r (λ n. (n ≡ 3) ⊎ (n ≡ 27))) err grows.known)
-    go None same grows = absurd (let no : IsOk {T = Unit {0}} {E = ℕ} (Err refusal) = subst (λ r. IsOk r) err (is.missing same) in cc)
+    go : (o : Option Cause) → IsRefusedFor {T = Unit {0}} {E = ℕ} span_refusal o (Err refusal) → IsUnwritten (trouble_of_number refusal)
+    go None told = inl (ap trouble_of_number told)
+    go (Some cause) told = let e : refusal ≡ span_refusal cause = cc in subst (λ n. IsUnwritten (trouble_of_number n)) (sym e) (unwritten cause)
 
 -- so it is told
 pub rewritten_as_told : (key : Key) (at : ℕ) (value : List ℕ) (old : State) (before after : MultiValueMut Targeted) (new : State) (result : Result (Unit {0}) Trouble)

@@ -9,7 +9,7 @@ use Rattle.gitconf_sources.specs.Key.{Key, key_of}
 use Rattle.gitconf_state.specs.Edits.{apply_all}
 use Rattle.gitconf_state.specs.Printing.{printed}
 use Rattle.gitconf_state.specs.State.{SectionState, State}
-use Rattle.gix_config.specs.Edited.{has_number}
+use Rattle.gitconf_store.specs.Edited.{has_number}
 use Rattle.gixcfg_core.specs.Answers.{Answers}
 use Rattle.gixcfg_core.specs.Patterns.{MeansNothing}
 use Rattle.gixcfg_core.specs.declared.trouble.Trouble.{Trouble}

@@ -8,7 +8,7 @@ use Rattle.bstr.specs.declared.bstring.BString.{BString}
 use Rattle.gitconf_sources.specs.Key.{Key, key_of}
 use Rattle.gitconf_state.specs.Edit.{Spacing, new_section}
 use Rattle.gitconf_state.specs.Edits.{Edit, NewSection, PushAfterLast, apply}
-use Rattle.gitconf_state.specs.Editors.{editor_of}
+use Rattle.gitconf_state.specs.Editors.{OfEntry, editor_of}
 use Rattle.gitconf_state.specs.Printing.{printed}
 use Rattle.gitconf_state.specs.State.{SectionState, State}
 use Rattle.gitconf_body.specs.Done as reasons
@@ -16,9 +16,11 @@ use Rattle.gitconf_body.specs.Done.{Cause, first_cause}
 use Rattle.gitconf_lookups.specs.Picks.{picked}
 use Rattle.gitconf_lookups.specs.ValuePlaces.{AreInOrder, key_places}
 use Rattle.gitconf_store.specs.Edited.{causes, done}
-use Rattle.gitconf_store.specs.Several.{one_rewriting}
+use Rattle.gitconf_store.specs.Existing.{rewriting}
+use Rattle.gix_config.specs.MultiValueEditors as multi
 use Rattle.gix_config.specs.SectionEditors.{editor, making_causes, number_of}
-use Rattle.gix_config.specs.Targeted.{place_at}
+use Rattle.gix_config.specs.Targeted.{Targeted, place_at}
+use Rattle.gix_config.specs.declared.file.multi_value_mut.MultiValueMut.{MultiValueMut}
 use Rattle.gix_config.specs.declared.file.section_mut.SectionMut.{SectionMut}
 use Rattle.gixcfg_words.specs.declared.command.Placing.{Placing}
 use Rattle.gixcfg_words.specs.declared.command.Placing.TheVariants.{New, Only, All}
@@ -95,7 +97,7 @@ setting_of is_all is_commented value marks values = elim (position (λ mark. mar
 -- the text of a file in which the entry at a place among those of a key is rewritten; these are counted in the order of the numbers of their sections
 abbrev pub IsRewritten : Key → (at : ℕ) (value : List ℕ) → (old : State) (text : List ℕ) → Type 0
 IsRewritten key at value old text =
-    (ordered : List (ℕ × ℕ)) × AreInOrder (key_places key (λ _. true) old) ordered × (text ≡ printed (apply (one_rewriting key.name (place_at ordered at) value old) old))
+    (ordered : List (ℕ × ℕ)) × AreInOrder (key_places key (λ _. true) old) ordered × (text ≡ printed (apply (rewriting OfEntry (place_at ordered at) key.name value old) old))
 
 -- an entry isn't rewritten: for want of memory or of room (that it is missing is in no definition, and comes never)
 abbrev pub IsUnwritten : Trouble → Type 0
@@ -139,6 +141,10 @@ abbrev pub SetsTo : Set → (text : List ℕ) → State → Result BString Troub
 SetsTo asked text file result =
     ((value : BString) × IsStoredValue asked (Ok value) × (asked.comment ≡ None → IsPlacedText asked.placing (key_of asked.key) (bstring_bytes value) text file result))
     ⊎ ((trouble : Trouble) × IsStoredValue asked (Err trouble) × (result ≡ Err trouble))
+
+-- one of an editor's entries is rewritten
+abbrev pub writing : MultiValueMut Targeted → (at : ℕ) (value : List ℕ) → Edit
+writing e at value = rewriting OfEntry (place_at (multi.places_of e) at) (multi.key_of e) value (multi.edited e)
 
 -- an entry is pushed below the last one of an editor's section
 abbrev pub pushing : SectionMut Spacing → (name value : List ℕ) → Edit

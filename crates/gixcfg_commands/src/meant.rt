@@ -8,7 +8,7 @@ ghost use Rattle.gitconf_sources.specs.Key.{key_of};
 ghost use Rattle.gitconf_state.specs.Edits.{RemoveMarked, apply, apply_all};
 ghost use Rattle.gitconf_lookups.specs.Walks.{by_name_left};
 ghost use Rattle.gitconf_views.specs.Views.{shown};
-ghost use Rattle.gix_config.specs.Edited.{has_number};
+ghost use Rattle.gitconf_store.specs.Edited.{has_number};
 ghost use Rattle.gix_config.specs.SectionEditors.{edited, lent, number_of};
 ghost use Rattle.gixcfg_core.specs.Entries.{values_of_name};
 ghost use Rattle.gixcfg_core.specs.Patterns.{MeansNothing};

@@ -1,7 +1,7 @@
 use Rattle.std.proofs.Common.{◌≡◌, length, map, true}
 use Rattle.std.specs.List.{list_all}
 use Rattle.gitconf_state.specs.Edits.{apply_all}
-use Rattle.gix_config.specs.Edited.{has_number}
+use Rattle.gitconf_store.specs.Edited.{has_number}
 use Rattle.gixcfg_commands.specs.Meant.{plain_holder, removals}
 use Rattle.gixcfg_commands.proofs.meant.remove_from_each.Given as goal
 

@@ -1,6 +1,6 @@
 use Rattle.std.proofs.Common.{◌≡◌, map, subst, sym, true}
 use Rattle.std.specs.List.{list_all}
-use Rattle.gix_config.specs.Edited.{has_number}
+use Rattle.gitconf_store.specs.Edited.{has_number}
 use Rattle.gixcfg_commands.specs.Meant.{plain_holder}
 use Rattle.gixcfg_commands.proofs.meant.remove_meant.Goals as goal
 
