@@ -1,13 +1,13 @@
 -- What becomes of a key's entries when it gets a value.
-use Rattle.std.proofs.Common.{◌≡◌, ◌⊎◌, inl, inr, ◌++◌, ◌&&◌, ◌||◌, ℕ, Bool, true, false, List, [], ◌∷◌, map, Option, Some, None, Result, Ok, Err, refl, sym, ap, ◌∙◌, subst}
-use Rattle.std.specs.Prelude.{◌==◌, IfErr, IfOk, IfSome, IsOk, OnOk, not, unwrap_or}
+use Rattle.std.proofs.Common.{◌≡◌, inl, inr, ◌+◌, ◌++◌, ◌&&◌, ◌||◌, ℕ, Bool, true, false, List, [], ◌∷◌, map, Option, Some, None, Result, Ok, Err, refl, sym, ap, ◌∙◌, subst}
+use Rattle.std.specs.Prelude.{◌==◌, IfOk, OnOk, not, unwrap_or}
 use Rattle.std.specs.List.{list_all}
 use Rattle.std.specs.Option.{option_map}
 use Rattle.bstr.specs.Owned.{bstring_bytes}
 use Rattle.bstr.specs.declared.bstring.BString.{BString}
 use Rattle.gitconf_sources.specs.Key.{Key}
 use Rattle.gitconf_state.specs.Edit.{Spacing, new_section, with_used}
-use Rattle.gitconf_state.specs.Edits.{Edit, NewSection, PushAfterLast, apply, apply_all, items_of_numbered, numbered}
+use Rattle.gitconf_state.specs.Edits.{Edit, NewSection, PushAfterLast, apply, apply_all}
 use Rattle.gitconf_state.specs.Editors.{Editor, OfEntry, editor_of}
 use Rattle.gitconf_state.specs.Printing.{printed}
 use Rattle.gitconf_state.specs.State.{SectionState, State}
