@@ -78,7 +78,6 @@ empty_headed parts is = ap (λ d. d.front) (one_document [] parts [] is.spelled_
 
 -- If no text at all has such an entry, none that is taken has one.
 module _ (files : List ℕ → FileReport) (asks : Asks) (tells : asks.table ≡ Some files) (texts : AreHeaded files) where
-
   -- what is taken
   text_headed : (must_exist ignores : Bool) (path text : List ℕ) → IsTextTaken asks.table must_exist ignores path (Ok (Some text)) → (parts : List Part) → IsText text parts → (gathered parts).front ≡ []
   text_headed must_exist ignores path text (Ok read, told, is) parts of_text =
