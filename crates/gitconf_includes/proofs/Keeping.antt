@@ -66,7 +66,7 @@ module _ (P : State → List SectionState → Type 0) (At : Meta → State → L
     (keeps : EachStepKeeps P At Q F) (Named : Meta → (file : List ℕ) → Type 0) (names : (s : SectionState) (rest : List SectionState) (done : State) → P done (s ∷ rest) → HoldsOfNamed asks Named s)
     (holds : Holds Q asks deeper Named) where
   -- what is asked of each file that a path names
-  abbrev HoldsAt : Meta → (path : List ℕ) → Type 0
+  abbrev pub HoldsAt : Meta → (path : List ℕ) → Type 0
   HoldsAt from path = (file : List ℕ) → file_named asks.rules from path ≡ Ok (Some file) → Named from file
 
   whole_file : (from : Meta) (rest : List SectionState) (done : State) → At from done rest → F (whole done rest)
@@ -112,19 +112,19 @@ module _ (P : State → List SectionState → Type 0) (At : Meta → State → L
       go (Ok (Some file)) at found = there_or_not file found.0 (named file at) found.2
 
   -- an outcome that goes on leaves what is after it, and one that is refused ends all
-  goes_on : (Here There : State → List SectionState → Type 0) (behind : State → Reached → Type 0) (rest left : List SectionState) (mid r : Reached) → Kept Here F rest mid
+  pub goes_on : (Here There : State → List SectionState → Type 0) (behind : State → Reached → Type 0) (rest left : List SectionState) (mid r : Reached) → Kept Here F rest mid
       → ((now : State) → Here now rest → behind now r → Kept There F left r) → GoesOn behind mid r → Kept There F left r
   goes_on Here There behind rest left (On now) r kept later is = later now kept is
   goes_on Here There behind rest left (Ended number file) r kept later is = subst (Kept There F left) (sym is) kept
 
-  follows_all : (from : Meta) (paths : List (List ℕ)) (rest : List SectionState) (done : State) (r : Reached) → At from done rest → AllByRecursion (HoldsAt from) paths
+  pub follows_all : (from : Meta) (paths : List (List ℕ)) (rest : List SectionState) (done : State) (r : Reached) → At from done rest → AllByRecursion (HoldsAt from) paths
       → FollowsAll deeper asks from paths rest done r → Kept (At from) F rest r
   follows_all from [] rest done r kept named is = subst (Kept (At from) F rest) (sym is) kept
   follows_all from (path ∷ paths) rest done r kept named is =
       goes_on (At from) (At from) (FollowsAll deeper asks from paths rest) rest rest is.0 r (follows from path rest done is.0 kept named.0 is.1)
       (λ now here later. follows_all from paths rest now r here named.1 later) is.2
 
-  gives : (parent : Option State) (from : Meta) (inclusion : Inclusion) (rest : List SectionState) (done : State) (r : Reached) → At from done rest
+  pub gives : (parent : Option State) (from : Meta) (inclusion : Inclusion) (rest : List SectionState) (done : State) (r : Reached) → At from done rest
       → AllByRecursion (HoldsAt from) (named_paths inclusion) → Gives deeper asks parent from inclusion rest done r → Kept (At from) F rest r
   gives parent from inclusion rest done r kept named (inl wanting) = ended from rest done 27 r kept wanting
   gives parent from inclusion rest done r kept named (inr is) = go (followed asks.rules from (unwrap_or parent (whole done rest)) inclusion) refl is
@@ -137,14 +137,14 @@ module _ (P : State → List SectionState → Type 0) (At : Meta → State → L
       go (Ok paths) at all =
           follows_all from paths rest done r kept (followed_named (HoldsAt from) asks.rules from (unwrap_or parent (whole done rest)) inclusion paths at named) all
 
-  visits : (parent : Option State) (rest : List SectionState) (done : State) (r : Reached) → P done rest → Visits deeper asks parent rest done r → Kept P F [] r
+  pub visits : (parent : Option State) (rest : List SectionState) (done : State) (r : Reached) → P done rest → Visits deeper asks parent rest done r → Kept P F [] r
   visits parent [] done r kept is = subst (Kept P F []) (sym is) kept
   visits parent (s ∷ rest) done r kept is =
       goes_on (At s.meta) P (Visits deeper asks parent rest) rest [] is.0 r (gives parent s.meta (inclusion s) rest (visited done s) is.0 (keeps.visit s rest done kept) (names s rest done kept) is.1)
       (λ now here later. visits parent rest now r (keeps.leave s.meta rest now here) later) is.2
 
   -- the file that follows an outcome, once all is visited
-  at_end : (r : Reached) → Kept P F [] r → F (file_of r)
+  pub at_end : (r : Reached) → Kept P F [] r → F (file_of r)
   at_end (On now) kept = subst F (all_done now) (keeps.file [] now kept)
   at_end (Ended number file) kept = kept
 
@@ -173,7 +173,7 @@ expansion_from P At Q F asks keeps holds (suc left) parent old r kept is =
 abbrev pub Keeps : (P Q : State → Type 0) → Type 0
 Keeps P Q = (other : State) (rest : List SectionState) (done : State) → has_room other rest done ≡ true → P (whole done rest) → Q other → P (whole (spliced other rest done) rest)
 
-is_kept : (P Q : State → Type 0) → Keeps P Q → EachStepKeeps (λ done rest. P (whole done rest)) (λ from done rest. P (whole done rest)) (λ from other. Q other) P
+pub is_kept : (P Q : State → Type 0) → Keeps P Q → EachStepKeeps (λ done rest. P (whole done rest)) (λ from done rest. P (whole done rest)) (λ from other. Q other) P
 is_kept P Q keeps = record {
   visit = λ s rest done kept. subst P (sym (whole_visited done s rest)) kept;
   put = λ from other rest done room kept holds. keeps other rest done room kept holds;

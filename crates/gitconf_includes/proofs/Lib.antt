@@ -1,4 +1,5 @@
 pub mod Worked
+pub mod Beginnings
 pub mod Behind
 pub mod Fetching
 pub mod Keeping

@@ -16,14 +16,14 @@ use Rattle.gitconf_includes.specs.Laws.{EndAlike, IsAnswered}
 use Rattle.gitconf_includes.proofs.OneLoad.{one_load}
 
 -- rules, over a table
-abbrev over : Rules → (List ℕ → FileReport) → Asks
+abbrev pub over : Rules → (List ℕ → FileReport) → Asks
 over rules files = record { rules = rules; table = Some files }
 
 -- an outcome is another one, or is that memory ran out
-abbrev IsOne : (Reached → Type 0) → Type 0
+abbrev pub IsOne : (Reached → Type 0) → Type 0
 IsOne Outcome = (r s : Reached) → IsAnswered r → IsAnswered s → Outcome r → Outcome s → r ≡ s
 
-not_wanting : (file : State) (r : Reached) → IsAnswered r → Wanting file r → ⊥
+pub not_wanting : (file : State) (r : Reached) → IsAnswered r → Wanting file r → ⊥
 not_wanting file r answered wanting = let known : IsAnswered (Ended 27 file) = subst IsAnswered wanting answered in known refl
 
 -- an outcome is returned only if what comes before it is
@@ -36,7 +36,7 @@ before_joined : (deeper : Deeper) (rest : List SectionState) (done : State) (fet
 before_joined deeper rest done (Ok other) r answered is = tt
 before_joined deeper rest done (Err number) r answered is = subst IsAnswered is answered
 
-before_others : (behind : State → Reached → Type 0) (mid r : Reached) → IsAnswered r → GoesOn behind mid r → IsAnswered mid
+pub before_others : (behind : State → Reached → Type 0) (mid r : Reached) → IsAnswered r → GoesOn behind mid r → IsAnswered mid
 before_others behind (On now) r answered is = tt
 before_others behind (Ended number file) r answered is = subst IsAnswered is answered
 
@@ -108,7 +108,7 @@ module _ (rules : Rules) (files : List ℕ → FileReport) where
       | Ok (Some file) ↦ (there : Bool) × (there ≡ is_there (files file)) × Found from rest done file there end
     ]
 
-    one_follows : (from : Meta) (path : List ℕ) (rest : List SectionState) (done : State) (r s : Reached) → IsAnswered r → IsAnswered s
+    pub one_follows : (from : Meta) (path : List ℕ) (rest : List SectionState) (done : State) (r s : Reached) → IsAnswered r → IsAnswered s
         → Follows deeper (over rules files) from path rest done r → Follows deeper (over rules files) from path rest done s → r ≡ s
     one_follows from path rest done r s known known_too (inl wanting) too = absurd (not_wanting (whole done rest) r known wanting)
     one_follows from path rest done r s known known_too (inr is) (inl wanting) = absurd (not_wanting (whole done rest) s known_too wanting)
@@ -138,7 +138,7 @@ module _ (rules : Rules) (files : List ℕ → FileReport) where
     abbrev Given : (from : Meta) (rest : List SectionState) (done : State) → Result (List (List ℕ)) ℕ → Reached → Type 0
     Given from rest done paths end = elim paths as (λ _. Type 0) [ Err number ↦ end ≡ Ended number (whole done rest) | Ok all ↦ FollowsAll deeper (over rules files) from all rest done end ]
 
-    one_gives : (parent : Option State) (from : Meta) (inclusion : Inclusion) (rest : List SectionState) (done : State) (r s : Reached) → IsAnswered r → IsAnswered s
+    pub one_gives : (parent : Option State) (from : Meta) (inclusion : Inclusion) (rest : List SectionState) (done : State) (r s : Reached) → IsAnswered r → IsAnswered s
         → Gives deeper (over rules files) parent from inclusion rest done r → Gives deeper (over rules files) parent from inclusion rest done s → r ≡ s
     one_gives parent from inclusion rest done r s known known_too (inl wanting) too = absurd (not_wanting (whole done rest) r known wanting)
     one_gives parent from inclusion rest done r s known known_too (inr is) (inl wanting) = absurd (not_wanting (whole done rest) s known_too wanting)
@@ -162,7 +162,7 @@ module _ (rules : Rules) (files : List ℕ → FileReport) where
     one_level parent old r s known known_too (inr is) (inl wanting) = absurd (not_wanting old s known_too wanting)
     one_level parent old r s known known_too (inr is) (inr too) = one_visits parent old.sections (with_sections [] old) r s known known_too is too
 
-  one_expansion : (left : ℕ) (parent : Option State) (old : State) (r s : Reached) → IsAnswered r → IsAnswered s
+  pub one_expansion : (left : ℕ) (parent : Option State) (old : State) (r s : Reached) → IsAnswered r → IsAnswered s
       → Expands left (over rules files) parent old r → Expands left (over rules files) parent old s → r ≡ s
   unfolding Expands
   one_expansion zero parent old r s known known_too is too = is ∙ sym too
@@ -177,7 +177,7 @@ one_outcome asks files left parent old r s tells known known_too is too =
     one_expansion asks.rules files left parent old r s known known_too (subst (λ a. Expands left a parent old r) told is) (subst (λ a. Expands left a parent old s) told too)
 
 -- a call that returns leaves an outcome that is returned
-left_answered : (result : Result Unit Error) (new : State) (r : Reached) → IfErr result (λ e. includes_number e ≢ 27) → Leaves includes_number result new r → IsAnswered r
+pub left_answered : (result : Result Unit Error) (new : State) (r : Reached) → IfErr result (λ e. includes_number e ≢ 27) → Leaves includes_number result new r → IsAnswered r
 left_answered (Ok done) new r known leaves = subst IsAnswered (sym leaves) tt
 left_answered (Err e) new (On done) known leaves = absurd leaves
 left_answered (Err e) new (Ended n file) known leaves = λ memory. known (sym leaves.0 ∙ memory)

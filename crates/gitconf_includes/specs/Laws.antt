@@ -1,8 +1,8 @@
 -- What an expansion keeps of a file, and when two outcomes are alike.
-use Rattle.std.specs.Prelude.{◌≡◌, ◌≢◌, ◌<◌, ℕ, zero, suc, ltb, Bool, true, false, List, [], ◌∷◌, Option, Some, None, map, filter, Ok, Err, Result}
-use Rattle.std.specs.List.{AllByRecursion}
+use Rattle.std.specs.Prelude.{◌≡◌, ◌≢◌, ◌<◌, ℕ, zero, suc, ltb, Bool, true, false, List, [], ◌∷◌, ◌++◌, Option, Some, None, map, filter, Ok, Err, Result}
+use Rattle.std.specs.List.{AllByRecursion, AllZip}
 use Rattle.gitconf_text.specs.Document.{IsText, gathered}
-use Rattle.gitconf_text.specs.Part.{Part}
+use Rattle.gitconf_text.specs.Part.{Item, Part}
 use Rattle.gitconf_sources.specs.Metadata.{Meta}
 use Rattle.gitconf_sources.specs.Reports.{FileReport, read_of}
 use Rattle.gitconf_sources.specs.declared.fault.FileFault.{FileFault}
@@ -28,11 +28,16 @@ unheld s = record s { held = [] }
 abbrev pub own_sections : (below : ℕ) → List SectionState → List SectionState
 own_sections below sections = map unheld (filter (λ s. ltb s.number below) sections)
 
--- a file's own sections stay, in order, except for what is held after them; and so do its front and where it comes from
+-- what is held after a section stays, and more may be held after it
+abbrev pub HoldsAsMuch : (old new : SectionState) → Type 0
+HoldsAsMuch old new = (more : List Item) × (new.held ≡ old.held ++ more)
+
+-- a file's own sections stay, in order, with what is held after each, where more may follow; and so do its front and where it comes from
 pub record IsKept (old new : State) : Type 0 where
   pub front : new.front ≡ old.front
   pub meta : new.meta ≡ old.meta
   pub sections : own_sections old.next new.sections ≡ map unheld old.sections
+  pub held : AllZip HoldsAsMuch old.sections (filter (λ s. ltb s.number old.next) new.sections)
 
 -- Where the sections come from that an include of a section from `from` put in, directly or further down: the same source and trust, and a
 -- greater level.

@@ -1,5 +1,5 @@
 //! What holds of expansions, for all files and sources of files: each law is a function that does nothing.
-ghost use Rattle.std.specs.Prelude.{◌≡◌, ◌≢◌, ◌⊎◌, ℕ, suc, true, false, Bool, IfErr, List, None, Option, Result, Some};
+ghost use Rattle.std.specs.Prelude.{◌≡◌, ◌≢◌, ◌⊎◌, ℕ, suc, true, false, Bool, IfErr, IsErrAnd, List, None, Option, Result, Some};
 ghost use Rattle.gitconf_sources.specs.Metadata.{Meta};
 ghost use Rattle.gitconf_sources.specs.Reports.{FileReport};
 ghost use Rattle.gitconf_includes.specs.declared.includes.Error.{Error};
@@ -11,7 +11,7 @@ ghost use Rattle.gitconf_includes.specs.Expansion.{Asks, Ended, Expands, IsLoadO
 ghost use Rattle.gitconf_includes.specs.Laws.{file_of, AreHeaded, EndAlike, IncludesHeaded, IncludesNothing, asks_with, IsAnswered, IsAsItWas, IsKept, ParentsSayTheSame, SayTheSame, StandBehind};
 
 /// Whatever the outcome, a file's own sections stay in their order, with their numbers and with where they come from, and so do its front and
-/// where it comes from itself; only the items held after sections may be more.
+/// where it comes from itself. The items held after a section stay too, and more may follow them.
 pub fn own_sections_stay()
     ensures { (left : ℕ) (asks : Asks) (parent : Option State) (old : State) (r : Reached) → AreNumbered old.next old.sections
         → Expands left asks parent old r → IsKept old (file_of r) }
@@ -85,4 +85,16 @@ pub fn expansions_have_one_outcome()
         → Resolves includes_number asks old one new → Resolves includes_number asks old other left → EndAlike one other new left }
     ensures loaded { (lossy : Bool) (text : List ℕ) (place : Meta) (one other : Result State ℕ) → IfErr one (λ n. n ≢ 27) → IfErr other (λ n. n ≢ 27)
         → IsLoadOf lossy text place one → IsLoadOf lossy text place other → one ≡ other }
+{}
+
+/// If the host says what is at each path, an expansion for which memory runs out leaves a beginning of what it leaves otherwise: whatever the
+/// file has by then stays, in order, in the file that the same expansion leaves with memory enough, also where that one is refused for another
+/// cause. What is put in later has greater numbers, or is held after what was held. So it is of two calls.
+pub fn want_of_memory_leaves_a_beginning()
+    ensures expanded { (asks : Asks) (files : List ℕ → FileReport) (left : ℕ) (parent : Option State) (old end : State) (r : Reached)
+        → asks.table ≡ Some files → AreNumbered old.next old.sections → IsAnswered r
+        → Expands left asks parent old (Ended 27 end) → Expands left asks parent old r → IsKept end (file_of r) }
+    ensures resolved { (asks : Asks) (files : List ℕ → FileReport) (old end new : State) (one other : Result Unit Error) → asks.table ≡ Some files
+        → AreNumbered old.next old.sections → IsErrAnd one (λ e. includes_number e ≡ 27) → IfErr other (λ e. includes_number e ≢ 27)
+        → Resolves includes_number asks old one end → Resolves includes_number asks old other new → IsKept end new }
 {}
