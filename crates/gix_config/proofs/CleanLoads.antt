@@ -1,5 +1,6 @@
 -- Files of variables and of repositories are clean.
 use Rattle.std.proofs.Common.{◌≡◌, ℕ, zero, suc, ◌+◌, ◌==◌, Bool, true, false, List, [], Option, Some, None, Result, Ok, Err, inl, inr, refl, sym, ap, ◌∙◌, subst}
+use Rattle.std.specs.Prelude.{IfSome}
 use Rattle.gitconf_sources.specs.Key.{Key, parsed_key}
 use Rattle.gitconf_sources.specs.Metadata.{api_meta, Meta}
 use Rattle.gitconf_sources.specs.declared.source.Source.{Source}
@@ -17,13 +18,13 @@ use Rattle.gitconf_includes.specs.Laws.{AreHeaded, IncludesHeaded}
 use Rattle.gitconf_includes.proofs.States.{all_headed, headed_stays, IsHeaded}
 use Rattle.gitconf_lookups.specs.Picks.{picked}
 use Rattle.gitconf_loaders.specs.Resolving.{MakesOf}
-use Rattle.gitconf_loaders.specs.Globals.{empty_file, home_rules}
+use Rattle.gitconf_loaders.specs.Globals.{empty_file, home_rules, IsGlobal}
 use Rattle.gitconf_store.specs.Edited.{put_bytes}
 use Rattle.gitconf_loaders.specs.Paths.{has_room_behind, IsAppendedTo, IsLoadedFrom, Then}
 use Rattle.gitconf_loaders.specs.Variables.{reported_key, key_variable}
-use Rattle.gitconf_loaders.proofs.Clean.{all_global_headed, behind_headed, global_clean, path_headed}
+use Rattle.gitconf_loaders.proofs.Clean.{all_global_headed, behind_headed, from_path, global_clean, path_headed}
 use Rattle.gix_config.specs.Environment.{AreEntriesPut, Edited, env_meta, HaveSectionNames, IncludeHeaded, IsEntryPut, IsFromEnv, IsOverrides, IsPutUnder, IsValuePushed, IsValuePut}
-use Rattle.gix_config.specs.Repository.{folder_of, has_worktree, IsExpandedBehind, IsJoined, IsPutBehind, IsRepository, IsWorktree, IsWorktreeBehind, local_path, repository_rules, RepositoryFiles, worktree_path}
+use Rattle.gix_config.specs.Repository.{AreHeadedWith, folder_of, has_worktree, IsExpandedBehind, IsHeadedRepository, IsHeadedWith, IsJoined, IsPutBehind, IsReadOf, IsRepository, IsWorktree, IsWorktreeBehind, local_path, repository_rules, RepositoryFiles, worktree_path}
 use Rattle.gix_config.specs.SectionEditors.{editor_at, IsFoundOr}
 use Rattle.gix_config.proofs.NewEditors.{clean_picked}
 
@@ -137,70 +138,91 @@ put_behind_headed target other now is more (inr put) = go (has_room_behind targe
     go true (s, behind, e) = subst IsHeaded (sym (ap (state_in now) e)) (behind_headed target other s is more behind)
     go false e = absurd (cc)
 
-module _ (variables : List ℕ → VariableReport) (places : Places) (files : List ℕ → FileReport) (named : HaveSectionNames variables) (headed : AreHeaded files) where
-  behind_expanded : (asks : Asks) (target file now : State) → asks.table ≡ Some files → IsHeaded target → IsHeaded file → IsExpandedBehind asks target file (Ok now) → IsHeaded now
-  behind_expanded asks target file now tells is more (Err n, expands, e) = absurd (cc)
-  behind_expanded asks target file now tells is more (Ok full, expands, put) = put_behind_headed target full now is (expanded_headed asks file full (all_headed files asks tells headed asks.rules.max_depth file) more expands) put
+-- a file with what it includes, after another one
+behind_expanded : (asks : Asks) (target file now : State) → IsHeaded target → IsClean file → IsHeadedWith asks file → IsExpandedBehind asks target file (Ok now) → IsHeaded now
+behind_expanded asks target file now is clean heads (Err n, expands, e) = absurd (cc)
+behind_expanded asks target file now is clean heads (Ok full, expands, put) =
+    put_behind_headed target full now is (expanded_headed asks file full heads.1 (record { clean = clean; front = heads.0 }) expands) put
 
-  worktree_behind : (asks : Asks) (worktree : Option State) (target now : State) → asks.table ≡ Some files → IsHeaded target → ((file : State) → worktree ≡ Some file → IsHeaded file)
-      → IsWorktreeBehind asks worktree target (Ok now) → IsHeaded now
-  worktree_behind asks None target now tells is more e = subst IsHeaded (sym (ap (state_in now) e)) is
-  worktree_behind asks (Some worktree) target now tells is more put = behind_expanded asks target worktree now tells is (more worktree refl) put
+worktree_behind : (asks : Asks) (worktree : Option State) (target now : State) → IsHeaded target → IfSome worktree IsClean → IfSome worktree (IsHeadedWith asks)
+    → IsWorktreeBehind asks worktree target (Ok now) → IsHeaded now
+worktree_behind asks None target now is clean heads e = subst IsHeaded (sym (ap (state_in now) e)) is
+worktree_behind asks (Some worktree) target now is clean heads put = behind_expanded asks target worktree now is clean heads put
 
-  joined_headed : (asks : Asks) (parts : RepositoryFiles) (now : State) → asks.table ≡ Some files → IsHeaded parts.globals → IsHeaded parts.local → ((file : State) → parts.worktree ≡ Some file → IsHeaded file)
-      → IsJoined (Some variables) places (Some files) asks parts (Ok now) → IsHeaded now
-  joined_headed asks parts now tells globals local worktree (Err n, expands, e) = absurd (cc)
-  joined_headed asks parts now tells globals local worktree (Ok first, expands, (Err n, own, e)) = absurd (cc)
-  joined_headed asks parts now tells globals local worktree (Ok first, expands, (Ok all, (Err n, second, e), rest)) = absurd (cc)
-  joined_headed asks parts now tells globals local worktree (Ok first, expands, (Ok all, (Ok both, second, third), (Err n, made, e))) = absurd (cc)
-  joined_headed asks parts now tells globals local worktree (Ok first, expands, (Ok all, (Ok both, second, third), (Ok overrides, made, put))) =
-      let one = expanded_headed asks parts.globals first (all_headed files asks tells headed asks.rules.max_depth parts.globals) globals expands in
-      let two = behind_expanded asks first parts.local both tells one local second in
-      let three = worktree_behind asks parts.worktree both all tells two worktree third in
-      put_behind_headed all overrides now three (overrides_headed variables places (Some files) overrides named
-      (λ count set put. all_headed files (record { rules = home_rules places; table = Some files }) refl headed 10 set) made) put
+-- what holds of every file that is loaded by its path holds of the worktree's
+of_worktree : (P : State → Type 0) (table : Option (List ℕ → FileReport)) (folder : List ℕ) (local : State) (worktree : Option State)
+    → ((path : List ℕ) (source : Source) (file : State) → IsLoadedFrom table path source (Ok file) → P file) → IsWorktree table folder local (Ok worktree) → IfSome worktree P
+of_worktree P table folder local worktree holds is = go (has_worktree local) is
+  where
+    found_in : Result (Option State) ℕ → Option State
+    found_in (Ok s) = s
+    found_in (Err n) = None
 
-  worktree_headed : (folder : List ℕ) (local : State) (worktree : Option State) → IsWorktree (Some files) folder local (Ok worktree) → (file : State) → worktree ≡ Some file → IsHeaded file
-  worktree_headed folder local worktree is file some = go (has_worktree local) is
-    where
-      found_in : Result (Option State) ℕ → Option State
-      found_in (Ok s) = s
-      found_in (Err n) = None
+    of_path : (path : List ℕ) (source : Source) → Then (IsLoadedFrom table path source) (λ state r. r ≡ Ok (Some state)) (Ok worktree) → IfSome worktree P
+    of_path path source (Err n, loaded, e) = absurd (cc)
+    of_path path source (Ok state, loaded, e) = subst (λ (w : Option State). IfSome w P) (sym (ap found_in e)) (holds path source state loaded)
 
-      file_in : Option State → State
-      file_in (Some s) = s
-      file_in None = file
+    go : (has : Bool) → elim has as (λ _. Type 0) [
+      | true ↦ Then (IsLoadedFrom table (worktree_path folder) Worktree) (λ state r. r ≡ Ok (Some state)) (Ok worktree)
+      | false ↦ ◌≡◌ {A = Result (Option State) ℕ} (Ok worktree) (Ok None)
+    ] → IfSome worktree P
+    go true loaded = of_path (worktree_path folder) Worktree loaded
+    go false e = subst (λ (w : Option State). IfSome w P) (sym (ap found_in e)) tt
 
-      of_path : (path : List ℕ) (source : Source) → Then (IsLoadedFrom (Some files) path source) (λ state r. r ≡ Ok (Some state)) (Ok worktree) → IsHeaded file
-      of_path path source (Err n, loaded, e) = absurd (cc)
-      of_path path source (Ok state, loaded, e) = subst IsHeaded (ap file_in (sym (ap found_in e) ∙ some)) (path_headed files path source state headed loaded)
+-- what the files are that were read: the repository's own, its worktree's, and that of the machine and of the user
+are_read : (variables : Option (List ℕ → VariableReport)) (places : Places) (table : Option (List ℕ → FileReport)) (path folder : List ℕ) (parts : RepositoryFiles)
+    → IsReadOf variables places table path folder (Ok parts)
+    → IsLoadedFrom table path Local (Ok parts.local) × IsWorktree table folder parts.local (Ok parts.worktree) × IsGlobal variables places table (Ok parts.globals)
+are_read variables places table path folder parts (inl wanting) = absurd (cc)
+are_read variables places table path folder parts (inr (Err n, local, e)) = absurd (cc)
+are_read variables places table path folder parts (inr (Ok local, of_local, (Err n, worktree, e))) = absurd (cc)
+are_read variables places table path folder parts (inr (Ok local, of_local, (Ok worktree, of_worktree, (Err n, globals, e)))) = absurd (cc)
+are_read variables places table path folder parts (inr (Ok local, of_local, (Ok worktree, of_worktree, (Ok globals, of_globals, e)))) =
+    subst (λ (p : RepositoryFiles). IsLoadedFrom table path Local (Ok p.local) × IsWorktree table folder p.local (Ok p.worktree) × IsGlobal variables places table (Ok p.globals))
+    (sym (ap parts_in e)) (of_local, of_worktree, of_globals)
+  where
+    parts_in : Result RepositoryFiles ℕ → RepositoryFiles
+    parts_in (Ok p) = p
+    parts_in (Err n) = parts
 
-      go : (has : Bool) → elim has as (λ _. Type 0) [
-        | true ↦ Then (IsLoadedFrom (Some files) (worktree_path folder) Worktree) (λ state r. r ≡ Ok (Some state)) (Ok worktree)
-        | false ↦ ◌≡◌ {A = Result (Option State) ℕ} (Ok worktree) (Ok None)
-      ] → IsHeaded file
-      go true loaded = of_path (worktree_path folder) Worktree loaded
-      go false e = let none : None ≡ Some file = sym (ap found_in e) ∙ some in absurd (cc)
+module _ (variables : List ℕ → VariableReport) (places : Places) (table : Option (List ℕ → FileReport)) (named : HaveSectionNames variables) where
+  joined_headed : (asks : Asks) (parts : RepositoryFiles) (now : State) → IncludeHeaded variables (record { rules = home_rules places; table = table }) → AreHeadedWith asks parts
+      → IsClean parts.local → IfSome parts.worktree IsClean → IsClean parts.globals → IsJoined (Some variables) places table asks parts (Ok now) → IsHeaded now
+  joined_headed asks parts now included heads local worktree globals (Err n, expands, e) = absurd (cc)
+  joined_headed asks parts now included heads local worktree globals (Ok first, expands, (Err n, own, e)) = absurd (cc)
+  joined_headed asks parts now included heads local worktree globals (Ok first, expands, (Ok all, (Err n, second, e), rest)) = absurd (cc)
+  joined_headed asks parts now included heads local worktree globals (Ok first, expands, (Ok all, (Ok both, second, third), (Err n, made, e))) = absurd (cc)
+  joined_headed asks parts now included heads local worktree globals (Ok first, expands, (Ok all, (Ok both, second, third), (Ok overrides, made, put))) =
+      let one = expanded_headed asks parts.globals first heads.2.1 (record { clean = globals; front = heads.2.0 }) expands in
+      let two = behind_expanded asks first parts.local both one local heads.0 second in
+      let three = worktree_behind asks parts.worktree both all two worktree heads.1 third in
+      put_behind_headed all overrides now three (overrides_headed variables places table overrides named included made) put
 
-  repository_headed : (dir : List ℕ) (real : Option (List ℕ)) (file : State) → IsRepository (Some variables) places (Some files) dir real (Ok file) → IsHeaded file
-  repository_headed dir real file (inl wanting) = absurd (cc)
-  repository_headed dir real file (inr (Err n, read, e)) = absurd (cc)
-  repository_headed dir real file (inr (Ok parts, inl wanting, joined)) = absurd (cc)
-  repository_headed dir real file (inr (Ok parts, inr (Err n, local, e), joined)) = absurd (cc)
-  repository_headed dir real file (inr (Ok parts, inr (Ok local, of_local, (Err n, worktree, e)), joined)) = absurd (cc)
-  repository_headed dir real file (inr (Ok parts, inr (Ok local, of_local, (Ok worktree, of_worktree, (Err n, globals, e))), joined)) = absurd (cc)
-  repository_headed dir real file (inr (Ok parts, inr (Ok local, of_local, (Ok worktree, of_worktree, (Ok globals, of_globals, e))), joined)) =
-      let is : parts ≡ record { local = local; worktree = worktree; globals = globals } = ap parts_in e in
-      let clean = global_clean (Some variables) places (Some files) globals (all_global_headed (Some variables) places files headed) of_globals in
-      joined_headed (record { rules = repository_rules places (folder_of (local_path dir)) real; table = Some files }) parts file refl
-      (subst (λ (p : RepositoryFiles). IsHeaded p.globals) (sym is) (record { clean = clean.0; front = clean.1 }))
-      (subst (λ (p : RepositoryFiles). IsHeaded p.local) (sym is) (path_headed files (local_path dir) Local local headed of_local))
-      (subst (λ (p : RepositoryFiles). (s : State) → p.worktree ≡ Some s → IsHeaded s) (sym is) (worktree_headed (folder_of (local_path dir)) local worktree of_worktree))
+  repository_headed : (dir : List ℕ) (real : Option (List ℕ)) (file : State) → IsHeadedRepository variables places table dir real
+      → IsRepository (Some variables) places table dir real (Ok file) → IsHeaded file
+  repository_headed dir real file heads (inl wanting) = absurd (cc)
+  repository_headed dir real file heads (inr (Err n, read, e)) = absurd (cc)
+  repository_headed dir real file heads (inr (Ok parts, read, joined)) =
+      let loaded = are_read (Some variables) places table (local_path dir) (folder_of (local_path dir)) parts read in
+      joined_headed (record { rules = repository_rules places (folder_of (local_path dir)) real; table = table }) parts file heads.overrides (heads.files parts read)
+      (from_path table (local_path dir) Local parts.local loaded.0)
+      (of_worktree IsClean table (folder_of (local_path dir)) parts.local parts.worktree (from_path table) loaded.1)
+      (global_clean (Some variables) places table parts.globals heads.globals loaded.2).0
       joined
-    where
-      parts_in : Result RepositoryFiles ℕ → RepositoryFiles
-      parts_in (Ok p) = p
-      parts_in (Err n) = parts
+
+-- if no text at all has an entry before its first section
+module _ (files : List ℕ → FileReport) (texts : AreHeaded files) where
+  headed_with : (asks : Asks) → asks.table ≡ Some files → (file : State) → entries_of file.front ≡ [] → IsHeadedWith asks file
+  headed_with asks tells file front = (front, all_headed files asks tells texts asks.rules.max_depth file)
+
+  files_headed : (variables : Option (List ℕ → VariableReport)) (places : Places) (path folder : List ℕ) (asks : Asks) → asks.table ≡ Some files → (parts : RepositoryFiles)
+      → IsReadOf variables places (Some files) path folder (Ok parts) → AreHeadedWith asks parts
+  files_headed variables places path folder asks tells parts read =
+      let loaded = are_read variables places (Some files) path folder parts read in (
+        headed_with asks tells parts.local (path_headed files path Local parts.local texts loaded.0).front,
+        of_worktree (IsHeadedWith asks) (Some files) folder parts.local parts.worktree (λ path source file is. headed_with asks tells file (path_headed files path source file texts is).front) loaded.1,
+        headed_with asks tells parts.globals (global_clean variables places (Some files) parts.globals (all_global_headed variables places files texts) loaded.2).1,
+      )
 
 -- as the laws say it
 pub env_clean : (variables : List ℕ → VariableReport) (asks : Asks) (file : State) → HaveSectionNames variables → IncludeHeaded variables asks
@@ -211,6 +233,14 @@ pub overrides_clean : (variables : List ℕ → VariableReport) (places : Places
     → IncludeHeaded variables (record { rules = home_rules places; table = table }) → IsOverrides (Some variables) places table (Ok file) → IsClean file × (entries_of file.front ≡ [])
 overrides_clean variables places table file named included made = let is = overrides_headed variables places table file named included made in (is.clean, is.front)
 
-pub repository_clean : (variables : List ℕ → VariableReport) (places : Places) (files : List ℕ → FileReport) (dir : List ℕ) (real : Option (List ℕ)) (file : State) → HaveSectionNames variables → AreHeaded files
-    → IsRepository (Some variables) places (Some files) dir real (Ok file) → IsClean file × (entries_of file.front ≡ [])
-repository_clean variables places files dir real file named headed loaded = let is = repository_headed variables places files named headed dir real file loaded in (is.clean, is.front)
+pub repository_clean : (variables : List ℕ → VariableReport) (places : Places) (table : Option (List ℕ → FileReport)) (dir : List ℕ) (real : Option (List ℕ)) (file : State) → HaveSectionNames variables
+    → IsHeadedRepository variables places table dir real → IsRepository (Some variables) places table dir real (Ok file) → IsClean file × (entries_of file.front ≡ [])
+repository_clean variables places table dir real file named heads loaded = let is = repository_headed variables places table named dir real file heads loaded in (is.clean, is.front)
+
+pub repository_texts : (variables : List ℕ → VariableReport) (places : Places) (files : List ℕ → FileReport) (dir : List ℕ) (real : Option (List ℕ)) → AreHeaded files
+    → IsHeadedRepository variables places (Some files) dir real
+repository_texts variables places files dir real texts = record {
+  globals = all_global_headed (Some variables) places files texts;
+  files = files_headed files texts (Some variables) places (local_path dir) (folder_of (local_path dir)) (record { rules = repository_rules places (folder_of (local_path dir)) real; table = Some files }) refl;
+  overrides = λ count set put. all_headed files (record { rules = home_rules places; table = Some files }) refl texts 10 set;
+}

@@ -1,28 +1,32 @@
 -- The configuration of a repository: that of the machine and of the user, of the repository and of its worktree, and the overrides.
 -- Source: gix-config; that the files of the machine and of the user are expanded twice is gix-config's rule.
-use Rattle.std.specs.Prelude.{◌≡◌, ◌⊎◌, ℕ, Bool, true, false, List, [], Option, Some, None, Result, Ok, Err, codes}
+use Rattle.std.specs.Prelude.{◌≡◌, ◌⊎◌, ℕ, Bool, true, false, List, [], Option, Some, None, Result, Ok, Err, IfSome, codes}
 use Rattle.std.specs.Option.{option_map, unwrap_or}
 use Rattle.gitconf_text.specs.ValueErrors.{ValueError}
 use Rattle.gitconf_values.specs.Paths.{join, parent}
+use Rattle.gitconf_sources.specs.FoundFiles.{global_sources, AreFound}
 use Rattle.gitconf_sources.specs.Key.{Key}
+use Rattle.gitconf_sources.specs.Metadata.{Meta}
 use Rattle.gitconf_sources.specs.declared.source.Source.TheVariants.{Local, Worktree}
 use Rattle.gitconf_sources.specs.Reports.{FileReport, VariableReport}
 use Rattle.gitconf_sources.specs.declared.host.Places.{Places}
 use Rattle.gitconf_includes.specs.Rules.{Rules, rules_of}
 use Rattle.gitconf_includes.specs.declared.init.Options.{Options}
-use Rattle.gitconf_state.specs.State.{State}
+use Rattle.gitconf_state.specs.State.{entries_of, State}
 use Rattle.gitconf_includes.specs.Expansion.{Asks}
+use Rattle.gitconf_includes.specs.Laws.{IncludesHeaded}
 use Rattle.gitconf_includes.specs.Outcomes.{IsCause}
 use Rattle.gitconf_lookups.specs.Lookups.{implicit_at}
 use Rattle.gitconf_loaders.specs.Resolving.{MakesOf}
 use Rattle.gitconf_loaders.specs.Causes.{IsFileCause}
 use Rattle.gitconf_loaders.specs.Globals.{home_rules, IsGlobal, IsGlobalCause}
+use Rattle.gitconf_loaders.specs.Headed.{AreHeadedAt}
 use Rattle.gitconf_loaders.specs.Paths.{has_room_behind, IsAppendedTo, IsLoadedFrom, Then}
 use Rattle.gitconf_loaders.specs.declared.from_git_dir.Error.{Error}
 use Rattle.gitconf_loaders.specs.declared.from_git_dir.Error.TheVariants as git
 use Rattle.gitconf_loaders.specs.declared.from_paths.Error.{Error as PathsError}
 use Rattle.gix_config.specs.declared.file.init.repository.Parts.{Parts}
-use Rattle.gix_config.specs.Environment.{IsOverrides, IsOverridesCause}
+use Rattle.gix_config.specs.Environment.{IncludeHeaded, IsOverrides, IsOverridesCause}
 use Rattle.gix_config.specs.Typed.{boolean_or_refusal}
 
 -- the path of the repository's configuration
@@ -118,6 +122,22 @@ module _ (variables : Option (List ℕ → VariableReport)) (places : Places) (t
   abbrev pub IsRepository : (dir : List ℕ) → (real : Option (List ℕ)) → Result State ℕ → Type 0
   IsRepository dir real r = (r ≡ Err 27)
       ⊎ Then (IsReadOf (local_path dir) (folder_of (local_path dir))) (IsJoined (record { rules = repository_rules places (folder_of (local_path dir)) real; table = table })) r
+
+-- a file has no entry before its first section, nor has any that it includes
+abbrev pub IsHeadedWith : Asks → State → Type 0
+IsHeadedWith asks file = (entries_of file.front ≡ []) × IncludesHeaded asks.rules.max_depth asks file
+
+-- so it is with each of the files of a repository
+abbrev pub AreHeadedWith : Asks → RepositoryFiles → Type 0
+AreHeadedWith asks parts = IsHeadedWith asks parts.local × IfSome parts.worktree (IsHeadedWith asks) × IsHeadedWith asks parts.globals
+
+-- No file that a repository's configuration is made of has an entry before its first section, nor has any that it includes: the files of the
+-- machine and of the user, as they are found; all that was read, as the repository expands it; and what the overrides include.
+pub record IsHeadedRepository (variables : List ℕ → VariableReport) (places : Places) (table : Option (List ℕ → FileReport)) (dir : List ℕ) (real : Option (List ℕ)) : Type 0 where
+  pub globals : (found : List Meta) → AreFound (Some variables) places table global_sources found → AreHeadedAt true false (record { rules = home_rules places; table = table }) found
+  pub files : (parts : RepositoryFiles) → IsReadOf (Some variables) places table (local_path dir) (folder_of (local_path dir)) (Ok parts)
+      → AreHeadedWith (record { rules = repository_rules places (folder_of (local_path dir)) real; table = table }) parts
+  pub overrides : IncludeHeaded variables (record { rules = home_rules places; table = table })
 
 -- The cause of a refusal, besides its number: of a file that is read.
 abbrev pub IsReadCause : Places → Option (List ℕ → FileReport) → PathsError → Type 0

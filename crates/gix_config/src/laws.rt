@@ -39,7 +39,7 @@ ghost use Rattle.gitconf_text.specs.declared.parse.section.header.Error.{Error a
 ghost use Rattle.gitconf_state.specs.Inserted.{Inserted, IsByteForByte};
 ghost use Rattle.gix_config.specs.Environment.{HaveSectionNames, IncludeHeaded, IsFromEnv, IsOverrides};
 ghost use Rattle.gitconf_store.specs.Edited.{put_bytes, IsEdited};
-ghost use Rattle.gix_config.specs.Repository.{IsRepository};
+ghost use Rattle.gix_config.specs.Repository.{IsHeadedRepository, IsRepository};
 ghost use Rattle.gix_config.specs.SectionEditors.{with_leading};
 
 /// Those of files that others are put into.
@@ -85,12 +85,15 @@ pub fn files_of_variables_are_clean()
         → IsOverrides (Some variables) places table (Ok file) → IsClean file × (entries_of file.front ≡ []) }
 {}
 
-/// The configuration of a repository is clean, if that holds of variables and of texts, also those of the repository's own files: so what is
-/// written of it reads back.
+/// The configuration of a repository is clean, and has no entry before its first section, if no key of variables names a section with an empty
+/// name and no subsection, and no file that is read or included has an entry before its first section: so what is written of it reads back. No
+/// file has such an entry if no text that the host tells has one.
 pub fn repositories_are_clean()
-    ensures { (variables : List ℕ → VariableReport) (places : Places) (files : List ℕ → FileReport) (dir : List ℕ) (real : Option (List ℕ))
-        (file : State) → HaveSectionNames variables → AreHeaded files
-        → IsRepository (Some variables) places (Some files) dir real (Ok file) → IsClean file × (entries_of file.front ≡ []) }
+    ensures clean { (variables : List ℕ → VariableReport) (places : Places) (table : Option (List ℕ → FileReport)) (dir : List ℕ)
+        (real : Option (List ℕ)) (file : State) → HaveSectionNames variables → IsHeadedRepository variables places table dir real
+        → IsRepository (Some variables) places table dir real (Ok file) → IsClean file × (entries_of file.front ≡ []) }
+    ensures texts { (variables : List ℕ → VariableReport) (places : Places) (files : List ℕ → FileReport) (dir : List ℕ) (real : Option (List ℕ))
+        → AreHeaded files → IsHeadedRepository variables places (Some files) dir real }
 {}
 
 /// What the contract of an edit says is what [`headline`] asks of one, for each kind of result: it ends with its answer, which the result shows, or

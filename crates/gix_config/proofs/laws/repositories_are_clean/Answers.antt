@@ -1,5 +1,8 @@
-use Rattle.gix_config.proofs.CleanLoads.{repository_clean}
+use Rattle.gix_config.proofs.CleanLoads.{repository_clean, repository_texts}
 use Rattle.gix_config.proofs.laws.repositories_are_clean.Goals as goal
 
-pub returns : goal.returns
-returns c = repository_clean
+pub returns-clause-clean : goal.returns-clause-clean
+returns-clause-clean c = repository_clean
+
+pub returns-clause-texts : goal.returns-clause-texts
+returns-clause-texts c = repository_texts
