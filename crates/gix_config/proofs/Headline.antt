@@ -1,31 +1,34 @@
 -- What calls leave of a file that reads back, and what is written of it.
-use Rattle.std.proofs.Common.{◌≡◌, ◌==◌, ◌+◌, ◌||◌, ◌&&◌, ℕ, Bool, true, false, not, List, [], ◌∷◌, map, Option, Some, None, Result, Ok, Err, inl, inr, refl, ap, sym, subst, ◌∙◌, arith}
+use Rattle.std.proofs.Common.{◌≡◌, ◌==◌, ◌+◌, ◌||◌, ◌&&◌, ℕ, zero, suc, Bool, true, false, not, List, [], ◌∷◌, map, Option, Some, None, Result, Ok, Err, inl, inr, refl, ap, sym, subst, ◌∙◌, arith}
 use Rattle.std.specs.Prelude.{IfErr, IfOk, IsErrOf, OnErr, OnOk}
 use Rattle.std.specs.List.{AllByRecursion, list_any}
-use Rattle.gitconf_text.specs.Document.{DocumentSection, IsText, Reads, gathered, unmarked}
+use Rattle.bstr.specs.declared.bstring.BString.{BString}
+use Rattle.gitconf_text.specs.Document.{IsText, Reads, unmarked}
 use Rattle.gitconf_text.specs.Names.{is_made_name, is_valid_or_none, is_value_name}
 use Rattle.gitconf_text.specs.Part.{Part}
 use Rattle.gitconf_text.specs.Sections.{no_number}
 use Rattle.gitconf_text.specs.Token.{tokens_of}
+use Rattle.gitconf_text.proofs.Lists.{all_push}
+use Rattle.gitconf_text.proofs.Tests.{both_true}
 use Rattle.gitconf_sources.specs.Key.{Key}
 use Rattle.gitconf_sources.specs.Metadata.{Meta}
-use Rattle.gitconf_sources.specs.Reports.{FileReport}
-use Rattle.gitconf_state.specs.Clean.{IsClean}
-use Rattle.gitconf_state.specs.Edit.{header_bytes, is_target, with_used}
+use Rattle.gitconf_state.specs.Clean.{is_nameless, IsClean, IsCleanSection}
+use Rattle.gitconf_state.specs.Edit.{header_bytes, is_target, made_header, new_section, new_section_bytes, section_with, set_bytes, with_used}
 use Rattle.gitconf_state.specs.Edits as edits
-use Rattle.gitconf_state.specs.Edits.{Answer, Edit, IsCleanEdit, IsEdit, answer, apply}
+use Rattle.gitconf_state.specs.Edits.{Answer, Edit, IsCleanEdit, IsEdit, answer, apply, renamed}
 use Rattle.gitconf_state.specs.Editors.{InsteadOf, OfEntry, OfEntryButLineEnd}
 use Rattle.gitconf_state.specs.Equality.{AreEqual, compared}
+use Rattle.gitconf_state.specs.LineEnds.{file_line_end}
 use Rattle.gitconf_state.specs.Loads.{IsFullLoad}
 use Rattle.gitconf_state.specs.Made.{IsMade}
 use Rattle.gitconf_state.specs.Printing.{printed}
-use Rattle.gitconf_state.specs.State.{HasItems, State, document_of, section_document}
+use Rattle.gitconf_state.specs.State.{HasItems, HasSectionItems, State, document_of, section_document}
+use Rattle.gitconf_state.proofs.Edits.Items.{file_line_end_is, made_header_is, new_section_is, section_with_clean, section_with_is}
 use Rattle.gitconf_state.proofs.Edits.Keep.{apply_clean, apply_items}
-use Rattle.gitconf_state.proofs.Loading.Clean.{full_has_items, full_is_clean}
 use Rattle.gitconf_state.proofs.Loading.Document.{full_document}
 use Rattle.gitconf_state.proofs.Printing.ReadsBack.{all_reads_back}
 use Rattle.gitconf_read.proofs.OneDocument as one
-use Rattle.gitconf_body.specs.Done.{Cause, InvalidKey, InvalidName, InvalidSubsection, IsRefusedFor, Missing, OutOfMemory, TooLarge, first_cause, is_full, key_causes}
+use Rattle.gitconf_body.specs.Done.{Cause, InvalidKey, InvalidName, InvalidSubsection, IsRefusedFor, OutOfMemory, TooLarge, first_cause, is_full, key_causes}
 use Rattle.gitconf_body.specs.Refusals.{span_refusal}
 use Rattle.gitconf_body.specs.ValuesAt.{rewritten_put}
 use Rattle.gitconf_includes.specs.declared.includes.Error.{Error as IncludesError}
@@ -35,12 +38,18 @@ use Rattle.gitconf_includes.specs.Expansion.{Asks, Ended, Expands, On, Reached}
 use Rattle.gitconf_includes.specs.Laws.{file_of, IncludesHeaded}
 use Rattle.gitconf_includes.proofs.States.{clean_stays, items_stay}
 use Rattle.gitconf_lookups.specs.ValuePlaces.{value_place}
+use Rattle.gitconf_store.specs.declared.rename_section.Error.{Error as RenameError}
 use Rattle.gitconf_store.specs.declared.set_raw_value.Error.{Error as SetError}
 use Rattle.gitconf_store.specs.Edited.{IsEdited, bytes_in, causes, put_bytes}
+use Rattle.gitconf_store.specs.Edits.{set_at, set_new, update_at}
 use Rattle.gitconf_store.specs.Existing.{IsRewritten, IsSetWhere, rewriting}
+use Rattle.gitconf_store.specs.RenameErrors.{rename_refusal}
+use Rattle.gitconf_store.specs.Renamings.{marked, with_renamed}
 use Rattle.gitconf_store.specs.SetErrors.{set_refusal}
+use Rattle.gitconf_store.specs.SetSomewhere.{IsSetChosen}
 use Rattle.gitconf_store.specs.Several.{AreRewritten, all_deleted}
-use Rattle.gix_config.specs.Headline.{AreCleanCalls, Call, DeletesAll, Edits, Ending, Ends, IsCleanCall, IsHanded, IsOneEnding, LeavesFile, Resolves, Runs, SetsAllExisting, SetsExisting, SetsValues}
+use Rattle.gix_config.specs.Headline.{AreCleanCalls, Call, DeletesAll, Edits, Ending, Ends, IsCleanCall, IsHanded, IsOneEnding, LeavesFile, RenamesSome, Resolves, Runs, SetsAllExisting, SetsExisting, SetsSomewhere, SetsValues}
+use Rattle.gix_config.specs.Renamed.{IsRenamedOfSome}
 use Rattle.gix_config.proofs.NewEditors.{editor_of_value}
 
 -- If none of the causes holds, the names are valid.
@@ -120,6 +129,88 @@ kept_by_edit edit old new (Ok told) is clean kept ends =
     let named = done_is_edit edit old is (no_cause (λ cause. cause) (first_cause (causes edit old)) told ends.0.told) in
     subst Keeps (sym ends.0.ok) (kept_after edit (old.used + put_bytes edit old) old named clean kept)
 
+-- what holds of each section holds of those of which one, or marked ones, are changed
+updated_holds : {A : Type 0} (P : A → Type 0) (change : A → A) → ((x : A) → P x → P (change x)) → (at : ℕ) (xs : List A) → AllByRecursion P xs → AllByRecursion P (update_at at change xs)
+updated_holds P change holds at [] all = all
+updated_holds P change holds zero (x ∷ xs) all = (holds x all.0, all.1)
+updated_holds P change holds (suc at) (x ∷ xs) all = (all.0, updated_holds P change holds at xs all.1)
+
+marked_holds : {A : Type 0} (P : A → Type 0) (change : A → A) → ((x : A) → P x → P (change x)) → (marks : List Bool) (xs : List A) → AllByRecursion P xs → AllByRecursion P (marked marks change xs)
+marked_holds P change holds [] xs all = all
+marked_holds P change holds (m ∷ marks) [] all = all
+marked_holds P change holds (true ∷ marks) (x ∷ xs) all = (holds x all.0, marked_holds P change holds marks xs all.1)
+marked_holds P change holds (false ∷ marks) (x ∷ xs) all = (all.0, marked_holds P change holds marks xs all.1)
+
+-- so does a value that is set in any section
+kept_in_section : (at : ℕ) (key value : List ℕ) (used : ℕ) (old : State) → is_value_name key ≡ true → Keeps old → Keeps (with_used used (set_at at key value old))
+kept_in_section at key value used old named kept = (
+  record {
+    front = kept.0.front;
+    sections = updated_holds HasSectionItems (section_with (file_line_end old) key value) (λ s one. section_with_is (file_line_end old) key value s named (file_line_end_is old) one) at old.sections kept.0.sections;
+  },
+  record {
+    sections = updated_holds IsCleanSection (section_with (file_line_end old) key value) (section_with_clean (file_line_end old) key value) at old.sections kept.1.sections;
+    blanks = kept.1.blanks;
+    names = kept.1.names;
+  },
+)
+
+-- or in one that is made
+kept_in_new : (name : List ℕ) (subsection : Option (List ℕ)) (key value : List ℕ) (used : ℕ) (old : State) → (is_value_name key && (is_made_name name && is_valid_or_none subsection)) ≡ true
+    → is_nameless (made_header name subsection) ≡ false → Keeps old → Keeps (with_used used (set_new name subsection key value old))
+kept_in_new name subsection key value used old valid clean kept =
+    let made = section_with (file_line_end old) key value (new_section name subsection old) in
+    let named = both_true (is_value_name key) (is_made_name name && is_valid_or_none subsection) valid in
+    let headed = both_true (is_made_name name) (is_valid_or_none subsection) named.1 in (
+      record {
+        front = kept.0.front;
+        sections = all_push HasSectionItems old.sections made kept.0.sections
+            (section_with_is (file_line_end old) key value (new_section name subsection old) named.0 (file_line_end_is old) (new_section_is name subsection old headed.0 headed.1));
+      },
+      record {
+        sections = all_push IsCleanSection old.sections made kept.1.sections
+            (section_with_clean (file_line_end old) key value (new_section name subsection old) (record { named = clean; blanks = refl; held_blanks = refl; held = refl }));
+        blanks = kept.1.blanks;
+        names = kept.1.names;
+      },
+    )
+
+kept_by_setting : (chosen : Option ℕ) (name : List ℕ) (subsection : Option (List ℕ)) (key value : List ℕ) (result : Result (Option BString) SetError) (old new : State)
+    → is_nameless (made_header name subsection) ≡ false → Keeps old → IsSetChosen chosen name subsection key value result old new → Keeps new
+kept_by_setting None name subsection key value (Err e) old new clean kept is = subst Keeps (sym is.0.err) kept
+kept_by_setting None name subsection key value (Ok o) old new clean kept is =
+    let count = new_section_bytes (file_line_end old) name subsection key value in
+    let valid = set_names (is_value_name key) false (is_made_name name) (is_valid_or_none subsection) (is_full old.used count) (old.next == no_number) (no_cause set_refusal _ o is.0.told) in
+    subst Keeps (sym is.0.ok) (kept_in_new name subsection key value (old.used + count) old valid clean kept)
+kept_by_setting (Some at) name subsection key value (Err e) old new clean kept is = subst Keeps (sym is.3.err) kept
+kept_by_setting (Some at) name subsection key value (Ok o) old new clean kept is =
+    let count = set_bytes (file_line_end old) key value is.0.items in
+    let named = keyed (is_value_name key) (is_full old.used count) (no_cause set_refusal (first_cause (key_causes key old.used count)) o is.3.told) in
+    subst Keeps (sym is.3.ok) (kept_in_section at key value (old.used + count) old named kept)
+
+-- so do sections that are renamed
+kept_by_marks : (marks : List Bool) (name : List ℕ) (subsection : Option (List ℕ)) (used : ℕ) (old : State) → (is_made_name name && is_valid_or_none subsection) ≡ true
+    → is_nameless (made_header name subsection) ≡ false → Keeps old → Keeps (with_used used (with_renamed marks name subsection old))
+kept_by_marks marks name subsection used old valid clean kept =
+    let headed = both_true (is_made_name name) (is_valid_or_none subsection) valid in (
+      record {
+        front = kept.0.front;
+        sections = marked_holds HasSectionItems (renamed name subsection) (λ s one. record { header = made_header_is name subsection headed.0 headed.1; items = one.items; held = one.held }) marks old.sections kept.0.sections;
+      },
+      record {
+        sections = marked_holds IsCleanSection (renamed name subsection) (λ s one. record { named = clean; blanks = one.blanks; held_blanks = one.held_blanks; held = one.held }) marks old.sections kept.1.sections;
+        blanks = kept.1.blanks;
+        names = kept.1.names;
+      },
+    )
+
+kept_by_renaming : (name : List ℕ) (subsection : Option (List ℕ)) (new_name : List ℕ) (new_subsection : Option (List ℕ)) (result : Result (Unit {0}) RenameError) (old new : State)
+    → is_nameless (made_header new_name new_subsection) ≡ false → Keeps old → IsRenamedOfSome name subsection new_name new_subsection result old new → Keeps new
+kept_by_renaming name subsection new_name new_subsection (Err e) old new clean kept is = subst Keeps (sym is.err) kept
+kept_by_renaming name subsection new_name new_subsection (Ok done) old new clean kept is =
+    let valid = found_headed _ (not is.told.0) (is_made_name new_name) (is_valid_or_none new_subsection) (is_full old.used (header_bytes new_name new_subsection)) (no_cause rename_refusal _ done is.told.2) in
+    subst Keeps (sym is.renamed.3) (kept_by_marks is.renamed.0 new_name new_subsection new.used old valid clean kept)
+
 -- so does an entry that is rewritten
 kept_by_rewriting : {E : Type 0} (refusal : Cause → E) (instead : InsteadOf) (place : ℕ × ℕ) (key value : List ℕ) (result : Result (Unit {0}) E) (old new : State) → Keeps old
     → IsRewritten refusal instead place key value result old new → Keeps new
@@ -164,6 +255,8 @@ kept_by_expansion asks result old new included kept is = left result is.0 is.2 (
 
 kept_by : (call : Call) (old new : State) → IsCleanCall call old → Keeps old → LeavesFile call old new → Keeps new
 kept_by (Edits edit ending) old new clean kept leaves = kept_by_edit edit old new ending clean.0 clean.1 kept leaves
+kept_by (SetsSomewhere name subsection key value result) old new clean kept leaves = kept_by_setting leaves.0 name subsection key value result old new clean kept leaves.1
+kept_by (RenamesSome name subsection new_name new_subsection result) old new clean kept leaves = kept_by_renaming name subsection new_name new_subsection result old new clean kept leaves
 kept_by (SetsExisting key value result) old new clean kept leaves = kept_where (value_place key (λ _. true) old) key value result old new kept leaves
 kept_by (SetsAllExisting key values result) old new clean kept (inl unset) = subst Keeps (sym unset.3) kept
 kept_by (SetsAllExisting key values result) old new clean kept (inr set) = kept_by_rewritings set_refusal key.name set.2 values result old new kept set.4

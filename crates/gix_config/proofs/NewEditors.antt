@@ -1,5 +1,5 @@
 -- New editors of the sections of a state are editors; where the state is clean, they write spaces and tabs before names.
-use Rattle.std.proofs.Common.{◌≡◌, ◌==◌, ◌&&◌, ℕ, Bool, true, false, List, [], ◌∷◌, filter, Option, Some, None, refl, ap, sym, subst, ◌∙◌}
+use Rattle.std.proofs.Common.{◌≡◌, ◌==◌, ◌&&◌, ℕ, Bool, true, false, List, [], ◌∷◌, filter, Option, Some, None, inl, inr, refl, ap, sym, subst, ◌∙◌}
 use Rattle.std.specs.List.{last_or, list_all, AllByRecursion}
 use Rattle.gitconf_text.specs.Bytes.{is_blank}
 use Rattle.gitconf_text.specs.Part.{Item}
@@ -10,10 +10,11 @@ use Rattle.gitconf_state.specs.Edits.{has_blank_leading, items_of_numbered, numb
 use Rattle.gitconf_state.specs.Editors.{Editor, editor_of}
 use Rattle.gitconf_state.specs.LineEnds.{file_line_end}
 use Rattle.gitconf_state.specs.Lookup.{is_named, listing}
-use Rattle.gitconf_state.specs.State.{HasItems, HasSectionItems, SectionState, State, is_item}
+use Rattle.gitconf_state.specs.State.{HasItems, HasSectionItems, SectionState, State, is_item, with_sections}
 use Rattle.gitconf_state.proofs.Edits.Items.{are_blanks, file_line_end_is, one_line_end, spacing_blank, spacing_fits}
 use Rattle.gitconf_state.proofs.Edits.Lists.{filter_both}
 use Rattle.gitconf_lookups.specs.Picks.{picked}
+use Rattle.gitconf_lookups.specs.SomeSections.{AreSome}
 use Rattle.gitconf_lookups.specs.ValuePlaces.{editor_of_numbered}
 use Rattle.gix_config.specs.SectionEditors.{with_leading}
 
@@ -39,6 +40,16 @@ picked_holds P name subsection keeps state s all is =
 numbered_holds : (P : SectionState → Type 0) (number : ℕ) (state : State) (s : SectionState) → AllByRecursion P state.sections → numbered number state ≡ Some s → P s
 numbered_holds P number state s all is = last_holds P (λ (t : SectionState). t.number == number) None state.sections s (none_holds P) all is
 
+-- what holds of all holds of some
+some_hold : {A : Type 0} (P : A → Type 0) (xs some : List A) → AreSome xs some → AllByRecursion P xs → AllByRecursion P some
+some_hold P [] some are all = subst (AllByRecursion P) (sym are) all
+some_hold P (x ∷ xs) some (inl first) all = subst (AllByRecursion P) (sym first.1) (all.0, some_hold P xs first.0 first.2 all.1)
+some_hold P (x ∷ xs) some (inr others) all = some_hold P xs some others all.1
+
+picked_some_holds : (P : SectionState → Type 0) (name : List ℕ) (subsection : Option (List ℕ)) (keeps : Meta → Bool) (state : State) (some : List SectionState) (s : SectionState)
+    → AllByRecursion P state.sections → AreSome state.sections some → picked name subsection keeps (with_sections some state) ≡ Some s → P s
+picked_some_holds P name subsection keeps state some s all are is = picked_holds P name subsection keeps (with_sections some state) s (some_hold P state.sections some are all) is
+
 -- an editor with the blanks of items
 of_items : (items : List Item) (state : State) → list_all is_item items ≡ true
     → IsEditor (record { spacing = spacing_of items; line_end = file_line_end state; ends = true })
@@ -49,6 +60,10 @@ of_items items state all =
 pub editor_picked : (name : List ℕ) (subsection : Option (List ℕ)) (keeps : Meta → Bool) (state : State) (s : SectionState) → HasItems state
     → picked name subsection keeps state ≡ Some s → IsEditor (editor_of state s)
 editor_picked name subsection keeps state s has is = of_items s.items state (picked_holds HasSectionItems name subsection keeps state s has.sections is).items
+
+pub editor_picked_of_some : (name : List ℕ) (subsection : Option (List ℕ)) (keeps : Meta → Bool) (state : State) (some : List SectionState) (s : SectionState) → HasItems state
+    → AreSome state.sections some → picked name subsection keeps (with_sections some state) ≡ Some s → IsEditor (editor_of state s)
+editor_picked_of_some name subsection keeps state some s has are is = of_items s.items state (picked_some_holds HasSectionItems name subsection keeps state some s has.sections are is).items
 
 pub editor_numbered : (number : ℕ) (state : State) (s : SectionState) → HasItems state → numbered number state ≡ Some s → IsEditor (editor_of state s)
 editor_numbered number state s has is = of_items s.items state (numbered_holds HasSectionItems number state s has.sections is).items
@@ -79,6 +94,11 @@ pub clean_picked : (name : List ℕ) (subsection : Option (List ℕ)) (keeps : M
     → picked name subsection keeps state ≡ Some s → has_blank_leading (editor_of state s) ≡ true
 clean_picked name subsection keeps state s clean is =
     leading_told (spacing_of s.items).leading (spacing_blank s.items (picked_holds IsCleanSection name subsection keeps state s clean.sections is).blanks)
+
+pub clean_picked_of_some : (name : List ℕ) (subsection : Option (List ℕ)) (keeps : Meta → Bool) (state : State) (some : List SectionState) (s : SectionState) → IsClean state
+    → AreSome state.sections some → picked name subsection keeps (with_sections some state) ≡ Some s → has_blank_leading (editor_of state s) ≡ true
+clean_picked_of_some name subsection keeps state some s clean are is =
+    leading_told (spacing_of s.items).leading (spacing_blank s.items (picked_some_holds IsCleanSection name subsection keeps state some s clean.sections are is).blanks)
 
 pub clean_numbered : (number : ℕ) (state : State) (s : SectionState) → IsClean state → numbered number state ≡ Some s → has_blank_leading (editor_of state s) ≡ true
 clean_numbered number state s clean is =

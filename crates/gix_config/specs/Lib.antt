@@ -11,4 +11,5 @@ pub mod MultiValueEditors
 pub mod AloneEditors
 pub mod Environment
 pub mod Repository
+pub mod Renamed
 pub mod Headline

@@ -16,14 +16,15 @@ ghost use Rattle.gitconf_state.specs.Edit.{new_section};
 ghost use Rattle.gitconf_items.specs.EventList.{keeps_token};
 ghost use Rattle.gitconf_items.specs.TokenDocument.{keeps_meaning};
 ghost use Rattle.gitconf_sources.specs.declared.source.Trust.{Trust};
-ghost use Rattle.gitconf_state.specs.Edits.{Count, Done, Edit, Raw, Remove, RemoveMarked, SetTrust, answer, apply, has_blank_leading, new_bytes, numbered, IsEditor};
+ghost use Rattle.gitconf_state.specs.Edits.{Count, Detached, Done, Edit, Raw, Remove, RemoveMarked, RemoveNumbered, SetTrust, answer, apply, has_blank_leading, new_bytes, numbered, IsEditor};
 ghost use Rattle.gitconf_state.specs.Editors.{Editor, editor_of};
-ghost use Rattle.gitconf_state.specs.State.{document_of, entries_of, HasItems, SectionState, State};
+ghost use Rattle.gitconf_state.specs.State.{document_of, entries_of, HasItems, SectionState, State, with_sections};
 ghost use Rattle.gitconf_includes.specs.Expansion.{Asks};
 ghost use Rattle.gitconf_includes.specs.Laws.{AreHeaded};
 ghost use Rattle.gitconf_loaders.specs.Globals.{home_rules};
 ghost use Rattle.gitconf_lookups.specs.Lookups.{implicit_at, value_at, values_at};
 ghost use Rattle.gitconf_lookups.specs.Picks.{picked};
+ghost use Rattle.gitconf_lookups.specs.SomeSections.{AreSome};
 ghost use Rattle.gitconf_sources.specs.Key.{Key};
 ghost use Rattle.gitconf_lookups.specs.ValuePlaces.{editor_of_numbered};
 ghost use Rattle.gix_config.specs.Headline.{AreCleanCalls, IsOneEnding, Call, Ending, Ends, Runs, no_memory};
@@ -31,6 +32,7 @@ ghost use Rattle.gitconf_text.specs.declared.memory.NoMemory.{NoMemory};
 ghost use Rattle.bstr.specs.declared.bstring.BString.{BString};
 ghost use Rattle.gitconf_body.specs.Refusals.{header_refusal, span_refusal, value_refusal};
 ghost use Rattle.gitconf_body.specs.declared.value.Error.{Error as ValueError};
+ghost use Rattle.gitconf_store.specs.Removals.{IsTakenOut};
 ghost use Rattle.gitconf_store.specs.RenameErrors.{rename_refusal};
 ghost use Rattle.gitconf_store.specs.SetErrors.{set_refusal};
 ghost use Rattle.gitconf_store.specs.declared.rename_section.Error.{Error as RenameError};
@@ -47,12 +49,15 @@ pub use gitconf_includes::laws as includes;
 /// Those of files that are loaded by their paths.
 pub use gitconf_loaders::laws as loaders;
 
-/// A new editor writes what edits ask of an editor: for a section that is found by its names or its number, for one that is made, and for a
-/// value in the section of a number. It stays so with other blanks before names, and with line endings switched on or off. What it asks of
+/// A new editor writes what edits ask of an editor: for a section that is found by its names, whatever a filter answers, or by its number, for one
+/// that is made, and for a value in the section of a number. It stays so with other blanks before names, and with line endings switched on or off. What it asks of
 /// the state holds of every file (`state` of [`File::sections`](crate::file::File::sections)).
 pub fn new_editors_are_editors()
     ensures found { (name : List ℕ) (subsection : Option (List ℕ)) (keeps : Meta → Bool) (state : State) (s : SectionState) → HasItems state
         → picked name subsection keeps state ≡ Some s → IsEditor (editor_of state s) }
+    // Whatever a filter answers.
+    ensures found_of_some { (name : List ℕ) (subsection : Option (List ℕ)) (keeps : Meta → Bool) (state : State) (some : List SectionState) (s : SectionState)
+        → HasItems state → AreSome state.sections some → picked name subsection keeps (with_sections some state) ≡ Some s → IsEditor (editor_of state s) }
     ensures of_number { (number : ℕ) (state : State) (s : SectionState) → HasItems state → numbered number state ≡ Some s → IsEditor (editor_of state s) }
     ensures made { (name : List ℕ) (subsection : Option (List ℕ)) (state : State) → IsEditor (editor_of state (new_section name subsection state)) }
     ensures value { (number : ℕ) (state : State) → HasItems state → IsEditor (editor_of_numbered number state) }
@@ -64,6 +69,10 @@ pub fn new_editors_are_editors()
 pub fn new_editors_of_clean_files_put_blanks()
     ensures found { (name : List ℕ) (subsection : Option (List ℕ)) (keeps : Meta → Bool) (state : State) (s : SectionState) → IsClean state
         → picked name subsection keeps state ≡ Some s → has_blank_leading (editor_of state s) ≡ true }
+    // Whatever a filter answers.
+    ensures found_of_some { (name : List ℕ) (subsection : Option (List ℕ)) (keeps : Meta → Bool) (state : State) (some : List SectionState) (s : SectionState)
+        → IsClean state → AreSome state.sections some → picked name subsection keeps (with_sections some state) ≡ Some s
+        → has_blank_leading (editor_of state s) ≡ true }
     ensures of_number { (number : ℕ) (state : State) (s : SectionState) → IsClean state → numbered number state ≡ Some s
         → has_blank_leading (editor_of state s) ≡ true }
     ensures made { (name : List ℕ) (subsection : Option (List ℕ)) (state : State)
@@ -122,6 +131,10 @@ pub fn calls_end_as_their_contracts_say()
     ensures marked { (number : ℕ) (key : List ℕ) (marks : List Bool) (result : Result ℕ NoMemory) (old new : State)
         → IfOk result (λ n. Count n ≡ answer (RemoveMarked number key marks) old) → OnOk result (new ≡ apply (RemoveMarked number key marks) old)
         → OnErr result (new ≡ old) → (ending : Ending) × Ends (RemoveMarked number key marks) old ending new × IsOneEnding Count (λ _. no_memory) ending result }
+    // A section that was found, whatever a filter answers, and is taken out.
+    ensures taken { (s : SectionState) (result : Result (Option Detached) NoMemory) (old new : State) → IsTakenOut (Some s) result old new
+        → OnErr result (new ≡ old) → (ending : Ending) × Ends (RemoveNumbered s.number) old ending new
+        × IsOneEnding (λ _. answer (RemoveNumbered s.number) old) (λ _. no_memory) ending result }
     ensures trusted { (number : ℕ) (trust : Trust) (result : Result (Unit {0}) NoMemory) (old new : State)
         → OnOk result (new ≡ apply (SetTrust number trust) old) → OnErr result (new ≡ old)
         → (ending : Ending) × Ends (SetTrust number trust) old ending new × IsOneEnding (λ _. Done) (λ _. no_memory) ending result }
@@ -129,7 +142,8 @@ pub fn calls_end_as_their_contracts_say()
 
 /// After every list of calls that change a file, done or refused, each as its contract says, what is written of the file reads back.
 ///
-/// The calls are all edits, values of existing entries set, one or several, entries deleted, and includes resolved. The file was loaded,
+/// The calls are all edits, values set and sections renamed whatever a filter answers, values of existing entries set, one or several, entries
+/// deleted, and includes resolved. The file was loaded,
 /// whole or lossy, or has items such as a text may have and is clean: so is one that a loader made ([`files_of_variables_are_clean`], [`repositories_are_clean`], and
 /// [`loaders`]). Of the calls it is asked that edits are handed what the library makes ([`new_editors_are_editors`]); that no header has an empty
 /// name and no subsection; that blanks before names that were set are spaces and tabs; and that no file that is appended or included has an

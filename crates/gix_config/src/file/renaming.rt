@@ -1,14 +1,13 @@
 //! Renaming sections of a file.
 ghost use Rattle.std.specs.Fn.{ComputesKey};
 ghost use Rattle.std.specs.Option.{option_copied};
-ghost use Rattle.std.specs.Prelude.{◌≡◌, ◌+◌, ◌≤◌, option_map, Bool, OnErr, OnOk, true};
+ghost use Rattle.std.specs.Prelude.{◌≡◌, option_map, Bool, OnErr, true};
 ghost use Rattle.bstr.specs.Owned.{bstring_bytes};
 ghost use Rattle.gitconf_sources.specs.Metadata.{Meta};
-ghost use Rattle.gitconf_state.specs.Edit.{header_bytes, with_used};
 ghost use Rattle.gitconf_state.specs.Edits.{RenameAll};
 ghost use Rattle.gitconf_store.specs.Edited.{IsEdited};
 ghost use Rattle.gitconf_store.specs.RenameErrors.{rename_refusal};
-ghost use Rattle.gitconf_store.specs.Renamings.{AreSomeRenamed, IsToldOfSome};
+ghost use Rattle.gix_config.specs.Renamed.{IsRenamedOfSome};
 
 use crate::file::{File, Metadata, rename_section};
 use bstr::BString;
@@ -62,13 +61,9 @@ impl File {
         ensures exact { (keeps : Meta → Bool) → ComputesKey F.FnMut keeps filter
             → IsEdited rename_refusal (RenameAll name.now (option_copied subsection_name.entry) keeps new_name.now
             (option_map bstring_bytes new_subsection_name)) result self.old self.new }
-        // For any filter.
-        ensures some { OnOk result (AreSomeRenamed name.now (option_copied subsection_name.entry) new_name.now
-            (option_map bstring_bytes new_subsection_name) self.old self.new) }
-        ensures err { OnErr result (self.new ≡ self.old) }
-        ensures put { OnOk result (self.new.used ≡ self.old.used + header_bytes new_name.now (option_map bstring_bytes new_subsection_name)) }
-        ensures told { IsToldOfSome name.now (option_copied subsection_name.entry) new_name.now (option_map bstring_bytes new_subsection_name)
-            result self.old }
+        // For any filter, even one that changes its mind.
+        ensures some { IsRenamedOfSome name.now (option_copied subsection_name.entry) new_name.now (option_map bstring_bytes new_subsection_name)
+            result self.old self.new }
     {
         self.store.rename_section_filter(
             name,

@@ -1,7 +1,7 @@
 use Rattle.std.proofs.Common.{◌≡◌, Result, Ok, Err, refl}
 use Rattle.std.specs.Prelude.{IfErr, IfOk, option_map}
 use Rattle.bstr.specs.Owned.{bstring_bytes}
-use Rattle.gitconf_state.specs.Edits.{Count, Done, Raw, Remove, RemoveMarked, SetTrust}
+use Rattle.gitconf_state.specs.Edits.{Answer, Count, Done, Raw, Remove, RemoveMarked, RemoveNumbered, SetTrust, answer}
 use Rattle.gitconf_text.specs.declared.memory.NoMemory.{NoMemory}
 use Rattle.gitconf_body.specs.Refusals.{header_refusal, span_refusal, value_refusal}
 use Rattle.gitconf_store.specs.RenameErrors.{rename_refusal}
@@ -15,10 +15,10 @@ only_memory : {T : Type 0} (result : Result T NoMemory) → IfErr result (λ e. 
 only_memory (Ok t) = tt
 only_memory (Err e) = refl
 
--- what returns nothing shows that it is done
-nothing_told : (result : Result (Unit {0}) NoMemory) → IfOk result (λ _. Done ≡ Done)
-nothing_told (Ok t) = refl
-nothing_told (Err e) = tt
+-- an answer that no result shows is the same
+same_told : {T : Type 0} (told : Answer) (result : Result T NoMemory) → IfOk result (λ _. told ≡ told)
+same_told told (Ok t) = refl
+same_told told (Err e) = tt
 
 pub returns-clause-pushes : goal.returns-clause-pushes
 returns-clause-pushes c = is_step (λ _. Done) value_refusal
@@ -46,6 +46,11 @@ pub returns-clause-marked : goal.returns-clause-marked
 returns-clause-marked c = λ number key marks result old new told ok err.
     is_free_step Count no_memory (RemoveMarked number key marks) result old new refl refl refl (only_memory result) told ok err
 
+pub returns-clause-taken : goal.returns-clause-taken
+returns-clause-taken c = λ s result old new is err.
+    let told = answer (RemoveNumbered s.number) old in
+    is_free_step (λ _. told) no_memory (RemoveNumbered s.number) result old new refl refl refl (only_memory result) (same_told told result) is.ok err
+
 pub returns-clause-trusted : goal.returns-clause-trusted
 returns-clause-trusted c = λ number trust result old new ok err.
-    is_free_step (λ _. Done) no_memory (SetTrust number trust) result old new refl refl refl (only_memory result) (nothing_told result) ok err
+    is_free_step (λ _. Done) no_memory (SetTrust number trust) result old new refl refl refl (only_memory result) (same_told Done result) ok err

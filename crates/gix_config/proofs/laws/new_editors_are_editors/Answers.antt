@@ -1,8 +1,11 @@
-use Rattle.gix_config.proofs.NewEditors.{editor_made, editor_numbered, editor_of_value, editor_picked, ended_by, led_by}
+use Rattle.gix_config.proofs.NewEditors.{editor_made, editor_numbered, editor_of_value, editor_picked, editor_picked_of_some, ended_by, led_by}
 use Rattle.gix_config.proofs.laws.new_editors_are_editors.Goals as goal
 
 pub returns-clause-found : goal.returns-clause-found
 returns-clause-found c = editor_picked
+
+pub returns-clause-found_of_some : goal.returns-clause-found_of_some
+returns-clause-found_of_some c = editor_picked_of_some
 
 pub returns-clause-of_number : goal.returns-clause-of_number
 returns-clause-of_number c = editor_numbered
