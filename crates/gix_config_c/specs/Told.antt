@@ -2,9 +2,7 @@
 use Rattle.std.specs.Prelude.{ℕ, Bool, false, List, Option, Some, None, is_some}
 use Rattle.std.specs.Map.{lookup}
 use Rattle.std.specs.Str.{bytes_eq}
-use Rattle.std.specs.declared.alloc.Global.{Global}
-use Rattle.std.specs.declared.string.String.{String}
-use Rattle.gitconf_sources.specs.InMemory.{entry_at, reported_entries}
+use Rattle.gitconf_sources.specs.InMemory.{entry_at}
 use Rattle.gitconf_sources.specs.Reports.{FileReport, IsFile, NoFile, Unopened, Unread}
 use Rattle.gitconf_sources.specs.declared.source.Trust.TheVariants.{Full}
 use Rattle.gix_config_c.specs.declared.told.Report.{Report}
@@ -20,10 +18,6 @@ report_of reports.Unread = Unread
 -- what was told of paths
 abbrev pub Tells : Type 0
 Tells = List (List ℕ × FileReport)
-
--- the entries of a tree, each under the bytes of its path
-abbrev pub told_entries : List (String Global × Report) → Tells
-told_entries entries = reported_entries report_of entries
 
 -- what is at a path; one of which nothing was told can't be opened
 abbrev pub told_at : Tells → (path : List ℕ) → FileReport

@@ -1,9 +1,6 @@
 -- What a program told of variables of the environment.
 use Rattle.std.specs.Prelude.{ℕ, List, [], ◌∷◌, if◌then◌else◌, Option, Some, None, codes, string_bytes}
 use Rattle.gitconf_text.specs.SectionKeys.{as_utf8}
-use Rattle.std.specs.declared.alloc.Global.{Global}
-use Rattle.std.specs.declared.string.String.{String}
-use Rattle.gitconf_sources.specs.InMemory.{reported_entries}
 use Rattle.gitconf_sources.specs.Reports.{HasText, NoText, NotSet, VariableReport}
 use Rattle.gix_config_c.specs.Told.{is_told}
 use Rattle.gix_config_c.specs.declared.variables.Variable.{Variable}
@@ -18,10 +15,6 @@ reported variables.IllFormed = NoText
 -- what is known of a variable that is set to these bytes
 abbrev pub set_to : (bytes : List ℕ) → VariableReport
 set_to bytes = elim (as_utf8 bytes) [ Some text ↦ HasText text | None ↦ NoText ]
-
--- the entries of a tree, each under the bytes of its name
-abbrev pub told_variables : List (String Global × Variable) → List (List ℕ × VariableReport)
-told_variables entries = reported_entries reported entries
 
 -- the first of these variables of which nothing was told
 unfoldable pub first_untold : List (List ℕ × VariableReport) → (names : List (List ℕ)) → Option (List ℕ)

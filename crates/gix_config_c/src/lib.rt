@@ -46,6 +46,7 @@ pub mod slot;
 mod telling;
 mod texts;
 pub mod told;
+pub mod told_list;
 mod told_places;
 pub mod variables;
 
