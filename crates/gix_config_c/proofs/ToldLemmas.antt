@@ -1,11 +1,11 @@
 -- What was told, in a tree and as a list.
 use Rattle.std.proofs.Common.{◌≡◌, List, [], ◌∷◌, Option, Some, None, refl, string_bytes}
 use Rattle.std.specs.Prelude.{is_some}
-use denote.Bor.{Bor}
 use Rattle.std.specs.Option.{option_copied, option_map}
 use Rattle.std.specs.List.{AllZip}
 use Rattle.std.specs.declared.alloc.Global.{Global}
 use Rattle.std.specs.declared.string.String.{String}
+use denote.Bor.{Bor}
 use Rattle.gitconf_sources.specs.InMemory.{reported_entries}
 
 -- what is told of a value doesn't change whether there is one

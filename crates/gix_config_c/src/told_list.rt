@@ -11,7 +11,7 @@ use std::alloc::Global;
 use std::collections::BTreeMap;
 use std::marker::{Model, PhantomData};
 
-/// What is told of a name, by which what `R` stands for is known.
+/// What is told of a name. What is known by it is of the type `R`, in contracts alone.
 pub trait Tells<R>: Clone + Drop {
     ghost use Rattle.std.specs.Prelude.{◌≡◌};
 
