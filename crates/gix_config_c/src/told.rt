@@ -1,8 +1,5 @@
 //! What a program told of files and of variables: where loads of programs in C have these from.
 ghost use Rattle.std.specs.Prelude.{◌≡◌, false};
-ghost use Rattle.gitconf_sources.specs.Reports.{IsReadOf, is_there, trust_of};
-ghost use Rattle.std.specs.Option.{option_map};
-ghost use Rattle.gix_config_c.specs.Told.{report_of, text_told, told_at};
 
 use crate::told_list::{Tells, ToldList};
 use crate::variables::ToldVariables;

@@ -1,10 +1,4 @@
 //! What a program told of names: of files by their paths, and of variables by their names.
-ghost use Rattle.std.specs.Prelude.{◌≡◌, [], IfOk, OnErr, OnOk, string_bytes};
-ghost use Rattle.std.specs.Map.{lookup};
-ghost use Rattle.std.specs.Option.{option_map};
-ghost use Rattle.std.specs.Str.{bytes_eq};
-ghost use Rattle.gitconf_sources.specs.InMemory.{with_entry};
-ghost use Rattle.gix_config_c.specs.Told.{is_told};
 
 use gix_config::NoMemory;
 use std::alloc::Global;
