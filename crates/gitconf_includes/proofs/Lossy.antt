@@ -36,13 +36,13 @@ listed_first s t ss ts same = cc
 listed_behind : (s t : SectionState) (ss ts : List SectionState) → map listing (s ∷ ss) ≡ map listing (t ∷ ts) → map listing ss ≡ map listing ts
 listed_behind s t ss ts same = cc
 
-same_length : (ss ts : List SectionState) → map listing ss ≡ map listing ts → length ss ≡ length ts
+pub same_length : (ss ts : List SectionState) → map listing ss ≡ map listing ts → length ss ≡ length ts
 same_length [] [] same = refl
 same_length [] (t ∷ ts) same = absurd (cc)
 same_length (s ∷ ss) [] same = absurd (cc)
 same_length (s ∷ ss) (t ∷ ts) same = ap suc (same_length ss ts (listed_behind s t ss ts same))
 
-same_numbered : (first : ℕ) (ss ts : List SectionState) → map listing ss ≡ map listing ts → map listing (numbered_from first ss) ≡ map listing (numbered_from first ts)
+pub same_numbered : (first : ℕ) (ss ts : List SectionState) → map listing ss ≡ map listing ts → map listing (numbered_from first ss) ≡ map listing (numbered_from first ts)
 same_numbered first [] [] same = refl
 same_numbered first [] (t ∷ ts) same = absurd (cc)
 same_numbered first (s ∷ ss) [] same = absurd (cc)
@@ -52,7 +52,7 @@ same_numbered first (s ∷ ss) (t ∷ ts) same =
     λ i. record { number = first; meta = (here i).meta; document = (here i).document } ∷ later i
 
 -- what is held after the last one is not asked
-listed_held : (line_end : List ℕ) (front : List Item) (ss : List SectionState) → map listing (held_behind_last line_end front ss) ≡ map listing ss
+pub listed_held : (line_end : List ℕ) (front : List Item) (ss : List SectionState) → map listing (held_behind_last line_end front ss) ≡ map listing ss
 listed_held line_end front [] = refl
 listed_held line_end front (s ∷ []) = refl
 listed_held line_end front (s ∷ t ∷ ss) = ap (λ l. listing s ∷ l) (listed_held line_end front (t ∷ ss))
@@ -61,7 +61,7 @@ documents_listed : (ss : List SectionState) → map section_document ss ≡ map 
 documents_listed [] = refl
 documents_listed (s ∷ ss) = ap (λ l. section_document s ∷ l) (documents_listed ss)
 
-documents_alike : (one other : State) → SayTheSame one other → document_of one ≡ document_of other
+pub documents_alike : (one other : State) → SayTheSame one other → document_of one ≡ document_of other
 documents_alike one other same =
     let documents = documents_listed one.sections ∙ ap (map (λ (l : Listed). l.document)) same.sections ∙ sym (documents_listed other.sections) in
     λ i. record { front = same.front i; sections = documents i }
@@ -136,7 +136,7 @@ metas_alike place (s ∷ ss) (t ∷ ts) lengths all too =
     let later = metas_alike place ss ts (cc) all.1 too.1 in
     λ i. here i ∷ later i
 
-loaded_alike : (text : List ℕ) (place : Meta) (full lossy : State) → IsLoaded false text place full → IsLoaded true text place lossy → SayTheSame full lossy
+pub loaded_alike : (text : List ℕ) (place : Meta) (full lossy : State) → IsLoaded false text place full → IsLoaded true text place lossy → SayTheSame full lossy
 loaded_alike text place full lossy is too =
     let whole_load : IsFullLoad is.0 full = record { tokens = is.2.tokens_are; held = is.2.held } in
     let part_load : IsLoad keeps_meaning too.0 lossy = record { tokens = too.2.tokens_are; held = too.2.held } in

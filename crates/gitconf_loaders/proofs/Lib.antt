@@ -4,6 +4,8 @@ pub mod Several
 pub mod Clean
 pub mod Seen
 pub mod Made
+pub mod LossyLoads
+pub mod OneLoader
 pub mod OneText
 pub mod UrlLemmas
 pub mod Asked

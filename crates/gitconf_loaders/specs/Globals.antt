@@ -44,5 +44,6 @@ IsGlobal variables places table r = (r ≡ Err 27)
     × Then (IsLoadOfPaths true false (record { rules = home_rules places; table = table }) found) IsOrEmpty r
 
 -- the causes of its refusals; or memory ran out
-abbrev pub IsGlobalCause : Places → Option (List ℕ → FileReport) → Error → Type 0
-IsGlobalCause places table e = (e ≡ Memory) ⊎ (options : Options) × (rules_of options ≡ home_rules places) × (found : List Meta) × IsLoadCause true options table found e
+abbrev pub IsGlobalCause : Option (List ℕ → VariableReport) → Places → Option (List ℕ → FileReport) → Error → Type 0
+IsGlobalCause variables places table e = (e ≡ Memory) ⊎ (options : Options) × (rules_of options ≡ home_rules places)
+    × (found : List Meta) × AreFound variables places table global_sources found × IsLoadCause true options table found e

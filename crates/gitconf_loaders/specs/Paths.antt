@@ -1,6 +1,6 @@
 -- Files that are loaded by their paths, one after the other.
 -- Source: gix-config. That running out of memory in a source of files always refuses the load is this project's own rule.
-use Rattle.std.specs.Prelude.{◌≡◌, ◌⊎◌, ◌^◌, ℕ, ◌+◌, ltb, leb, length, Bool, true, false, not, ◌&&◌, ◌||◌, if◌then◌else◌, List, [], ◌∷◌, Option, Some, None, Result, Ok, Err}
+use Rattle.std.specs.Prelude.{◌≡◌, ◌≢◌, ◌⊎◌, ◌^◌, ℕ, ◌+◌, ltb, leb, length, Bool, true, false, not, ◌&&◌, ◌||◌, if◌then◌else◌, List, [], ◌∷◌, Option, Some, None, Result, Ok, Err, IfErr}
 use Rattle.std.specs.List.{list_any}
 use Rattle.std.specs.Option.{option_map}
 use Rattle.std.specs.Result.{result_map_both}
@@ -34,6 +34,10 @@ LoadsOn next (Err number) r = r ≡ Err number
 -- one step, and then the next
 abbrev pub Then : {T U : Type 0} → (first : Result T ℕ → Type 0) → (next : T → Result U ℕ → Type 0) → Result U ℕ → Type 0
 Then {T} first next r = (mid : Result T ℕ) × first mid × LoadsOn next mid r
+
+-- apart from running out of memory, there is one outcome
+abbrev pub HasOneOutcome : {T : Type 0} → (Outcome : Result T ℕ → Type 0) → Type 0
+HasOneOutcome {T} Outcome = (one other : Result T ℕ) → IfErr one (λ n. n ≢ 27) → IfErr other (λ n. n ≢ 27) → Outcome one → Outcome other → one ≡ other
 
 -- the value after a call that changes it, or the number of the call's refusal
 abbrev pub left_by : {T E : Type 0} → (number : E → ℕ) → Result Unit E → (now : T) → Result T ℕ

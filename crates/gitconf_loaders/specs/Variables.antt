@@ -61,14 +61,25 @@ IsCountCause variables (env.InvalidConfigCount input) = May variables (λ var. H
 IsCountCause variables env.Memory = Unit {0}
 IsCountCause variables e = ⊥
 
--- What refusals of an entry say besides their numbers: which entry it is, which part of it isn't UTF-8, and a key without a dot. No include
--- and no file causes one.
-abbrev pub IsEntryCause : (index : ℕ) → Error → Type 0
-IsEntryCause index (env.IllformedUtf8 at kind) = (at ≡ index) × ((kind.now ≡ codes "key") ⊎ (kind.now ≡ codes "value"))
-IsEntryCause index (env.InvalidKeyId at) = at ≡ index
-IsEntryCause index (env.InvalidKeyValue at key) = (at ≡ index) × (parsed_key (string_bytes key) ≡ None)
-IsEntryCause index (env.InvalidValueId at) = at ≡ index
-IsEntryCause index (env.Section e) = (cause : Cause) × (e ≡ header_refusal cause)
-IsEntryCause index (env.SectionValue e) = (cause : Cause) × (e ≡ value_refusal cause)
-IsEntryCause index env.Memory = Unit {0}
-IsEntryCause index e = ⊥
+-- what the variable of an entry's value is set to, by the value that was asked
+abbrev pub value_report : (value : Option (List ℕ)) → VariableReport
+value_report (Some text) = HasText text
+value_report None = NoText
+
+-- What refusals of an entry say besides their numbers, by what the variables of its key and of its value are set to: which entry it is; which of
+-- the two isn't set, or isn't UTF-8; and a key without a dot. No include and no file causes one.
+abbrev pub IsEntryCause : (index : ℕ) → (key value : VariableReport) → Error → Type 0
+IsEntryCause index key value (env.IllformedUtf8 at kind) =
+    (at ≡ index) × (((kind.now ≡ codes "key") × (key ≡ NoText)) ⊎ ((kind.now ≡ codes "value") × (value ≡ NoText)))
+IsEntryCause index key value (env.InvalidKeyId at) = (at ≡ index) × (key ≡ NotSet)
+IsEntryCause index key value (env.InvalidKeyValue at text) = (at ≡ index) × (key ≡ HasText (string_bytes text)) × (parsed_key (string_bytes text) ≡ None)
+IsEntryCause index key value (env.InvalidValueId at) = (at ≡ index) × (value ≡ NotSet)
+IsEntryCause index key value (env.Section e) = (cause : Cause) × (e ≡ header_refusal cause)
+IsEntryCause index key value (env.SectionValue e) = (cause : Cause) × (e ≡ value_refusal cause)
+IsEntryCause index key value env.Memory = Unit {0}
+IsEntryCause index key value e = ⊥
+
+-- the same by what the variables of an entry report
+abbrev pub IsEntryRefused : Option (List ℕ → VariableReport) → (index : ℕ) → Error → Type 0
+IsEntryRefused variables index e =
+    (key value : VariableReport) × May variables (λ var. (key ≡ var (key_variable index)) × (value ≡ var (value_variable index))) × IsEntryCause index key value e

@@ -59,7 +59,7 @@ pub fn from_globals<F: Files, E: Env>(
     places: &Places,
 ) -> Result<Store, Error>
     ensures loaded { IsGlobal (E.variables env.old) places.now (F.table files.old) (numbered paths_number result) }
-    ensures cause { IfErr result (IsGlobalCause places.now (F.table files.old)) }
+    ensures cause { IfErr result (IsGlobalCause (E.variables env.old) places.now (F.table files.old)) }
     ensures table { F.table files.new ≡ F.table files.old }
     ensures counted { CountsLoad (numbered paths_number result) (F.failures files.old) (F.failures files.new) }
     ensures stays { E.variables env.new ≡ E.variables env.old }

@@ -11,12 +11,13 @@ ghost use Rattle.gitconf_sources.specs.declared.host.Places.{Places};
 ghost use Rattle.gitconf_includes.specs.declared.init.Error.{Error};
 ghost use Rattle.gitconf_includes.specs.Errors.{init_number};
 ghost use Rattle.gitconf_state.specs.Clean.{IsClean};
-ghost use Rattle.gitconf_state.specs.State.{entries_of, State};
+ghost use Rattle.gitconf_state.specs.State.{document_of, entries_of, State};
 ghost use Rattle.gitconf_includes.specs.Expansion.{Asks, IsLoaded};
-ghost use Rattle.gitconf_includes.specs.Laws.{AreHeaded, IncludesHeaded};
+ghost use Rattle.gitconf_includes.specs.Laws.{AreHeaded, IncludesHeaded, SayTheSame, asks_with};
+ghost use Rattle.gitconf_includes.specs.Rules.{Rules};
 ghost use Rattle.gitconf_loaders.specs.Globals.{home_rules, IsGlobal};
 ghost use Rattle.gitconf_loaders.specs.Headed.{AreHeadedAt, IsHeadedText};
-ghost use Rattle.gitconf_loaders.specs.Paths.{IsLoadedFrom, IsLoadOfPaths};
+ghost use Rattle.gitconf_loaders.specs.Paths.{HasOneOutcome, IsLoadedFrom, IsLoadOfPaths};
 ghost use Rattle.gitconf_loaders.specs.Resolving.{AreMadeAlike, IsMadeOf};
 
 /// Files that are loaded by their paths or from a text are clean, those of the machine and of the user too, and have no entry before their
@@ -54,4 +55,27 @@ pub fn a_text_makes_one_file()
     ensures { (asks : Asks) (files : List ℕ → FileReport) (text : List ℕ) (place : Meta) (one other : Result State Error) → asks.table ≡ Some files
         → IfErr one (λ e. init_number e ≢ 27) → IfErr other (λ e. init_number e ≢ 27)
         → IsMadeOf init_number asks text place one → IsMadeOf init_number asks text place other → AreMadeAlike one other }
+{}
+
+/// If the host says what is at each path and what each variable is set to, a load has one outcome, apart from running out of memory: one
+/// file, or a refusal of one number. So it is with a file that is loaded by its path, with several, and with those of the machine and of
+/// the user.
+pub fn loads_have_one_outcome()
+    ensures path { (files : List ℕ → FileReport) (path : List ℕ) (source : Source) → HasOneOutcome (IsLoadedFrom (Some files) path source) }
+    ensures paths { (files : List ℕ → FileReport) (must_exist ignores : Bool) (asks : Asks) (metas : List Meta) → asks.table ≡ Some files
+        → HasOneOutcome (IsLoadOfPaths must_exist ignores asks metas) }
+    ensures globals { (variables : List ℕ → VariableReport) (places : Places) (files : List ℕ → FileReport)
+        → HasOneOutcome (IsGlobal (Some variables) places (Some files)) }
+{}
+
+/// A lossy load says what a full one does, if neither is refused: the same entries, in sections of the same names, numbers and places. So it
+/// is with a text and with files that are loaded by their paths, each with what it includes. Files that say the same have one document.
+pub fn lossy_loads_say_the_same()
+    ensures text { (rules : Rules) (files : List ℕ → FileReport) (text : List ℕ) (place : Meta) (full lossy : State)
+        → IsMadeOf init_number (asks_with false rules files) text place (Ok full) → IsMadeOf init_number (asks_with true rules files) text place (Ok lossy)
+        → SayTheSame full lossy }
+    ensures paths { (rules : Rules) (files : List ℕ → FileReport) (must_exist ignores : Bool) (metas : List Meta) (full lossy : State)
+        → IsLoadOfPaths must_exist ignores (asks_with false rules files) metas (Ok (Some full))
+        → IsLoadOfPaths must_exist ignores (asks_with true rules files) metas (Ok (Some lossy)) → SayTheSame full lossy }
+    ensures document { (one other : State) → SayTheSame one other → document_of one ≡ document_of other }
 {}

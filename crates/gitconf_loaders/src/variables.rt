@@ -4,7 +4,7 @@ ghost use Rattle.std.specs.Option.{option_map};
 ghost use Rattle.std.specs.Result.{result_map_both};
 ghost use Rattle.gitconf_loaders.specs.Errors.{env_number};
 ghost use Rattle.gitconf_loaders.specs.Variables as spec;
-ghost use Rattle.gitconf_loaders.specs.Variables.{IsCount, IsCountCause, IsEntryCause, IsKeyAt, IsValueAt};
+ghost use Rattle.gitconf_loaders.specs.Variables.{IsCount, IsCountCause, IsEntryRefused, IsKeyAt, IsValueAt};
 
 use crate::from_env::Error;
 use gitconf_sources::{Env, EnvVar};
@@ -51,7 +51,7 @@ fn value_variable(alloc: Global, index: usize) -> Result<String, NoMemory>
 /// 24 if its variable isn't set, 22 if it is set to bytes that aren't UTF-8; 27 when out of memory.
 pub fn key_at<E: Env>(alloc: Global, env: &mut E, index: usize) -> Result<String, Error>
     ensures key { IsKeyAt (E.variables env.old) index (result_map_both string_bytes env_number result) }
-    ensures cause { IfErr result (IsEntryCause index) }
+    ensures cause { IfErr result (IsEntryRefused (E.variables env.old) index) }
     ensures stays { E.variables env.new ≡ E.variables env.old }
 {
     let name = key_variable(alloc, index)?;
@@ -69,7 +69,7 @@ pub fn key_at<E: Env>(alloc: Global, env: &mut E, index: usize) -> Result<String
 /// 26 if the variable isn't set; 27 when out of memory.
 pub fn value_at<E: Env>(alloc: Global, env: &mut E, index: usize) -> Result<Option<String>, Error>
     ensures value { IsValueAt (E.variables env.old) index (result_map_both (option_map string_bytes) env_number result) }
-    ensures cause { IfErr result (IsEntryCause index) }
+    ensures cause { IfErr result (IsEntryRefused (E.variables env.old) index) }
     ensures stays { E.variables env.new ≡ E.variables env.old }
 {
     let name = value_variable(alloc, index)?;

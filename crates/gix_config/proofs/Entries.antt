@@ -1,5 +1,5 @@
 -- Entries that variables say, by how the calls that put them end.
-use Rattle.std.proofs.Common.{◌≡◌, ◌≢◌, ℕ, zero, suc, ◌+◌, ◌-◌, ◌<◌, ◌≤◌, ◌==◌, Bool, true, false, List, Option, Some, None, Result, Ok, Err, inr, refl, sym, ap, ◌∙◌, subst, arith}
+use Rattle.std.proofs.Common.{◌≡◌, ◌≢◌, ℕ, zero, suc, ◌+◌, ◌-◌, ◌<◌, ◌≤◌, ◌==◌, Bool, true, false, List, Option, Some, None, Result, Ok, Err, inl, inr, refl, sym, ap, ◌∙◌, subst, arith}
 use Rattle.std.specs.Prelude.{IfErr, IsErrAnd, unwrap_or, ◌||◌}
 use Rattle.std.specs.List.{list_any}
 use Rattle.std.specs.Result.{result_map_both}
@@ -15,7 +15,7 @@ use Rattle.gitconf_body.specs.declared.value.Error.{Error as ValueError}
 use Rattle.gitconf_body.specs.declared.value.Error.TheVariants as value
 use Rattle.gitconf_sources.specs.Key.{Key, parsed_key}
 use Rattle.gitconf_sources.specs.Metadata.{api_meta, Meta}
-use Rattle.gitconf_sources.specs.Reports.{FileReport, VariableReport}
+use Rattle.gitconf_sources.specs.Reports.{FileReport, HasText, May, NoText, NotSet, VariableReport}
 use Rattle.gitconf_sources.specs.declared.host.Places.{Places}
 use Rattle.gitconf_includes.specs.declared.init.Options.{Options}
 use Rattle.gitconf_includes.specs.declared.includes.Error.{Error as Includes}
@@ -31,11 +31,11 @@ use Rattle.gitconf_loaders.specs.Resolving.{MakesOf}
 use Rattle.gitconf_loaders.specs.Globals.{empty_file, home_rules}
 use Rattle.gitconf_loaders.specs.Paths.{CountsLoad, left_by, numbered, Then}
 use Rattle.gitconf_loaders.proofs.Counts.{fault_load, refused_else, renumbered, same}
-use Rattle.gitconf_loaders.specs.Variables.{IsCount, IsCountCause, IsEntryCause, IsKeyAt, IsValueAt}
+use Rattle.gitconf_loaders.specs.Variables.{IsCount, IsCountCause, IsEntryCause, IsEntryRefused, IsKeyAt, IsValueAt, key_variable, reported_key, reported_value, value_report, value_variable}
 use Rattle.gitconf_loaders.specs.declared.from_env.Error.{Error}
 use Rattle.gitconf_loaders.specs.declared.from_env.Error.TheVariants as env
 use Rattle.gitconf_store.specs.Edited.{IsEdited}
-use Rattle.gix_config.specs.Environment.{AreEntriesPut, Edited, env_meta, IsEntryPut, IsEnvCause, IsFromEnv, IsMadeOfEntries, IsOverrides, IsSome, IsValuePushed, IsValuePut, IsPutUnder, IsSectionFor}
+use Rattle.gix_config.specs.Environment.{AreEntriesPut, Edited, env_meta, IsEntryPut, IsEnvCause, IsFirstRefused, IsFromEnv, IsMadeOfEntries, IsOverrides, IsSome, IsValuePushed, IsValuePut, IsPutUnder, IsSectionFor}
 use Rattle.gitconf_lookups.specs.Picks.{picked}
 use Rattle.gix_config.specs.SectionEditors.{making_causes, IsFoundOrMade}
 use Rattle.gix_config.proofs.Numbers.{told_err, told_ok}
@@ -124,6 +124,11 @@ pub entry_put : (variables : Option (List ℕ → VariableReport)) (index : ℕ)
     → IsValueAt variables index (Ok value) → IsPutUnder (parsed_key text) value old r → IsEntryPut variables index old r
 entry_put variables index text value old r key told put = (Ok text, key, (Ok value, told, inr put))
 
+-- what holds of a refusal that is handed on
+pub handed_on : {T : Type 0} (P : Error → Type 0) (e : Error) (result : Result T Error) → P e → IsErrAnd result (λ r. r ≡ e) → IfErr result P
+handed_on P e (Ok made) cause err = absurd err
+handed_on P e (Err r) cause err = subst P (sym err) cause
+
 -- a refusal that is handed on
 pub entry_refused : (variables : Option (List ℕ → VariableReport)) (count index : ℕ) (all old new : State) (e : Error) (result : Result Unit Error) → index < count
     → ((r : Result State ℕ) → AreEntriesPut variables (count - index) index old r → AreEntriesPut variables count 0 all r) → IsEntryPut variables index old (Err (env_number e)) → IsErrAnd result (λ r. r ≡ e)
@@ -131,6 +136,10 @@ pub entry_refused : (variables : Option (List ℕ → VariableReport)) (count in
 entry_refused variables count index all old new e (Ok done) within suffices is err = absurd err
 entry_refused variables count index all old new e (Err r) within suffices is err =
     subst (λ x. AreEntriesPut variables count 0 all (Err (env_number x))) (sym err) (suffices (Err (env_number e)) (one_refused variables count index old (env_number e) within is))
+
+pub first_refused : (variables : Option (List ℕ → VariableReport)) (count index : ℕ) (all mid : State) (e : Error) (result : Result Unit Error) → index < count → AreEntriesPut variables index 0 all (Ok mid)
+    → IsEntryRefused variables index e → IsErrAnd result (λ r. r ≡ e) → IfErr result (IsFirstRefused variables count all)
+first_refused variables count index all mid e result within before cause err = handed_on (IsFirstRefused variables count all) e result (index, mid, within, before, cause) err
 
 -- all are put
 pub all_put : (variables : Option (List ℕ → VariableReport)) (count index : ℕ) (all old : State) → count ≤ index
@@ -204,16 +213,16 @@ includes_count e (Ok made) old new err counts = absurd err
 includes_count {T = T} e (Err r) old new err counts = renumbered T T (includes_number e) (env_number r) old new (ap env_number err ∙ includes_numbers e) (fault_load T (includes_number e) old new counts)
 
 -- what refusals of an entry say
-pub value_cause : (index : ℕ) (e : ValueError) → (cause : Cause) × (e ≡ value_refusal cause) → IsEntryCause index (env_of_value e)
-value_cause index (value.ValueName n) is = is
-value_cause index (value.Span n) is = is
-value_cause index value.Memory is = tt
+pub value_cause : (index : ℕ) (key given : VariableReport) (e : ValueError) → (cause : Cause) × (e ≡ value_refusal cause) → IsEntryCause index key given (env_of_value e)
+value_cause index key given (value.ValueName n) is = is
+value_cause index key given (value.Span n) is = is
+value_cause index key given value.Memory is = tt
 
-pub header_cause : (index : ℕ) (e : HeaderError) → (cause : Cause) × (e ≡ header_refusal cause) → IsEntryCause index (env_of_header e)
-header_cause index header.InvalidName is = is
-header_cause index header.InvalidSubSection is = is
-header_cause index (header.Span n) is = is
-header_cause index header.Memory is = tt
+pub header_cause : (index : ℕ) (key value : VariableReport) (e : HeaderError) → (cause : Cause) × (e ≡ header_refusal cause) → IsEntryCause index key value (env_of_header e)
+header_cause index key value header.InvalidName is = is
+header_cause index key value header.InvalidSubSection is = is
+header_cause index key value (header.Span n) is = is
+header_cause index key value header.Memory is = tt
 
 -- none is of a file
 value_of_no_file : (cause : Cause) → is_file_number (value_number (value_refusal cause)) ≡ false
@@ -232,46 +241,86 @@ header_of_no_file causes.InvalidSubsection = refl
 header_of_no_file causes.TooLarge = refl
 header_of_no_file causes.OutOfMemory = refl
 
-pub no_file : (index : ℕ) (e : Error) → IsEntryCause index e → is_file_number (env_number e) ≡ false
-no_file index (env.IllformedUtf8 at kind) is = refl
-no_file index (env.InvalidConfigCount input) is = refl
-no_file index (env.InvalidKeyId at) is = refl
-no_file index (env.InvalidKeyValue at key) is = refl
-no_file index (env.InvalidValueId at) is = refl
-no_file index (env.PathInterpolationError e) is = absurd is
-no_file index (env.Includes e) is = absurd is
-no_file index (env.Section e) is = subst (λ f. is_file_number (header_number f) ≡ false) (sym is.1) (header_of_no_file is.0)
-no_file index (env.SectionValue e) is = subst (λ f. is_file_number (value_number f) ≡ false) (sym is.1) (value_of_no_file is.0)
-no_file index env.Memory is = refl
+pub no_file : (index : ℕ) (key value : VariableReport) (e : Error) → IsEntryCause index key value e → is_file_number (env_number e) ≡ false
+no_file index key value (env.IllformedUtf8 at kind) is = refl
+no_file index key value (env.InvalidConfigCount input) is = refl
+no_file index key value (env.InvalidKeyId at) is = refl
+no_file index key value (env.InvalidKeyValue at text) is = refl
+no_file index key value (env.InvalidValueId at) is = refl
+no_file index key value (env.PathInterpolationError e) is = absurd is
+no_file index key value (env.Includes e) is = absurd is
+no_file index key value (env.Section e) is = subst (λ f. is_file_number (header_number f) ≡ false) (sym is.1) (header_of_no_file is.0)
+no_file index key value (env.SectionValue e) is = subst (λ f. is_file_number (value_number f) ≡ false) (sym is.1) (value_of_no_file is.0)
+no_file index key value env.Memory is = refl
 
 -- so no file failed
-pub entries_count : {T : Type 0} (e : Error) (result : Result T Error) (old new : Option ℕ) → IsErrAnd result (λ r. r ≡ e) → (index : ℕ) × IsEntryCause index e → new ≡ old → CountsLoad (numbered env_number result) old new
-entries_count e (Ok made) old new err cause is = absurd err
-entries_count {T = T} e (Err r) old new err (index, cause) is =
-    subst (λ x. CountsLoad {T = T} (Err (env_number x)) old new) (sym err) (refused_else T (env_number e) old new (no_file index e cause) (same old new is))
+pub entries_count : {T : Type 0} (variables : Option (List ℕ → VariableReport)) (count : ℕ) (first : State) (e : Error) (result : Result T Error) (old new : Option ℕ) → IsErrAnd result (λ r. r ≡ e)
+    → IsFirstRefused variables count first e → new ≡ old → CountsLoad (numbered env_number result) old new
+entries_count variables count first e (Ok made) old new err cause is = absurd err
+entries_count {T = T} variables count first e (Err r) old new err (index, mid, within, before, (key, value, told, cause)) is =
+    subst (λ x. CountsLoad {T = T} (Err (env_number x)) old new) (sym err) (refused_else T (env_number e) old new (no_file index key value e cause) (same old new is))
 
--- and each is a cause of all
-pub entry_cause : {T : Type 0} (variables : Option (List ℕ → VariableReport)) (options : Options) (table : Option (List ℕ → FileReport)) (e : Error) (result : Result T Error) → (index : ℕ) × IsEntryCause index e
-    → IsErrAnd result (λ r. r ≡ e) → IfErr result (IsEnvCause variables options table)
-entry_cause variables options table e (Ok made) cause err = tt
-entry_cause variables options table e (Err r) cause err = subst (IsEnvCause variables options table) (sym err) (go e cause)
+-- an entry that is refused once its key and its value are asked
+pub asked_refused : (variables : Option (List ℕ → VariableReport)) (index : ℕ) (text : List ℕ) (value : Option (List ℕ)) (e : Error) → IsKeyAt variables index (Ok text) → IsValueAt variables index (Ok value)
+    → IsEntryCause index (HasText text) (value_report value) e → IsEntryRefused variables index e
+asked_refused variables index text value e key given cause = (HasText text, value_report value, told variables key given, cause)
   where
-    go : (e : Error) → (index : ℕ) × IsEntryCause index e → IsEnvCause variables options table e
-    go (env.IllformedUtf8 at kind) is = is
-    go (env.InvalidConfigCount input) is = absurd is.1
-    go (env.InvalidKeyId at) is = is
-    go (env.InvalidKeyValue at key) is = is
-    go (env.InvalidValueId at) is = is
-    go (env.PathInterpolationError e) is = is
-    go (env.Includes e) is = absurd is.1
-    go (env.Section e) is = is
-    go (env.SectionValue e) is = is
-    go env.Memory is = is
+    key_is : (report : VariableReport) → ◌≡◌ {A = Result (List ℕ) ℕ} (Ok text) (reported_key report) → HasText text ≡ report
+    key_is NotSet is = absurd (cc)
+    key_is (HasText t) is = cc
+    key_is NoText is = absurd (cc)
+
+    value_is : (value : Option (List ℕ)) (report : VariableReport) → ◌≡◌ {A = Result (Option (List ℕ)) ℕ} (Ok value) (reported_value report) → value_report value ≡ report
+    value_is value NotSet is = absurd (cc)
+    value_is None (HasText t) is = absurd (cc)
+    value_is (Some s) (HasText t) is = cc
+    value_is None NoText is = refl
+    value_is (Some s) NoText is = absurd (cc)
+
+    told : (variables : Option (List ℕ → VariableReport)) → IsKeyAt variables index (Ok text) → IsValueAt variables index (Ok value)
+        → May variables (λ var. (HasText text ≡ var (key_variable index)) × (value_report value ≡ var (value_variable index)))
+    told None key given = tt
+    told (Some var) (inl e) given = absurd (cc)
+    told (Some var) (inr key) (inl e) = absurd (cc)
+    told (Some var) (inr (one, asked, is)) (inr (other, then_asked, then_is)) = (key_is one is ∙ asked, value_is value other then_is ∙ then_asked)
+
+-- one entry more was put in
+pub put_more : (variables : Option (List ℕ → VariableReport)) (count index : ℕ) (old mid new : State) → AreEntriesPut variables count index old (Ok mid) → IsEntryPut variables (index + count) mid (Ok new)
+    → AreEntriesPut variables (suc count) index old (Ok new)
+put_more variables zero index old mid new is put = (Ok new, subst (λ s. IsEntryPut variables index s (Ok new)) (made_in is) (subst (λ n. IsEntryPut variables n mid (Ok new)) (none_more index) put), refl)
+  where
+    none_more : (index : ℕ) → index + 0 ≡ index
+    none_more index = omega arith
+
+    made_in : ◌≡◌ {A = Result State ℕ} (Ok mid) (Ok old) → mid ≡ old
+    made_in is = cc
+put_more variables (suc count) index old mid new (Err n, first, e) put = absurd (cc)
+put_more variables (suc count) index old mid new (Ok now, first, later) put =
+    (Ok now, first, put_more variables count (index + 1) now mid new later (subst (λ n. IsEntryPut variables n mid (Ok new)) (next count index) put))
+  where
+    next : (count index : ℕ) → index + suc count ≡ index + 1 + count
+    next count index = omega arith
+
+-- the first refused is a cause of all
+pub entry_cause : {T : Type 0} (variables : Option (List ℕ → VariableReport)) (options : Options) (table : Option (List ℕ → FileReport)) (count : ℕ) (e : Error) (result : Result T Error) → IsCount variables (Ok count)
+    → IsFirstRefused variables count (empty_file env_meta) e → IsErrAnd result (λ r. r ≡ e) → IfErr result (IsEnvCause variables options table)
+entry_cause variables options table count e result counts cause err = handed_on (IsEnvCause variables options table) e result (go e cause) err
+  where
+    go : (e : Error) → IsFirstRefused variables count (empty_file env_meta) e → IsEnvCause variables options table e
+    go (env.IllformedUtf8 at kind) is = (count, counts, is)
+    go (env.InvalidConfigCount input) (index, mid, within, before, (key, value, told, cause)) = absurd cause
+    go (env.InvalidKeyId at) is = (count, counts, is)
+    go (env.InvalidKeyValue at key) is = (count, counts, is)
+    go (env.InvalidValueId at) is = (count, counts, is)
+    go (env.PathInterpolationError e) is = (count, counts, is)
+    go (env.Includes e) (index, mid, within, before, (key, value, told, cause)) = absurd cause
+    go (env.Section e) is = (count, counts, is)
+    go (env.SectionValue e) is = (count, counts, is)
+    go env.Memory is = tt
 
 pub count_cause : {T : Type 0} (variables : Option (List ℕ → VariableReport)) (options : Options) (table : Option (List ℕ → FileReport)) (e : Error) (result : Result T Error) → IsCountCause variables e
     → IsErrAnd result (λ r. r ≡ e) → IfErr result (IsEnvCause variables options table)
-count_cause variables options table e (Ok made) cause err = tt
-count_cause variables options table e (Err r) cause err = subst (IsEnvCause variables options table) (sym err) (go e cause)
+count_cause variables options table e result cause err = handed_on (IsEnvCause variables options table) e result (go e cause) err
   where
     go : (e : Error) → IsCountCause variables e → IsEnvCause variables options table e
     go (env.IllformedUtf8 at kind) is = absurd is
@@ -283,7 +332,7 @@ count_cause variables options table e (Err r) cause err = subst (IsEnvCause vari
     go (env.Includes e) is = absurd is
     go (env.Section e) is = absurd is
     go (env.SectionValue e) is = absurd is
-    go env.Memory is = (0, tt)
+    go env.Memory is = tt
 
 -- the overrides
 pub overridden : (variables : Option (List ℕ → VariableReport)) (places : Places) (table : Option (List ℕ → FileReport)) (made : Option State) (file : State)

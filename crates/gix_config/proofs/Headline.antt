@@ -15,7 +15,7 @@ use Rattle.gitconf_sources.specs.Metadata.{Meta}
 use Rattle.gitconf_state.specs.Clean.{is_nameless, IsClean, IsCleanSection}
 use Rattle.gitconf_state.specs.Edit.{header_bytes, is_target, made_header, new_section, new_section_bytes, section_with, set_bytes, with_used}
 use Rattle.gitconf_state.specs.Edits as edits
-use Rattle.gitconf_state.specs.Edits.{Answer, Edit, IsCleanEdit, IsEdit, answer, apply, renamed}
+use Rattle.gitconf_state.specs.Edits.{Answer, Done, Edit, IsCleanEdit, IsEdit, answer, apply, renamed}
 use Rattle.gitconf_state.specs.Editors.{InsteadOf, OfEntry, OfEntryButLineEnd}
 use Rattle.gitconf_state.specs.Equality.{AreEqual, compared}
 use Rattle.gitconf_state.specs.LineEnds.{file_line_end}
@@ -40,7 +40,7 @@ use Rattle.gitconf_includes.proofs.States.{clean_stays, items_stay}
 use Rattle.gitconf_lookups.specs.ValuePlaces.{value_place}
 use Rattle.gitconf_store.specs.declared.rename_section.Error.{Error as RenameError}
 use Rattle.gitconf_store.specs.declared.set_raw_value.Error.{Error as SetError}
-use Rattle.gitconf_store.specs.Edited.{IsEdited, bytes_in, causes, put_bytes}
+use Rattle.gitconf_store.specs.Edited.{IsEdited, bytes_in, causes, done, put_bytes}
 use Rattle.gitconf_store.specs.Edits.{set_at, set_new, update_at}
 use Rattle.gitconf_store.specs.Existing.{IsRewritten, IsSetWhere, rewriting}
 use Rattle.gitconf_store.specs.RenameErrors.{rename_refusal}
@@ -328,3 +328,21 @@ is_free_step {T} {E} shown refusal edit result old new none no_bytes used only t
       told = subst (λ cs. IsRefusedFor {T = T} {E = E} (λ _. refusal) (first_cause cs) (Ok t)) (sym none) tt;
     }
     step (Err e) only ok err = record { ok = tt; err = err; told = subst (λ cs. IsRefusedFor {T = T} {E = E} (λ _. refusal) (first_cause cs) (Err e)) (sym none) only }
+
+-- So does one that returns an editor, which has the file then.
+pub is_editor_step : {T E : Type 0} (after : T → State) (shown : T → Answer) (refusal : Cause → E) (edit : Edit) (result : Result T E) (old new : State) → IfOk result (λ t. after t ≡ done edit old)
+    → IfOk result (λ t. shown t ≡ answer edit old) → IsRefusedFor refusal (first_cause (causes edit old)) result → IfOk result (λ t. new ≡ after t) → OnErr result (new ≡ old)
+    → (ending : Ending) × Ends edit old ending new × IsOneEnding shown refusal ending result
+is_editor_step after shown refusal edit (Ok t) old new made told causes at err = is_step shown refusal edit (Ok t) old new told (record { ok = at ∙ made; err = tt; told = causes })
+is_editor_step {T} after shown refusal edit (Err e) old new made told causes at err = is_step {T = T} shown refusal edit (Err e) old new tt (record { ok = tt; err = err; told = causes })
+
+-- An edit that nothing refuses, that adds no bytes, and that answers nothing, is done.
+pub always_ends : (edit : Edit) (old new : State) → causes edit old ≡ [] → put_bytes edit old ≡ 0 → (apply edit old).used ≡ old.used → answer edit old ≡ Done → new ≡ apply edit old → Ends edit old (Ok Done) new
+always_ends edit old new none no_bytes used told is = (
+  record {
+    ok = is ∙ ap (λ n. with_used n (apply edit old)) (used ∙ (let same : old.used ≡ old.used + put_bytes edit old = omega (arith, no_bytes) in same));
+    err = tt;
+    told = subst (λ cs. IsRefusedFor {T = Answer} (λ cause. cause) (first_cause cs) (Ok Done)) (sym none) tt;
+  },
+  sym told,
+)

@@ -5,6 +5,7 @@ pub mod Numbers
 pub mod Entries
 pub mod CleanLoads
 pub mod Repositories
+pub mod OneConfiguration
 pub mod ValueEditors
 pub mod MultiValueEditors
 pub mod Standing

@@ -19,6 +19,7 @@ use Rattle.gitconf_store.specs.Edited.{IsEdited}
 use Rattle.gitconf_store.proofs.Files.Appended.{append_told}
 use Rattle.gitconf_includes.specs.Expansion.{Asks}
 use Rattle.gitconf_includes.specs.Outcomes.{asks_of, IsCause}
+use Rattle.gitconf_loaders.specs.Causes.{IsFileCause}
 use Rattle.gitconf_loaders.specs.Resolving.{MakesOf}
 use Rattle.gitconf_loaders.specs.Errors.{env_number, git_number, git_of_env, git_of_includes, git_of_paths, git_of_span, paths_number}
 use Rattle.gitconf_loaders.specs.Paths.{CountsLoad, has_room_behind, IsAppendedTo, IsLoadedFrom, left_by, numbered, Then}
@@ -201,10 +202,22 @@ module _ (variables : Option (List ℕ → VariableReport)) (places : Places) (t
   all_read local worktree globals loaded (inr tree) is = inr (Ok local, loaded, (Ok worktree, tree, (Ok globals, is, refl)))
 
 -- the causes of refusals that are handed on
-pub global_cause : {T : Type 0} (places : Places) (table : Option (List ℕ → FileReport)) (e : PathsError) (result : Result T PathsError) → IsGlobalCause places table e → IsErrAnd result (λ r. r ≡ e)
-    → IfErr result (IsReadCause places table)
-global_cause places table e (Ok made) cause err = tt
-global_cause places table e (Err r) cause err = subst (IsReadCause places table) (sym err) (inr cause)
+module _ (variables : Option (List ℕ → VariableReport)) (places : Places) (table : Option (List ℕ → FileReport)) (path folder : List ℕ) {T : Type 0} (e : PathsError) (result : Result T PathsError) where
+  handed_read : IsReadCause variables places table path folder e → IsErrAnd result (λ r. r ≡ e) → IfErr result (IsReadCause variables places table path folder)
+  handed_read cause err = go result err
+    where
+      go : (result : Result T PathsError) → IsErrAnd result (λ r. r ≡ e) → IfErr result (IsReadCause variables places table path folder)
+      go (Ok made) err = tt
+      go (Err r) err = subst (IsReadCause variables places table path folder) (sym err) cause
+
+  pub local_cause : IsFileCause table path e → IsErrAnd result (λ r. r ≡ e) → IfErr result (IsReadCause variables places table path folder)
+  local_cause cause err = handed_read (inl cause) err
+
+  pub worktree_cause : IsFileCause table (worktree_path folder) e → IsErrAnd result (λ r. r ≡ e) → IfErr result (IsReadCause variables places table path folder)
+  worktree_cause cause err = handed_read (inr (inl cause)) err
+
+  pub global_cause : IsGlobalCause variables places table e → IsErrAnd result (λ r. r ≡ e) → IfErr result (IsReadCause variables places table path folder)
+  global_cause cause err = handed_read (inr (inr cause)) err
 
 pub overriding_cause : {T : Type 0} (variables : Option (List ℕ → VariableReport)) (places : Places) (table : Option (List ℕ → FileReport)) (e : EnvError) (result : Result T Error) → IsOverridesCause variables places table e
     → IsErrAnd result (λ r. r ≡ git_of_env e) → IfErr result (IsOverridingCause variables places table)
@@ -320,20 +333,22 @@ module _ (variables : Option (List ℕ → VariableReport)) (places : Places) (t
         (rules ∙ ap (λ f. repository_rules places f real) is_folder) joins,
   )
 
-  pub read_cause : (options : Options) (e : PathsError) (result : Result State Error) → rules_of options ≡ repository_rules places folder real → IsReadCause places table e → IsErrAnd result (λ r. r ≡ git_of_paths e)
+  pub read_cause : (e : PathsError) (result : Result State Error) → IsReadCause variables places table path folder e → IsErrAnd result (λ r. r ≡ git_of_paths e)
       → IfErr result (IsRepositoryCause variables places table dir real)
-  read_cause options e (Ok made) rules cause err = tt
-  read_cause options e (Err r) rules cause err = subst (IsRepositoryCause variables places table dir real) (sym err) (inr (options, rules ∙ ap (λ f. repository_rules places f real) is_folder, go e cause))
+  read_cause e (Ok made) cause err = tt
+  read_cause e (Err r) cause err =
+      subst (IsRepositoryCause variables places table dir real) (sym err)
+      (go e (subst (λ f. IsReadCause variables places table (local_path dir) f e) is_folder (subst (λ p. IsReadCause variables places table p folder e) is_path cause)))
     where
-      go : (e : PathsError) → IsReadCause places table e → IsGitCause variables options places table (git_of_paths e)
-      go (paths.Io at fault) is = is
-      go (paths.Init it) is = is
-      go paths.Memory is = tt
+      go : (e : PathsError) → IsReadCause variables places table (local_path dir) (folder_of (local_path dir)) e → IsRepositoryCause variables places table dir real (git_of_paths e)
+      go (paths.Io at fault) is = inr (inl (paths.Io at fault, refl, is))
+      go (paths.Init it) is = inr (inl (paths.Init it, refl, is))
+      go paths.Memory is = inl refl
 
   pub joined_cause : (options : Options) (result : Result State Error) → rules_of options ≡ repository_rules places folder real → IfErr result (IsGitCause variables options places table)
       → IfErr result (IsRepositoryCause variables places table dir real)
   joined_cause options (Ok made) rules cause = tt
-  joined_cause options (Err e) rules cause = inr (options, rules ∙ ap (λ f. repository_rules places f real) is_folder, cause)
+  joined_cause options (Err e) rules cause = inr (inr (options, rules ∙ ap (λ f. repository_rules places f real) is_folder, cause))
 
 module _ (variables : Option (List ℕ → VariableReport)) (places : Places) (table : Option (List ℕ → FileReport)) (asks : Asks) (parts : RepositoryFiles) where
   abbrev pub Joins : Result State ℕ → Type 0

@@ -1,6 +1,6 @@
 -- A file that is made of the entries that variables of the environment set, and its refusals.
 -- Source: git-config's manual page, under "ENVIRONMENT"; the order of refusals is gix-config's.
-use Rattle.std.specs.Prelude.{◌≡◌, ◌⊎◌, ℕ, zero, suc, ◌+◌, ◌==◌, true, false, List, Option, Some, None, Result, Ok, Err}
+use Rattle.std.specs.Prelude.{◌≡◌, ◌⊎◌, ◌<◌, ℕ, zero, suc, ◌+◌, ◌==◌, true, false, List, Option, Some, None, Result, Ok, Err}
 use Rattle.gitconf_text.specs.declared.parse.section.header.Error.{Error as HeaderError}
 use Rattle.gitconf_text.specs.HeaderErrors.{header_number}
 use Rattle.gitconf_sources.specs.Key.{Key, parsed_key}
@@ -21,7 +21,7 @@ use Rattle.gitconf_includes.specs.Outcomes.{IsCause}
 use Rattle.gitconf_loaders.specs.Resolving.{MakesOf}
 use Rattle.gitconf_loaders.specs.Globals.{empty_file, home_rules, IsOrEmpty}
 use Rattle.gitconf_loaders.specs.Paths.{left_by, Then}
-use Rattle.gitconf_loaders.specs.Variables.{IsCount, IsCountCause, IsEntryCause, IsKeyAt, IsValueAt, reported_key, key_variable}
+use Rattle.gitconf_loaders.specs.Variables.{IsCount, IsCountCause, IsEntryRefused, IsKeyAt, IsValueAt, reported_key, key_variable}
 use Rattle.gitconf_loaders.specs.declared.from_env.Error.{Error}
 use Rattle.gitconf_loaders.specs.declared.from_env.Error.TheVariants as env
 use Rattle.gitconf_body.specs.ValueErrors.{value_number}
@@ -85,11 +85,16 @@ IsMadeOfEntries variables asks count r = elim (count == 0) [
 abbrev pub IsFromEnv : Option (List ℕ → VariableReport) → Asks → Result (Option State) ℕ → Type 0
 IsFromEnv variables asks r = (r ≡ Err 27) ⊎ Then (IsCount variables) (IsMadeOfEntries variables asks) r
 
+-- the refusal of the first of so many entries that can't be put into a file: those before it were
+abbrev pub IsFirstRefused : Option (List ℕ → VariableReport) → (count : ℕ) → (old : State) → Error → Type 0
+IsFirstRefused variables count old e = (index : ℕ) × (mid : State) × (index < count) × AreEntriesPut variables index 0 old (Ok mid) × IsEntryRefused variables index e
+
 -- the causes of its refusals
 abbrev pub IsEnvCause : Option (List ℕ → VariableReport) → Options → Option (List ℕ → FileReport) → Error → Type 0
 IsEnvCause variables options table (env.Includes e) = IsCause options table e
 IsEnvCause variables options table (env.InvalidConfigCount input) = IsCountCause variables (env.InvalidConfigCount input)
-IsEnvCause variables options table e = (index : ℕ) × IsEntryCause index e
+IsEnvCause variables options table env.Memory = Unit {0}
+IsEnvCause variables options table e = (count : ℕ) × IsCount variables (Ok count) × IsFirstRefused variables count (empty_file env_meta) e
 
 -- no key that variables set names a section `[]`, with an empty name and no subsection
 abbrev pub HaveSectionNames : (variables : List ℕ → VariableReport) → Type 0

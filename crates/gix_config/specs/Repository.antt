@@ -139,9 +139,10 @@ pub record IsHeadedRepository (variables : List ℕ → VariableReport) (places 
       → AreHeadedWith (record { rules = repository_rules places (folder_of (local_path dir)) real; table = table }) parts
   pub overrides : IncludeHeaded variables (record { rules = home_rules places; table = table })
 
--- The cause of a refusal, besides its number: of a file that is read.
-abbrev pub IsReadCause : Places → Option (List ℕ → FileReport) → PathsError → Type 0
-IsReadCause places table e = ((path : List ℕ) × IsFileCause table path e) ⊎ IsGlobalCause places table e
+-- The cause of a refusal of the files that are read, besides its number: of the repository's, of its worktree's, or of those of the machine and of
+-- the user.
+abbrev pub IsReadCause : Option (List ℕ → VariableReport) → Places → Option (List ℕ → FileReport) → (path folder : List ℕ) → PathsError → Type 0
+IsReadCause variables places table path folder e = IsFileCause table path e ⊎ (IsFileCause table (worktree_path folder) e ⊎ IsGlobalCause variables places table e)
 
 -- the cause of a refusal of a file that includes and is put behind others
 abbrev pub IsIncludeCause : Options → Option (List ℕ → FileReport) → Error → Type 0
@@ -157,16 +158,18 @@ IsOverridingCause variables places table (git.Span number) = number ≡ 3
 IsOverridingCause variables places table git.Memory = Unit {0}
 IsOverridingCause variables places table e = ⊥
 
--- the cause of a refusal of a repository's configuration: of a file that is read, of one that includes, or of the overrides; or there is no room
--- for one of them behind the others
+-- the cause of a refusal of files that were read: of one that includes, or of the overrides; or there is no room for one of them behind the
+-- others
 abbrev pub IsGitCause : Option (List ℕ → VariableReport) → Options → Places → Option (List ℕ → FileReport) → Error → Type 0
-IsGitCause variables options places table (git.FromPaths e) = IsReadCause places table e
+IsGitCause variables options places table (git.FromPaths e) = ⊥
 IsGitCause variables options places table (git.FromEnv e) = IsOverridesCause variables places table e
 IsGitCause variables options places table (git.Includes e) = IsCause options table e
 IsGitCause variables options places table (git.Span number) = number ≡ 3
 IsGitCause variables options places table (git.Init e) = ⊥
 IsGitCause variables options places table git.Memory = Unit {0}
 
--- the cause of a refusal of the repository in that folder; or memory ran out
+-- the cause of a refusal of the repository in that folder: of a file that is read, or then; or memory ran out
 abbrev pub IsRepositoryCause : Option (List ℕ → VariableReport) → Places → Option (List ℕ → FileReport) → (dir : List ℕ) → (real : Option (List ℕ)) → Error → Type 0
-IsRepositoryCause variables places table dir real e = (e ≡ git.Memory) ⊎ (options : Options) × (rules_of options ≡ repository_rules places (folder_of (local_path dir)) real) × IsGitCause variables options places table e
+IsRepositoryCause variables places table dir real e = (e ≡ git.Memory)
+    ⊎ (((unread : PathsError) × (e ≡ git.FromPaths unread) × IsReadCause variables places table (local_path dir) (folder_of (local_path dir)) unread)
+    ⊎ (options : Options) × (rules_of options ≡ repository_rules places (folder_of (local_path dir)) real) × IsGitCause variables options places table e)

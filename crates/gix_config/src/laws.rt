@@ -1,7 +1,7 @@
 //! What holds of editors and of loaded files, for all of them: each law is a function that does nothing.
 ghost use Rattle.std.specs.List.{AllByRecursion};
 ghost use Rattle.bstr.specs.Owned.{bstring_bytes};
-ghost use Rattle.std.specs.Prelude.{◌≡◌, ◌≤◌, ℕ, Bool, true, List, [], filter, map, option_map, Result, Ok, Option, Some, IfOk, OnErr, OnOk};
+ghost use Rattle.std.specs.Prelude.{◌≡◌, ◌≤◌, ℕ, Bool, false, true, List, [], filter, map, option_map, None, Result, Ok, Option, Some, IfOk, OnErr, OnOk, string_bytes};
 ghost use Rattle.gitconf_sources.specs.Metadata.{Meta};
 ghost use Rattle.gitconf_sources.specs.Reports.{FileReport, VariableReport};
 ghost use Rattle.gitconf_sources.specs.declared.host.Places.{Places};
@@ -12,16 +12,18 @@ ghost use Rattle.gitconf_state.specs.Printing.{printed};
 ghost use Rattle.gitconf_text.specs.Document.{IsText, Reads, unmarked};
 ghost use Rattle.gitconf_text.specs.Part.{Part};
 ghost use Rattle.gitconf_text.specs.Token.{spelled_token, tokens_of};
-ghost use Rattle.gitconf_state.specs.Edit.{new_section};
+ghost use Rattle.gitconf_state.specs.Edit.{new_section, Spacing};
 ghost use Rattle.gitconf_items.specs.EventList.{keeps_token};
 ghost use Rattle.gitconf_items.specs.TokenDocument.{keeps_meaning};
 ghost use Rattle.gitconf_sources.specs.declared.source.Trust.{Trust};
-ghost use Rattle.gitconf_state.specs.Edits.{Count, Detached, Done, Edit, Raw, Remove, RemoveMarked, RemoveNumbered, SetTrust, answer, apply, has_blank_leading, new_bytes, numbered, IsEditor};
+ghost use Rattle.gitconf_state.specs.Edits.{Count, DeleteAt, Detached, Done, Edit, Entry, NewSection, Number, Pop, PushSection, Raw, Remove, RemoveMarked, RemoveNumbered, SetMeta, SetTrust, answer, apply, has_blank_leading, new_bytes, numbered, IsEditor};
 ghost use Rattle.gitconf_state.specs.Editors.{Editor, editor_of};
 ghost use Rattle.gitconf_state.specs.State.{document_of, entries_of, HasItems, SectionState, State, with_sections};
 ghost use Rattle.gitconf_includes.specs.Expansion.{Asks};
-ghost use Rattle.gitconf_includes.specs.Laws.{AreHeaded};
+ghost use Rattle.gitconf_includes.specs.Laws.{AreHeaded, SayTheSame, asks_with};
+ghost use Rattle.gitconf_includes.specs.Rules.{Rules};
 ghost use Rattle.gitconf_loaders.specs.Globals.{home_rules};
+ghost use Rattle.gitconf_loaders.specs.Paths.{HasOneOutcome};
 ghost use Rattle.gitconf_lookups.specs.Lookups.{implicit_at, value_at, values_at};
 ghost use Rattle.gitconf_lookups.specs.Picks.{picked};
 ghost use Rattle.gitconf_lookups.specs.SomeSections.{AreSome};
@@ -29,6 +31,8 @@ ghost use Rattle.gitconf_sources.specs.Key.{Key};
 ghost use Rattle.gitconf_lookups.specs.ValuePlaces.{editor_of_numbered};
 ghost use Rattle.gix_config.specs.Headline.{AreCleanCalls, IsOneEnding, Call, Ending, Ends, Runs, no_memory};
 ghost use Rattle.gitconf_text.specs.declared.memory.NoMemory.{NoMemory};
+ghost use Rattle.std.specs.declared.alloc.Global.{Global};
+ghost use Rattle.std.specs.declared.string.String.{String};
 ghost use Rattle.bstr.specs.declared.bstring.BString.{BString};
 ghost use Rattle.gitconf_body.specs.Refusals.{header_refusal, span_refusal, value_refusal};
 ghost use Rattle.gitconf_body.specs.declared.value.Error.{Error as ValueError};
@@ -40,9 +44,11 @@ ghost use Rattle.gitconf_store.specs.declared.set_raw_value.Error.{Error as SetE
 ghost use Rattle.gitconf_text.specs.declared.parse.section.header.Error.{Error as HeaderError};
 ghost use Rattle.gitconf_state.specs.Inserted.{Inserted, IsByteForByte};
 ghost use Rattle.gix_config.specs.Environment.{HaveSectionNames, IncludeHeaded, IsFromEnv, IsOverrides};
-ghost use Rattle.gitconf_store.specs.Edited.{put_bytes, IsEdited};
+ghost use Rattle.gitconf_body.specs.Done.{IsRefusedFor, first_cause};
+ghost use Rattle.gitconf_store.specs.Edited.{causes, done, put_bytes, IsEdited};
 ghost use Rattle.gix_config.specs.Repository.{IsHeadedRepository, IsRepository};
-ghost use Rattle.gix_config.specs.SectionEditors.{with_leading};
+ghost use Rattle.gix_config.specs.SectionEditors.{IsFoundOrMadeOf, edited, editor_at, number_of, told, with_leading};
+ghost use Rattle.gix_config.specs.declared.file.section_mut.SectionMut.{SectionMut};
 
 /// Those of files that others are put into.
 pub use gitconf_includes::laws as includes;
@@ -94,6 +100,24 @@ pub fn files_of_variables_are_clean()
         → IsOverrides (Some variables) places table (Ok file) → IsClean file × (entries_of file.front ≡ []) }
 {}
 
+/// If the host says what is at each path and what each variable is set to, the file that variables set has one outcome, apart from running out
+/// of memory, and so have the overrides and the configuration of a repository: one file, or a refusal of one number.
+pub fn configurations_have_one_outcome()
+    ensures made { (variables : List ℕ → VariableReport) (asks : Asks) (files : List ℕ → FileReport) → asks.table ≡ Some files
+        → HasOneOutcome (IsFromEnv (Some variables) asks) }
+    ensures overrides { (variables : List ℕ → VariableReport) (places : Places) (files : List ℕ → FileReport)
+        → HasOneOutcome (IsOverrides (Some variables) places (Some files)) }
+    ensures repository { (variables : List ℕ → VariableReport) (places : Places) (files : List ℕ → FileReport) (dir : List ℕ)
+        (real : Option (List ℕ)) → HasOneOutcome (IsRepository (Some variables) places (Some files) dir real) }
+{}
+
+/// The file that variables set says the same where what it includes is loaded lossy, if neither load is refused.
+pub fn lossy_loads_of_variables_say_the_same()
+    ensures { (variables : List ℕ → VariableReport) (rules : Rules) (files : List ℕ → FileReport) (full lossy : State)
+        → IsFromEnv (Some variables) (asks_with false rules files) (Ok (Some full)) → IsFromEnv (Some variables) (asks_with true rules files) (Ok (Some lossy))
+        → SayTheSame full lossy }
+{}
+
 /// The configuration of a repository is clean, and has no entry before its first section, if no key of variables names a section with an empty
 /// name and no subsection, and no file that is read or included has an entry before its first section: so what is written of it reads back. No
 /// file has such an entry if no text that the host tells has one.
@@ -138,6 +162,29 @@ pub fn calls_end_as_their_contracts_say()
     ensures trusted { (number : ℕ) (trust : Trust) (result : Result (Unit {0}) NoMemory) (old new : State)
         → OnOk result (new ≡ apply (SetTrust number trust) old) → OnErr result (new ≡ old)
         → (ending : Ending) × Ends (SetTrust number trust) old ending new × IsOneEnding (λ _. Done) (λ _. no_memory) ending result }
+    ensures popped { (number : ℕ) (result : Result (Option (String Global × BString)) NoMemory) (old new : State)
+        → IfOk result (λ o. Entry (option_map (λ t. (string_bytes t.0, bstring_bytes t.1)) o) ≡ answer (Pop number) old)
+        → OnOk result (new ≡ apply (Pop number) old) → OnErr result (new ≡ old) → (ending : Ending) × Ends (Pop number) old ending new
+        × IsOneEnding (λ o. Entry (option_map (λ t. (string_bytes t.0, bstring_bytes t.1)) o)) (λ _. no_memory) ending result }
+    // What nothing refuses.
+    ensures deleted { (number place : ℕ) (old new : State) → new ≡ apply (DeleteAt number place) old → Ends (DeleteAt number place) old (Ok Done) new }
+    ensures placed { (meta : Meta) (old new : State) → new ≡ apply (SetMeta meta) old → Ends (SetMeta meta) old (Ok Done) new }
+    // A section that is made, or put in, where an editor of it is returned; the file is then as the editor has it.
+    ensures made { (name : List ℕ) (subsection : Option (List ℕ)) (result : Result (SectionMut Spacing) HeaderError) (old new : State)
+        → IfOk result (λ e. edited e ≡ done (NewSection name subsection) old) → IfOk result (λ e. told e ≡ editor_at old (new_section name subsection old))
+        → IsRefusedFor header_refusal (first_cause (causes (NewSection name subsection) old)) result → IfOk result (λ e. new ≡ edited e)
+        → OnErr result (new ≡ old) → (ending : Ending) × Ends (NewSection name subsection) old ending new
+        × IsOneEnding (λ e. Number (number_of e)) header_refusal ending result }
+    ensures put_in { (detached : Detached) (result : Result (SectionMut Spacing) ℕ) (old new : State)
+        → IfOk result (λ e. edited e ≡ done (PushSection detached) old) → IfOk result (λ e. told e ≡ (old.next, editor_of (edited e) detached.section))
+        → IsRefusedFor span_refusal (first_cause (causes (PushSection detached) old)) result → IfOk result (λ e. new ≡ edited e)
+        → OnErr result (new ≡ old) → (ending : Ending) × Ends (PushSection detached) old ending new
+        × IsOneEnding (λ e. Number (number_of e)) span_refusal ending result }
+    // One that is found changes nothing, and one that isn't is made.
+    ensures found_or_made { (name : List ℕ) (subsection : Option (List ℕ)) (found : Option SectionState) (result : Result (SectionMut Spacing) HeaderError)
+        (old new : State) → IsFoundOrMadeOf edited told (editor_at old) name subsection found old result → IfOk result (λ e. new ≡ edited e)
+        → OnErr result (new ≡ old) → ((s : SectionState) → found ≡ Some s → new ≡ old) × (found ≡ None → (ending : Ending)
+        × Ends (NewSection name subsection) old ending new × IsOneEnding (λ e. Number (number_of e)) header_refusal ending result) }
 {}
 
 /// After every list of calls that change a file, done or refused, each as its contract says, what is written of the file reads back.

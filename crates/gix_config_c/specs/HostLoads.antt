@@ -1,9 +1,10 @@
 -- What loads answer that ask for variables and for places, besides files.
-use Rattle.std.specs.Prelude.{◌≡◌, ◌⊎◌, if◌then◌else◌, ℕ, List, [], ◌∷◌, ◌++◌, Option, Some, None, Result, Ok, Err, codes, string_bytes}
+use Rattle.std.specs.Prelude.{◌≡◌, ◌⊎◌, if◌then◌else◌, ℕ, List, [], ◌∷◌, ◌++◌, Option, Some, None, Result, Ok, Err, IfErr, codes, string_bytes}
 use Rattle.std.specs.Str.{bytes_eq}
-use Rattle.gitconf_includes.specs.Rules.{Rules}
+use Rattle.gitconf_includes.specs.Rules.{Rules, rules_of}
+use Rattle.gitconf_includes.specs.declared.init.Options.{Options}
 use Rattle.gitconf_loaders.specs.Errors.{env_number, git_number, paths_number}
-use Rattle.gitconf_loaders.specs.Globals.{IsGlobal}
+use Rattle.gitconf_loaders.specs.Globals.{IsGlobal, IsGlobalCause}
 use Rattle.gitconf_loaders.specs.Paths.{numbered}
 use Rattle.gitconf_loaders.specs.Variables.{key_variable, value_variable}
 use Rattle.gitconf_loaders.specs.declared.from_env.Error.{Error as EnvError}
@@ -11,16 +12,15 @@ use Rattle.gitconf_loaders.specs.declared.from_env.Error.TheVariants as env
 use Rattle.gitconf_loaders.specs.declared.from_git_dir.Error.{Error as GitError}
 use Rattle.gitconf_loaders.specs.declared.from_git_dir.Error.TheVariants as git
 use Rattle.gitconf_loaders.specs.declared.from_paths.Error.{Error as PathsError}
-use Rattle.gitconf_loaders.specs.declared.from_paths.Error.TheVariants as paths
 use Rattle.gitconf_sources.specs.InMemory.{variable_at}
-use Rattle.gitconf_sources.specs.Reports.{VariableReport}
+use Rattle.gitconf_sources.specs.Reports.{FileReport, VariableReport}
 use Rattle.gitconf_sources.specs.declared.host.Places.{Places}
 use Rattle.gitconf_state.specs.State.{State}
-use Rattle.gix_config.specs.Environment.{IsFromEnv}
-use Rattle.gix_config.specs.Repository.{IsRepository}
+use Rattle.gix_config.specs.Environment.{IsEnvCause, IsFromEnv}
+use Rattle.gix_config.specs.Repository.{IsRepository, IsRepositoryCause}
 use Rattle.gix_config_c.specs.Blocks.{Holds, IsKept}
 use Rattle.gix_config_c.specs.KnownPlaces.{PlainPlaces, PlainRepository, plain_places}
-use Rattle.gix_config_c.specs.Loaded.{IsAnswered, IsFaulty, OfRules, asks_by, include_path, load_path}
+use Rattle.gix_config_c.specs.Loaded.{IsAnswered, OfRules, asks_by, include_path, load_path}
 use Rattle.gix_config_c.specs.Told.{is_told, told_at}
 use Rattle.gix_config_c.specs.Variables.{count_variable, first_untold, place_variables}
 use Rattle.gix_config_c.specs.declared.block.Block.{Block}
@@ -79,12 +79,6 @@ git_about (git.FromEnv e) = env_about e
 git_about (git.Includes e) = file_about (include_path e)
 git_about _ = ANothing
 
--- the file of these that is known to be faulty: not of one that files of the machine and of the user include
-abbrev pub git_faulty : GitError → About
-git_faulty (git.FromPaths (paths.Io path fault)) = AFile (string_bytes path)
-git_faulty (git.FromPaths _) = ANothing
-git_faulty e = git_about e
-
 -- The number of the library's refusal. What it is about goes to the block, and if nothing was told of that, the number is 103 for a file
 -- and 105 for a variable.
 abbrev pub IsAnsweredFor : Told → About → (refusal number : ℕ) → (old new : Block) → Type 0
@@ -95,12 +89,6 @@ IsAnsweredFor told (AVariable name) refusal number old new = (number ≡ (if is_
 -- the name of a variable goes to the block, with that number, or with 105 if nothing was told of it; or memory ran out
 abbrev pub IsAskedAbout : Told → (name : List ℕ) → (refusal number : ℕ) → Block → Type 0
 IsAskedAbout told name refusal number asked = (number ≡ 27) ⊎ ((number ≡ (if is_told told.variables name then refusal else 105)) × Holds name asked)
-
--- a file that a refusal is about can't be opened or read
-abbrev pub IsFaultyFor : Told → About → Type 0
-IsFaultyFor told ANothing = Unit {0}
-IsFaultyFor told (AFile path) = IsFaulty told.files (Some path)
-IsFaultyFor told (AVariable name) = Unit {0}
 
 -- what is told of a file that was made, or not: 100 where there is nothing
 abbrev pub TellsFile : Option State → (number : ℕ) → (file : Option Object) → (old new : Block) → Type 0
@@ -113,26 +101,25 @@ abbrev pub TellsOf : {T E : Type 0} → (made : T → Option State) → (about :
 TellsOf made about number_of told (Ok it) number file old new = TellsFile (made it) number file old new
 TellsOf made about number_of told (Err e) number file old new = IsAnsweredFor told (about e) (number_of e) number old new
 
--- a file that the refusal of a load is about can't be opened or read
-abbrev pub TellsFaulty : {T E : Type 0} → (about : E → About) → Told → Result T E → Type 0
-TellsFaulty about told (Ok it) = Unit {0}
-TellsFaulty about told (Err e) = IsFaultyFor told (about e)
-
 -- the block is as it was, but for the numbers with which it has what the refusal is about
 abbrev pub IsKeptBut : (number : ℕ) → (old new : Block) → Type 0
 IsKeptBut number old new = (number ≡ 19 → ⊥) → (number ≡ 21 → ⊥) → (number ≡ 22 → ⊥) → (number ≡ 23 → ⊥) → (number ≡ 24 → ⊥) → (number ≡ 25 → ⊥)
     → (number ≡ 26 → ⊥) → (number ≡ 103 → ⊥) → (number ≡ 105 → ⊥) → IsKept old new
 
 module _ (told : Told) where
-  -- what was told of variables, as a host reports it, and what was told of files
+  -- what was told of variables, as a host reports it
   abbrev pub variables_told : Option (List ℕ → VariableReport)
   variables_told = Some (variable_at told.variables)
 
-  -- the configuration of the machine and of the user was loaded, or refused
+  -- what was told of files, as a host reports it
+  abbrev pub files_told : Option (List ℕ → FileReport)
+  files_told = Some (told_at told.files)
+
+  -- the configuration of the machine and of the user was loaded, or refused for a cause
   abbrev pub IsGlobalMade : Places → (number : ℕ) → (file : Option Object) → (old new : Block) → Type 0
   IsGlobalMade places number file old new = (r : Result State PathsError)
-      × IsGlobal variables_told places (Some (told_at told.files)) (numbered paths_number r)
-      × TellsOf Some paths_about paths_number told r number file old new × TellsFaulty paths_about told r
+      × IsGlobal variables_told places files_told (numbered paths_number r) × IfErr r (IsGlobalCause variables_told places files_told)
+      × TellsOf Some paths_about paths_number told r number file old new
 
   -- the same once all is told of the variables that it needs
   abbrev pub IsGlobalLoad : Places → (number : ℕ) → (file : Option Object) → (old new : Block) → Type 0
@@ -142,10 +129,14 @@ module _ (told : Told) where
   pub record IsGlobalLoadAt (given : PlainPlaces) (number : ℕ) (file : Option Object) (old new : Block) : Type 0 where
     pub load : (number ≡ 27 → ⊥) → (places : Places) × (plain_places places ≡ given) × IsGlobalLoad places number file old new
 
-  -- the file of the entries that variables set was loaded, with what it includes, or refused; 100 where they set none
+  -- the cause of a refusal of the entries that variables set, or of what they include by these rules
+  abbrev pub IsEnvRefused : Rules → EnvError → Type 0
+  IsEnvRefused rules e = (options : Options) × (rules_of options ≡ rules) × IsEnvCause variables_told options files_told e
+
+  -- the file of the entries that variables set was loaded, with what it includes, or refused for a cause; 100 where they set none
   abbrev pub IsEnvMade : Rules → (number : ℕ) → (file : Option Object) → (old new : Block) → Type 0
   IsEnvMade rules number file old new = (r : Result (Option State) EnvError) × IsFromEnv variables_told (asks_by told.files rules) (numbered env_number r)
-      × TellsOf (λ made. made) env_about env_number told r number file old new × TellsFaulty env_about told r
+      × IfErr r (IsEnvRefused rules) × TellsOf (λ made. made) env_about env_number told r number file old new
 
   -- the same for the rules that a program gives, once the count of the entries is told; or memory ran out
   pub record IsEnvLoad (given : Option Rules) (number : ℕ) (file : Option Object) (old new : Block) : Type 0 where
@@ -153,12 +144,12 @@ module _ (told : Told) where
 
   -- the configuration of the repository in a folder, as the library has it
   abbrev pub IsRepositoryIn : (folder real : List ℕ) → Places → Result State ℕ → Type 0
-  IsRepositoryIn folder real places r = IsRepository variables_told places (Some (told_at told.files)) folder (Some real) r
+  IsRepositoryIn folder real places r = IsRepository variables_told places files_told folder (Some real) r
 
-  -- the configuration of a repository was refused
+  -- the configuration of a repository was refused for a cause
   abbrev pub IsRefusedRepository : (folder real : List ℕ) → Places → (number : ℕ) → (old new : Block) → Type 0
   IsRefusedRepository folder real places number old new = (e : GitError) × IsRepositoryIn folder real places (Err (git_number e))
-      × IsAnsweredFor told (git_about e) (git_number e) number old new × IsFaultyFor told (git_faulty e)
+      × IsRepositoryCause variables_told places files_told folder (Some real) e × IsAnsweredFor told (git_about e) (git_number e) number old new
 
   -- the configuration of the repository that a program gives was loaded, or refused
   abbrev pub IsRepositoryMade : PlainRepository → (number : ℕ) → (file : Option Object) → (old new : Block) → Type 0

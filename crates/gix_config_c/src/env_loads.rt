@@ -7,7 +7,7 @@ ghost use Rattle.gitconf_loaders.specs.Variables as entries;
 ghost use Rattle.gix_config.specs.Environment.{IsFromEnv};
 ghost use Rattle.gix_config_c.specs.Blocks.{IsKept};
 ghost use Rattle.gix_config_c.specs.Followed.{rules_of};
-ghost use Rattle.gix_config_c.specs.HostLoads.{IsAnsweredFor, IsAskedAbout, IsEnvLoad, IsEnvMade, IsFaultyFor, IsKeptBut, entry_variable, env_about, variables_told};
+ghost use Rattle.gix_config_c.specs.HostLoads.{IsAnsweredFor, IsAskedAbout, IsEnvLoad, IsEnvMade, IsEnvRefused, IsKeptBut, entry_variable, env_about, variables_told};
 ghost use Rattle.gix_config_c.specs.Loaded.{OfRules, asks_by};
 ghost use Rattle.gix_config_c.specs.Telling.{OfTold};
 ghost use Rattle.gix_config_c.specs.Variables.{count_variable};
@@ -112,7 +112,7 @@ fn env_file(
 ) -> Result<Option<File>, from_env::Error>
     ensures loaded { IsFromEnv (variables_told told.now) (asks_by told.now.files (record (rules_of_includes includes.entry) { lossy = lossy }))
         (numbered env_number result) }
-    ensures faulty { IfErr result (λ e. IsFaultyFor told.now (env_about e)) }
+    ensures cause { IfErr result (IsEnvRefused told.now (record (rules_of_includes includes.entry) { lossy = lossy })) }
 {
     let known = told.files.try_clone()?;
     let files = boxed(alloc, known)?;

@@ -2,13 +2,12 @@
 ghost use Rattle.std.specs.Option.{option_copied};
 ghost use Rattle.std.specs.Prelude.{◌≡◌, ◌⊎◌, IfErr, Some};
 ghost use Rattle.gitconf_loaders.specs.Errors.{paths_number};
-ghost use Rattle.gitconf_loaders.specs.Globals.{IsGlobal};
+ghost use Rattle.gitconf_loaders.specs.Globals.{IsGlobal, IsGlobalCause};
 ghost use Rattle.gitconf_loaders.specs.Paths.{numbered};
 ghost use Rattle.gix_config_c.specs.Blocks.{Holds, IsKept};
-ghost use Rattle.gix_config_c.specs.HostLoads.{IsFaultyFor, IsGlobalLoad, IsGlobalLoadAt, IsGlobalMade, IsKeptBut, OfPlaces, paths_about, variables_told};
+ghost use Rattle.gix_config_c.specs.HostLoads.{IsGlobalLoad, IsGlobalLoadAt, IsGlobalMade, IsKeptBut, OfPlaces, files_told, variables_told};
 ghost use Rattle.gix_config_c.specs.KnownPlaces.{places_of, plain_texts};
 ghost use Rattle.gix_config_c.specs.Telling.{OfTold};
-ghost use Rattle.gix_config_c.specs.Told.{told_at};
 ghost use Rattle.gix_config_c.specs.Variables.{first_untold, place_variables};
 
 use crate::block::{Block, room};
@@ -157,8 +156,8 @@ fn put_known(alloc: Global, told: &Told, places: Places, file: &mut Slot, asked:
 
 /// The configuration of the machine and of the user.
 fn globals(alloc: Global, told: &Told, places: Places) -> Result<File, from_paths::Error>
-    ensures loaded { IsGlobal (variables_told told.now) places (Some (told_at told.now.files)) (numbered paths_number result) }
-    ensures faulty { IfErr result (λ e. IsFaultyFor told.now (paths_about e)) }
+    ensures loaded { IsGlobal (variables_told told.now) places (files_told told.now) (numbered paths_number result) }
+    ensures cause { IfErr result (IsGlobalCause (variables_told told.now) places (files_told told.now)) }
 {
     let known = told.files.try_clone()?;
     let files = boxed(alloc, known)?;

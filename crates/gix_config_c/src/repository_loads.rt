@@ -4,7 +4,8 @@ ghost use Rattle.std.specs.Option.{option_copied};
 ghost use Rattle.gitconf_loaders.specs.Errors.{git_number};
 ghost use Rattle.gitconf_loaders.specs.Paths.{numbered};
 ghost use Rattle.gix_config_c.specs.Blocks.{IsKept};
-ghost use Rattle.gix_config_c.specs.HostLoads.{IsAnsweredFor, IsFaultyFor, IsKeptBut, IsRefusedRepository, IsRepositoryIn, IsRepositoryLoad, IsRepositoryMade, OfRepository, git_about, git_faulty};
+ghost use Rattle.gix_config.specs.Repository.{IsRepositoryCause};
+ghost use Rattle.gix_config_c.specs.HostLoads.{IsAnsweredFor, IsKeptBut, IsRefusedRepository, IsRepositoryIn, IsRepositoryLoad, IsRepositoryMade, OfRepository, files_told, git_about, variables_told};
 ghost use Rattle.gix_config_c.specs.KnownPlaces.{repository_of, repository_texts};
 ghost use Rattle.gix_config_c.specs.Telling.{OfTold};
 ghost use Rattle.gix_config_c.specs.Variables.{count_variable, first_untold, place_variables};
@@ -163,7 +164,7 @@ fn repository_file(
     places: Places,
 ) -> Result<File, from_git_dir::Error>
     ensures loaded { IsRepositoryIn told.now texts.now.folder.now texts.now.real.now places (numbered git_number result) }
-    ensures faulty { IfErr result (λ e. IsFaultyFor told.now (git_faulty e)) }
+    ensures cause { IfErr result (IsRepositoryCause (variables_told told.now) places (files_told told.now) texts.now.folder.now (Some texts.now.real.now)) }
 {
     let known = told.files.try_clone()?;
     let files = boxed(alloc, known)?;

@@ -3,14 +3,15 @@ ghost use Rattle.std.specs.Option.{option_map};
 ghost use Rattle.std.specs.Prelude.{◌≡◌, ℕ, Ok, unwrap_or, IfErr, IfOk, string_bytes};
 ghost use Rattle.gitconf_sources.specs.Key.{key_of, parsed_key};
 ghost use Rattle.gitconf_sources.specs.Metadata.{api_meta};
+ghost use Rattle.gitconf_sources.specs.Reports.{HasText, VariableReport};
 ghost use Rattle.gitconf_includes.specs.Outcomes.{asks_of, CountsFaults, IsCause};
 ghost use Rattle.gitconf_includes.specs.Errors.{includes_number};
 ghost use Rattle.gitconf_loaders.specs.Errors.{env_number};
 ghost use Rattle.gitconf_loaders.specs.Globals.{empty_file};
 ghost use Rattle.gitconf_loaders.specs.Resolving.{MakesOf};
 ghost use Rattle.gitconf_loaders.specs.Paths.{CountsLoad, left_by, numbered};
-ghost use Rattle.gitconf_loaders.specs.Variables.{IsEntryCause};
-ghost use Rattle.gix_config.specs.Environment.{AreEntriesPut, IsEntryPut, IsEnvCause, IsFromEnv, IsOverrides, IsOverridesCause, IsValuePushed, IsValuePut, IsPutUnder};
+ghost use Rattle.gitconf_loaders.specs.Variables.{IsEntryCause, IsEntryRefused, value_report};
+ghost use Rattle.gix_config.specs.Environment.{AreEntriesPut, IsEntryPut, IsEnvCause, IsFirstRefused, IsFromEnv, IsOverrides, IsOverridesCause, IsValuePushed, IsValuePut, IsPutUnder};
 ghost use Rattle.gix_config.specs.SectionEditors.{edited, lent, told};
 
 use crate::file::section_mut::SectionMut;
@@ -41,7 +42,7 @@ fn push_value(
 ) -> Result<(), Error>
     ensures same_file { lent section.new ≡ lent section.old }
     ensures pushed { IsValuePushed name.now (option_map string_bytes value) (edited section.old, told section.old) (left_by env_number result (edited section.new)) }
-    ensures cause { IfErr result (IsEntryCause index) }
+    ensures cause { (report : VariableReport) → IfErr result (IsEntryCause index report (value_report (option_map string_bytes value))) }
 {
     let Some(value) = value else {
         return Err(Error::IllformedUtf8 {
@@ -67,7 +68,7 @@ fn put_value(
     index: usize,
 ) -> Result<(), Error>
     ensures put { IsValuePut (key_of key.entry) (option_map string_bytes value) file.old (left_by env_number result file.new) }
-    ensures cause { IfErr result (IsEntryCause index) }
+    ensures cause { (report : VariableReport) → IfErr result (IsEntryCause index report (value_report (option_map string_bytes value))) }
 {
     match file.section_mut_or_create_new(key.section_name, key.subsection_name) {
         Ok(mut section) => push_value(&mut section, key.value_name, value, index),
@@ -82,7 +83,7 @@ fn put_value(
 /// 25 for a text that has no dot, and those of [`put_value`].
 fn put_under(file: &mut File, key: String, value: Option<String>, index: usize) -> Result<(), Error>
     ensures put { IsPutUnder (parsed_key (string_bytes key)) (option_map string_bytes value) file.old (left_by env_number result file.new) }
-    ensures cause { IfErr result (IsEntryCause index) }
+    ensures cause { IfErr result (IsEntryCause index (HasText (string_bytes key)) (value_report (option_map string_bytes value))) }
 {
     match KeyRef::parse_unvalidated(key.as_bytes()) {
         Some(key) => put_value(file, key, value, index),
@@ -100,7 +101,7 @@ fn put_under(file: &mut File, key: String, value: Option<String>, index: usize) 
 /// 24 if the key isn't set, 22 if it isn't UTF-8, 26 if the value isn't set, and those of [`put_under`].
 fn put_entry<E: Env>(alloc: Global, env: &mut E, index: usize, file: &mut File) -> Result<(), Error>
     ensures put { IsEntryPut (E.variables env.old) index file.old (left_by env_number result file.new) }
-    ensures cause { IfErr result (IsEntryCause index) }
+    ensures cause { IfErr result (IsEntryRefused (E.variables env.old) index) }
     ensures stays { E.variables env.new ≡ E.variables env.old }
 {
     let key = key_at(alloc, env, index)?;
@@ -120,7 +121,7 @@ fn put_entries<E: Env>(
     file: &mut File,
 ) -> Result<(), Error>
     ensures put { AreEntriesPut (E.variables env.old) count 0 file.old (left_by env_number result file.new) }
-    ensures cause { IfErr result (λ e. (index : ℕ) × IsEntryCause index e) }
+    ensures cause { IfErr result (IsFirstRefused (E.variables env.old) count file.old) }
     ensures stays { E.variables env.new ≡ E.variables env.old }
 {
     for index in 0..count {

@@ -138,7 +138,8 @@ impl File {
     pub fn from_globals(alloc: Global, host: &mut Host) -> Result<File, Error>
         ensures loaded { IsGlobal (⟦<Box<dyn Env> as Env>⟧.variables host.old.env) host.old.places (⟦<Box<dyn Files> as Files>⟧.table host.old.files)
             (numbered paths_number result) }
-        ensures cause { IfErr result (IsGlobalCause host.old.places (⟦<Box<dyn Files> as Files>⟧.table host.old.files)) }
+        ensures cause { IfErr result (IsGlobalCause (⟦<Box<dyn Env> as Env>⟧.variables host.old.env) host.old.places
+            (⟦<Box<dyn Files> as Files>⟧.table host.old.files)) }
         ensures table { ⟦<Box<dyn Files> as Files>⟧.table host.new.files ≡ ⟦<Box<dyn Files> as Files>⟧.table host.old.files }
         ensures counted { CountsLoad (numbered paths_number result) (⟦<Box<dyn Files> as Files>⟧.failures host.old.files)
             (⟦<Box<dyn Files> as Files>⟧.failures host.new.files) }

@@ -262,7 +262,7 @@ fn read<F: Files, E: Env>(
     folder: &str,
 ) -> Result<Parts, from_paths::Error>
     ensures read { IsReadOf (E.variables env.old) places.now (F.table files.old) (string_bytes path) folder.now (result_map_both parts_of paths_number result) }
-    ensures cause { IfErr result (IsReadCause places.now (F.table files.old)) }
+    ensures cause { IfErr result (IsReadCause (E.variables env.old) places.now (F.table files.old) (string_bytes path) folder.now) }
     ensures table { F.table files.new ≡ F.table files.old }
     ensures counted { CountsLoad (numbered paths_number result) (F.failures files.old) (F.failures files.new) }
     ensures stays { E.variables env.new ≡ E.variables env.old }

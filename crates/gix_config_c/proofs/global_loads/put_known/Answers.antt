@@ -9,6 +9,6 @@ pub returns-in-Err-clause-answer : goal.returns-in-Err-clause-answer
 returns-in-Err-clause-answer c = λ short. (
   Err c.in-Err.refusal,
   c.in-Err.ensures.loaded,
+  c.in-Err.ensures.cause,
   answered_for _ (load_path c.in-Err.refusal) (paths_number c.in-Err.refusal) _ _ _ (c.refused_load.ensures.answer short),
-  c.in-Err.ensures.faulty,
 )

@@ -1,6 +1,6 @@
 use Rattle.std.proofs.Common.{◌≡◌, ℕ, List, Option, Some, subst, ap, refl, ◌∙◌}
 use denote.Param.Object.{read_made}
-use Rattle.std.proofs.lemmas.Result.{IfErr-weaker}
+use Rattle.std.specs.Prelude.{IfErr}
 use Rattle.gitconf_loaders.specs.Errors.{git_number}
 use Rattle.gitconf_loaders.specs.Paths.{numbered}
 use Rattle.gix_config.specs.Repository.{IsRepository, IsRepositoryCause}
@@ -9,7 +9,6 @@ use Rattle.gitconf_sources.specs.Reports.{FileReport, VariableReport}
 use Rattle.gix_config_c.specs.HostLoads.{variables_told}
 use Rattle.gix_config_c.specs.Told.{told_at}
 use Rattle.gix_config_c.proofs.FaultLemmas.{right_of}
-use Rattle.gix_config_c.proofs.HostLemmas.{faulty_repository}
 use Rattle.gix_config_c.proofs.repository_loads.repository_file.OwnLists.{at-1-1, at-2-1, own-1, own-2}
 use Rattle.gix_config_c.proofs.repository_loads.repository_file.Goals as goal
 
@@ -23,9 +22,12 @@ returns-clause-loaded c =
     subst (λ (t : Option (List ℕ → FileReport)). IsRepository (variables_told c.args.told.now) c.args.places t c.args.texts.now.folder.now (Some c.args.texts.now.real.now) (numbered git_number c.from_git_dir.result)) table_is
     (subst (λ (v : Option (List ℕ → VariableReport)). IsRepository v c.args.places (right_of c.from_git_dir.ensures.table) c.args.texts.now.folder.now (Some c.args.texts.now.real.now) (numbered git_number c.from_git_dir.result)) variables_is c.from_git_dir.ensures.loaded)
 
--- the file that a refusal is about
-pub returns-clause-faulty : goal.returns-clause-faulty
-returns-clause-faulty c =
+-- and so it is with the cause of a refusal
+pub returns-clause-cause : goal.returns-clause-cause
+returns-clause-cause c =
     let files : ◌≡◌ {A = Option (List ℕ → FileReport)} (right_of c.from_git_dir.ensures.table) (Some (told_at c.in_ok-files.files.value)) = read_made own-1 (own-1.entry at-1-1) at-1-1 refl (Option (List ℕ → FileReport)) (λ j w. j.1.table w) _ _ _ c.into_dyn_box.ensures.1 in
     let table_is = files ∙ ap (λ v. Some (told_at v)) (c.in_ok-files.ensures ∙ c.in_ok-known.ensures) in
-    IfErr-weaker c.from_git_dir.result _ _ (λ e cause. faulty_repository c.args.told.now (right_of c.from_git_dir.ensures.env) c.args.places c.args.texts.now.folder.now (Some c.args.texts.now.real.now) e (subst (λ (t : Option (List ℕ → FileReport)). IsRepositoryCause (right_of c.from_git_dir.ensures.env) c.args.places t c.args.texts.now.folder.now (Some c.args.texts.now.real.now) e) table_is cause)) c.from_git_dir.ensures.cause
+    let env : ◌≡◌ {A = Option (List ℕ → VariableReport)} (right_of c.from_git_dir.ensures.env) (Some (variable_at c.in_ok-env.env.value)) = read_made own-2 (own-2.entry at-2-1) at-2-1 refl (Option (List ℕ → VariableReport)) (λ j w. j.1.variables w) _ _ _ c.into_dyn_box-2.ensures.1 in
+    let variables_is = env ∙ ap (λ v. Some (variable_at v)) (c.in_ok-env.ensures ∙ c.in_ok-set.ensures) in
+    subst (λ (t : Option (List ℕ → FileReport)). IfErr c.from_git_dir.result (IsRepositoryCause (variables_told c.args.told.now) c.args.places t c.args.texts.now.folder.now (Some c.args.texts.now.real.now))) table_is
+    (subst (λ (v : Option (List ℕ → VariableReport)). IfErr c.from_git_dir.result (IsRepositoryCause v c.args.places (right_of c.from_git_dir.ensures.table) c.args.texts.now.folder.now (Some c.args.texts.now.real.now))) variables_is c.from_git_dir.ensures.cause)

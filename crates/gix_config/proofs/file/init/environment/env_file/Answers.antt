@@ -2,7 +2,7 @@ use Rattle.std.proofs.Common.{rules, ◌≡◌, Ok, Err, refl, subst}
 use Rattle.gitconf_includes.specs.Outcomes.{asks_of}
 use Rattle.gitconf_loaders.specs.Errors.{env_number}
 use Rattle.gitconf_loaders.specs.Globals.{empty_file}
-use Rattle.gix_config.specs.Environment.{AreEntriesPut, env_meta}
+use Rattle.gix_config.specs.Environment.{AreEntriesPut, env_meta, IsFirstRefused}
 use Rattle.gix_config.proofs.Entries.{count_cause, entries_count, entries_made, entries_refused, entry_cause, includes_count, includes_refused}
 use Rattle.gix_config.proofs.file.init.environment.env_file.Goals as goal
 
@@ -21,13 +21,18 @@ returns-in_err-put_entries-clause-made g c =
 
 pub returns-in_err-put_entries-clause-cause : goal.returns-in_err-put_entries-clause-cause
 returns-in_err-put_entries-clause-cause g c =
-    entry_cause (g.E.Env.variables c.args.env.now) c.args.options.now (g.F.Files.table c.args.files.now) c.in_err-put_entries.field-0.0 c.from_residual-in_err-put_entries.result c.in_err-put_entries.ensures.cause
+    let variables = g.E.Env.variables c.args.env.now in
+    let e = c.in_err-put_entries.field-0.0 in
+    let first : c.in_ok-file.file ≡ empty_file env_meta = search rules in
+    let cause = subst (λ f. IsFirstRefused variables c.in_ok-count.count f e) first
+    (subst (λ v. IsFirstRefused v c.in_ok-count.count c.in_ok-file.file e) c.count.ensures.stays c.in_err-put_entries.ensures.cause) in
+    entry_cause variables c.args.options.now (g.F.Files.table c.args.files.now) c.in_ok-count.count e c.from_residual-in_err-put_entries.result c.in_ok-count.ensures.count cause
     c.from_residual-in_err-put_entries.ensures.1
 
 pub returns-in_err-put_entries-clause-counted : goal.returns-in_err-put_entries-clause-counted
 returns-in_err-put_entries-clause-counted g c =
-    entries_count c.in_err-put_entries.field-0.0 c.from_residual-in_err-put_entries.result (g.F.Files.failures c.args.files.now) (g.F.Files.failures c.args.files.now) c.from_residual-in_err-put_entries.ensures.1
-    c.in_err-put_entries.ensures.cause refl
+    entries_count (g.E.Env.variables c.count.new.env) c.in_ok-count.count c.in_ok-file.file c.in_err-put_entries.field-0.0 c.from_residual-in_err-put_entries.result (g.F.Files.failures c.args.files.now) (g.F.Files.failures c.args.files.now)
+    c.from_residual-in_err-put_entries.ensures.1 c.in_err-put_entries.ensures.cause refl
 
 pub returns-in_err-expanded-clause-made : goal.returns-in_err-expanded-clause-made
 returns-in_err-expanded-clause-made g c =

@@ -1,10 +1,11 @@
 use Rattle.std.proofs.Common.{◌≡◌, ◌⊎◌, ℕ, Ok, Err, Option, Result, ◌∙◌, subst, string_bytes}
 use Rattle.gitconf_state.specs.State.{State}
+use Rattle.gitconf_loaders.specs.Causes.{IsFileCause}
 use Rattle.gitconf_loaders.specs.Errors.{paths_number}
 use Rattle.gitconf_loaders.specs.Globals.{IsGlobal, IsGlobalCause}
 use Rattle.gitconf_loaders.proofs.Counts.{none_less}
-use Rattle.gix_config.specs.Repository.{IsWorktree}
-use Rattle.gix_config.proofs.Repositories.{all_read, global_cause, globals_refused, handed_count, worktree_not_read}
+use Rattle.gix_config.specs.Repository.{IsWorktree, worktree_path}
+use Rattle.gix_config.proofs.Repositories.{all_read, global_cause, globals_refused, handed_count, local_cause, worktree_cause, worktree_not_read}
 use Rattle.gix_config.proofs.file.init.repository.read.Goals as goal
 
 pub returns-in_err-worktree-clause-read : goal.returns-in_err-worktree-clause-read
@@ -31,8 +32,18 @@ pub returns-in_err-from_globals-clause-cause : goal.returns-in_err-from_globals-
 returns-in_err-from_globals-clause-cause g c =
     let table = g.F.Files.table c.args.files.now in
     let same = c.worktree.ensures.table ∙ c.from_path.ensures.table in
-    global_cause c.args.places.now table c.in_err-from_globals.field-0.0 c.from_residual-in_err-from_globals.result
-    (subst (λ t. IsGlobalCause c.args.places.now t c.in_err-from_globals.field-0.0) same c.in_err-from_globals.ensures.cause) c.from_residual-in_err-from_globals.ensures.1
+    global_cause (g.E.Env.variables c.args.env.now) c.args.places.now table (string_bytes c.args.path) c.args.folder.now c.in_err-from_globals.field-0.0 c.from_residual-in_err-from_globals.result
+    (subst (λ t. IsGlobalCause (g.E.Env.variables c.args.env.now) c.args.places.now t c.in_err-from_globals.field-0.0) same c.in_err-from_globals.ensures.cause) c.from_residual-in_err-from_globals.ensures.1
+
+pub returns-in_err-from_path-clause-cause : goal.returns-in_err-from_path-clause-cause
+returns-in_err-from_path-clause-cause g c =
+    local_cause (g.E.Env.variables c.args.env.now) c.args.places.now (g.F.Files.table c.args.files.now) (string_bytes c.args.path) c.args.folder.now c.in_err-from_path.field-0.0 c.from_residual.result
+    c.in_err-from_path.ensures.cause c.from_residual.ensures.1
+
+pub returns-in_err-worktree-clause-cause : goal.returns-in_err-worktree-clause-cause
+returns-in_err-worktree-clause-cause g c =
+    worktree_cause (g.E.Env.variables c.args.env.now) c.args.places.now (g.F.Files.table c.args.files.now) (string_bytes c.args.path) c.args.folder.now c.in_err-worktree.field-0.0 c.from_residual-in_err-worktree.result
+    (subst (λ t. IsFileCause t (worktree_path c.args.folder.now) c.in_err-worktree.field-0.0) c.from_path.ensures.table c.in_err-worktree.ensures.cause) c.from_residual-in_err-worktree.ensures.1
 
 pub returns-in_err-from_globals-clause-counted : goal.returns-in_err-from_globals-clause-counted
 returns-in_err-from_globals-clause-counted g c =

@@ -25,8 +25,8 @@ returns-in_err-parts-clause-cause g c =
     let variables = g.E.Env.variables c.args.env.now in
     let at : c.deref.result.now ≡ local_path c.args.dir.now = search rules in
     let in_folder = c.folder_of-folder.ensures ∙ ap folder_of at in
-    read_cause variables c.args.places.now table c.args.dir.now (resolved c.args.real) (string_bytes c.in_ok-path.path) c.folder_of-folder.result.now c.in_ok-path.ensures in_folder c.options-options.result c.in_err-parts.field-0.0
-    c.from_residual-in_err-parts.result c.options-options.ensures c.in_err-parts.ensures.cause c.from_residual-in_err-parts.ensures.1
+    read_cause variables c.args.places.now table c.args.dir.now (resolved c.args.real) (string_bytes c.in_ok-path.path) c.folder_of-folder.result.now c.in_ok-path.ensures in_folder c.in_err-parts.field-0.0
+    c.from_residual-in_err-parts.result c.in_err-parts.ensures.cause c.from_residual-in_err-parts.ensures.1
 
 pub returns-clause-loaded : goal.returns-clause-loaded
 returns-clause-loaded g c =
