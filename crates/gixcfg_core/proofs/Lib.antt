@@ -9,3 +9,4 @@ mod Told
 mod Negated
 mod Folding
 mod UrlLemmas
+mod CommentLemmas

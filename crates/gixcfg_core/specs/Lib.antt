@@ -4,6 +4,7 @@ pub mod Line
 pub mod Message
 pub mod Reason
 pub mod Colors
+pub mod Comments
 pub mod Dates
 pub mod Numbers
 pub mod Origins

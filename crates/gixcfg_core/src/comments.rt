@@ -1,4 +1,8 @@
 //! Comments after values: what `set --comment` puts into the text of a file.
+ghost use Rattle.std.specs.Prelude.{◌≡◌, ◌≤◌, ◌++◌, ℕ, length, take, drop, IfErr, IfOk, IfSome};
+ghost use Rattle.bstr.specs.Owned.{bstring_bytes};
+ghost use Rattle.gixcfg_core.specs.Comments as spec;
+ghost use Rattle.gixcfg_core.specs.Comments.{AreBefore, IsCommented, IsUncommented, lead_of};
 
 use crate::trouble::Trouble;
 use bstr::BString;
@@ -42,7 +46,10 @@ pub fn with_comment(
     text: &[u8],
     key: KeyRef<'_>,
     comment: &str,
-) -> Result<BString, Trouble> {
+) -> Result<BString, Trouble>
+    ensures done { IfOk result (λ new. IsCommented text.now comment.now (bstring_bytes new)) }
+    ensures refused { IfErr result IsUncommented }
+{
     match ends_in(alloc, text, key)? {
         Some(ends) => Ok(BString::new(spliced(alloc, text, ends, comment)?)),
         None => Err(Trouble::Uncommented),
@@ -50,7 +57,9 @@ pub fn with_comment(
 }
 
 /// The trouble that a refusal of a text is which was read before.
-pub fn trouble_of(refusal: &Error) -> Trouble {
+pub fn trouble_of(refusal: &Error) -> Trouble
+    ensures { result ≡ spec.trouble_of refusal.now }
+{
     if refusal.is_memory() {
         Trouble::Memory
     } else {
@@ -59,7 +68,10 @@ pub fn trouble_of(refusal: &Error) -> Trouble {
 }
 
 /// Where the last entry of a key that has a value ends in a text, if there is one.
-fn ends_in(alloc: Global, text: &[u8], key: KeyRef<'_>) -> Result<Option<Ends>, Trouble> {
+fn ends_in(alloc: Global, text: &[u8], key: KeyRef<'_>) -> Result<Option<Ends>, Trouble>
+    ensures done { IfOk result (λ ends. IfSome ends (AreBefore (length text.now))) }
+    ensures refused { IfErr result IsUncommented }
+{
     match Events::from_bytes(alloc, text, None) {
         Ok(events) => Ok(ends_of(&events, text, key)),
         Err(refusal) => Err(trouble_of(&refusal)),
@@ -67,7 +79,9 @@ fn ends_in(alloc: Global, text: &[u8], key: KeyRef<'_>) -> Result<Option<Ends>, 
 }
 
 /// Where the last entry of a key that has a value ends in the text of these events.
-fn ends_of(events: &Events, text: &[u8], key: KeyRef<'_>) -> Option<Ends> {
+fn ends_of(events: &Events, text: &[u8], key: KeyRef<'_>) -> Option<Ends>
+    ensures { IfSome result (AreBefore (length text.now)) }
+{
     let (mut part, mut at, mut ends) = (Part::Outside, 0usize, None);
     for event in events.iter() {
         at = at.saturating_add(len_of(&event, after(text, at)));
@@ -80,7 +94,9 @@ fn ends_of(events: &Events, text: &[u8], key: KeyRef<'_>) -> Option<Ends> {
 }
 
 /// The ends after an event that ends at a place: of the entry whose value it ends, or whose line it goes on with.
-fn next_ends(part: Part, next: Part, at: usize, ends: Option<Ends>) -> Option<Ends> {
+fn next_ends(part: Part, next: Part, at: usize, ends: Option<Ends>) -> Option<Ends>
+    ensures { (from : ℕ) → from ≤ at → IfSome ends (AreBefore from) → IfSome result (AreBefore at) }
+{
     match (part, next, ends) {
         (Part::Entry, Part::Tail, _) => Some(Ends {
             value: at,
@@ -166,17 +182,23 @@ fn header_len(text: &[u8]) -> usize {
 }
 
 /// A text up to a place.
-fn before(text: &[u8], at: usize) -> &[u8] {
+fn before(text: &[u8], at: usize) -> &[u8]
+    ensures { result.now ≡ take at text.now }
+{
     text.split_at(at.min(text.len())).0
 }
 
 /// A text from a place on.
-fn after(text: &[u8], at: usize) -> &[u8] {
+fn after(text: &[u8], at: usize) -> &[u8]
+    ensures { result.now ≡ drop at text.now }
+{
     text.split_at(at.min(text.len())).1
 }
 
 /// A text with a comment in place of what is between the end of a value and the end of its line.
-fn spliced(alloc: Global, text: &[u8], ends: Ends, comment: &str) -> Result<Vec<u8>, NoMemory> {
+fn spliced(alloc: Global, text: &[u8], ends: Ends, comment: &str) -> Result<Vec<u8>, NoMemory>
+    ensures { IfOk result (λ new. new.items ≡ take ends.value text.now ++ lead_of comment.now ++ comment.now ++ drop ends.line text.now) }
+{
     let mut new = Vec::new(alloc);
     new.extend_from_slice(before(text, ends.value))?;
     new.extend_from_slice(lead_of(comment).as_bytes())?;
@@ -186,7 +208,10 @@ fn spliced(alloc: Global, text: &[u8], ends: Ends, comment: &str) -> Result<Vec<
 }
 
 /// What is put before a comment, as git does it: nothing if it begins with blanks and `#`, a blank if it begins with `#`, else both.
-fn lead_of(comment: &str) -> &'static str {
+#[tactic(auto, unfolding(crate::proofs::CommentLemmas::lead_or))]
+fn lead_of(comment: &str) -> &'static str
+    ensures { result.now ≡ lead_of comment.now }
+{
     let mut lead = " ";
     for byte in comment.as_bytes() {
         match *byte {
