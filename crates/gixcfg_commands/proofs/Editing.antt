@@ -2,13 +2,14 @@
 use Rattle.std.proofs.Common.{◌≡◌, ◌⊎◌, inl, inr, ⊎_elim, ℕ, Bool, true, false, List, Option, option_map, Some, None, Result, Ok, Err, refl, sym, ◌∙◌, ap, subst}
 use Rattle.std.specs.Prelude.{unwrap_or, IsErrOf}
 use Rattle.std.specs.List.{list_any}
+use Rattle.gitconf_state.specs.Edit.{with_used}
 use Rattle.gitconf_state.specs.Edits.{RenameAll, apply}
 use Rattle.gitconf_state.specs.Lookup.{is_named, listed}
 use Rattle.gitconf_state.specs.Printing.{printed}
 use Rattle.gitconf_state.specs.State.{SectionState, State}
 use Rattle.gitconf_body.specs.Done.{Cause, InvalidKey, InvalidName, InvalidSubsection, IsRefusedFor, Missing, OutOfMemory, TooLarge, first_cause}
 use Rattle.gitconf_lookups.specs.Picks.{picked}
-use Rattle.gitconf_store.specs.Edited.{IsEdited, causes}
+use Rattle.gitconf_store.specs.Edited.{IsEdited, causes, done}
 use Rattle.gitconf_store.specs.RenameErrors.{rename_refusal}
 use Rattle.gitconf_store.specs.declared.rename_section.Error.{Error}
 use Rattle.gix_config.proofs.Standing.{named_none}
@@ -19,6 +20,10 @@ use Rattle.gixcfg_core.specs.declared.trouble.Trouble.{Trouble}
 use Rattle.gixcfg_core.specs.declared.trouble.Trouble.TheVariants.{Memory}
 use Rattle.gixcfg_commands.specs.Answered.{IsCarriedOut, edited_text, marked, marked_answer}
 use Rattle.gixcfg_commands.specs.Edits.{others_of, removal_of, trouble_for, trouble_of_renaming, unrenamed}
+
+-- a file that is another one, but for the bytes of its buffer
+pub but_used : (new made : State) (used : ℕ) → new ≡ with_used used made → new ≡ with_used new.used made
+but_used new made used is = is ∙ ap (λ u. with_used u made) (sym (ap (λ (file : State). file.used) is))
 
 pub some_same : {A : Type 0} (x y : A) → Some x ≡ Some y → x ≡ y
 some_same x y same = ap (λ o. unwrap_or o x) same
@@ -43,7 +48,7 @@ module _ (name : List ℕ) (subsection : Option (List ℕ)) (new_name : List ℕ
     where
       go : IsEdited {T = Unit {0}} {E = Error} rename_refusal (RenameAll name subsection (λ _. true) new_name new_subsection) (Ok (tt {0})) old new
           → IsCarriedOut (unrenamed name subsection new_name new_subsection old) (apply (RenameAll name subsection (λ _. true) new_name new_subsection)) (Ok (tt {0})) old new
-      go is = (no_cause (first_cause (causes (RenameAll name subsection (λ _. true) new_name new_subsection) old)) is.told, ap printed is.ok)
+      go is = (no_cause (first_cause (causes (RenameAll name subsection (λ _. true) new_name new_subsection) old)) is.told, but_used new (apply (RenameAll name subsection (λ _. true) new_name new_subsection) old) (done (RenameAll name subsection (λ _. true) new_name new_subsection) old).used is.ok)
 
   -- one that isn't tells its cause
   same_trouble : (cause : Cause) → trouble_of_renaming (rename_refusal cause) ≡ trouble_for cause
@@ -78,7 +83,7 @@ removal_done name subsection file text there is = rw (there) (ap Ok (sym is))
 pub answer_done : (refusal : Option Trouble) (done : State → State) (before : List ℕ) (old new : State) (result : Result BString Trouble) → IsCarriedOut refusal done (Ok tt) old new
     → Answers bstring_bytes result (Ok (marked before (printed new))) → Answers bstring_bytes result (marked_answer before (edited_text refusal done old))
 answer_done refusal done before old new result is answers =
-    subst (λ why. Answers bstring_bytes result (marked_answer before (edited_text why done old))) (sym is.0) (subst (λ text. Answers bstring_bytes result (Ok (marked before text))) is.1 answers)
+    subst (λ why. Answers bstring_bytes result (marked_answer before (edited_text why done old))) (sym is.0) (subst (λ text. Answers bstring_bytes result (Ok (marked before text))) (ap printed is.1) answers)
 
 -- why there is none
 pub answer_refused : (refusal : Option Trouble) (done : State → State) (before : List ℕ) (old new : State) (trouble : Trouble) → IsCarriedOut refusal done (Err trouble) old new

@@ -1,5 +1,5 @@
 -- What becomes of a key's entries when it gets a value.
-use Rattle.std.proofs.Common.{◌≡◌, inl, inr, ◌+◌, ◌++◌, ◌&&◌, ◌||◌, ℕ, Bool, true, false, List, [], ◌∷◌, map, Option, Some, None, Result, Ok, Err, refl, sym, ap, ◌∙◌, subst}
+use Rattle.std.proofs.Common.{◌≡◌, inl, inr, ◌+◌, ◌++◌, ◌&&◌, ◌||◌, ℕ, Bool, true, false, List, [], ◌∷◌, map, Option, Some, None, Result, Ok, Err, refl, sym, ap, ◌∙◌, subst, Bor}
 use Rattle.std.specs.Prelude.{◌==◌, IfOk, OnOk, not, unwrap_or}
 use Rattle.std.specs.List.{list_all}
 use Rattle.std.specs.Option.{option_map}
@@ -9,7 +9,6 @@ use Rattle.gitconf_sources.specs.Key.{Key}
 use Rattle.gitconf_state.specs.Edit.{Spacing, new_section, with_used}
 use Rattle.gitconf_state.specs.Edits.{Edit, NewSection, PushAfterLast, apply, apply_all}
 use Rattle.gitconf_state.specs.Editors.{Editor, OfEntry, editor_of}
-use Rattle.gitconf_state.specs.Printing.{printed}
 use Rattle.gitconf_state.specs.State.{SectionState, State}
 use Rattle.gitconf_body.specs.Done.{Cause, InvalidKey, InvalidName, InvalidSubsection, IsRefusedFor, Missing, OutOfMemory, TooLarge, first_cause, is_full, key_causes}
 use Rattle.gitconf_text.specs.HeaderErrors.{header_number}
@@ -28,28 +27,45 @@ use Rattle.gix_config.specs.MultiValueEditors.{AreTargets, IsOneSet, edited as e
 use Rattle.gix_config.specs.Targeted.{Targeted, place_at}
 use Rattle.gix_config.specs.declared.file.multi_value_mut.MultiValueMut.{MultiValueMut}
 use Rattle.gix_config.specs.declared.file.section_mut.SectionMut.{SectionMut}
-use Rattle.gixcfg_core.specs.Answers.{Answers}
 use Rattle.gixcfg_core.specs.Troubles.{trouble_of_number}
 use Rattle.gixcfg_core.specs.declared.trouble.Trouble.{Trouble}
-use Rattle.gixcfg_commands.specs.Answered.{IsCarriedOut, marked}
+use Rattle.gixcfg_commands.specs.Answered.{IsCarriedOut}
+use Rattle.gixcfg_commands.specs.Comments.{IsEditedText, IsTextWith}
 use Rattle.gixcfg_commands.specs.Meant.{IsMeant, plain_holder, removals, spared, values_of_key, without_marked}
-use Rattle.gixcfg_commands.specs.Setting.{IsGivenText, IsPushed, IsRewritten, IsUnwritten, added, adding, section_of_key, setting_of, trouble_of_cause, unadded, with_made, with_section, writing}
+use Rattle.gixcfg_commands.specs.Setting.{IsPushed, IsRewritten, IsUnwritten, added, adding, section_of_key, setting_of, trouble_of_cause, unadded, with_made, with_section, writing}
 use Rattle.gixcfg_commands.specs.declared.edits.Setting.{Setting}
 use Rattle.gixcfg_commands.specs.declared.meant.Meant.{Meant}
+use Rattle.gixcfg_commands.proofs.Editing.{but_used}
 use Rattle.gixcfg_commands.proofs.Unsetting.{holders_stand}
 
 -- what becomes of the entries that were found
-pub setting_same : (key : Key) (means : Option (List ℕ) → Bool) (old : State) (found : Meant) (is_all is_commented : Bool) (value : List ℕ) (result as_told : Result Setting Trouble)
-    → IsMeant key means old found → is_commented ≡ false → result ≡ setting_of is_all is_commented value found.marks.items (map (option_map bstring_bytes) found.values.items)
-    → result ≡ as_told → as_told ≡ setting_of is_all false value (map means (values_of_key key old)) (values_of_key key old)
-setting_same key means old found is_all is_commented value result as_told is plain told same = sym same ∙ told ∙ (λ i. setting_of is_all (plain i) value (is.marks i) (is.values i))
+pub setting_same : (key : Key) (means : Option (List ℕ) → Bool) (old : State) (found : Meant) (is_all is_commented asked : Bool) (value : List ℕ) (result as_told : Result Setting Trouble)
+    → IsMeant key means old found → is_commented ≡ asked → result ≡ setting_of is_all is_commented value found.marks.items (map (option_map bstring_bytes) found.values.items)
+    → result ≡ as_told → as_told ≡ setting_of is_all asked value (map means (values_of_key key old)) (values_of_key key old)
+setting_same key means old found is_all is_commented asked value result as_told is commented told same =
+    sym same ∙ told ∙ (λ i. setting_of is_all (commented i) value (is.marks i) (is.values i))
 
--- the text in which an entry is rewritten
-pub given_so : (key : Key) (at : ℕ) (value before text : List ℕ) (old : State) (result : Result BString Trouble) → IsRewritten key at value old text
-    → Answers bstring_bytes result (Ok (marked before text)) → IsGivenText key at value before old result
-given_so key at value before text old (Ok new) is answers = (text, is, let same : marked before text ≡ bstring_bytes new = cc in sym same)
-given_so key at value before text old (Err trouble) is (inl memory) = inl memory
-given_so key at value before text old (Err trouble) is (inr other) = absurd (cc)
+-- the text of a file, whatever the bytes of its buffer
+pub text_of_same : (comment : Option (Bor (List ℕ))) (before : List ℕ) (used : ℕ) (file : State) (result : Result BString Trouble) → IsTextWith comment before (with_used used file) result
+    → IsTextWith comment before file result
+text_of_same None before used file result is = is
+text_of_same (Some comment) before used file (Ok new) is = is
+text_of_same (Some comment) before used file (Err trouble) is = is
+
+-- the text of a file to which an entry was added
+pub added_text_so : (comment : Option (Bor (List ℕ))) (before : List ℕ) (refusal : Option Trouble) (done : State → State) (old new : State) (result : Result BString Trouble)
+    → IsCarriedOut refusal done (Ok tt) old new → IsTextWith comment before new result → IsEditedText comment before refusal (done old) result
+added_text_so comment before refusal done old new result is text =
+    subst (λ why. IsEditedText comment before why (done old) result) (sym is.0)
+    (text_of_same comment before new.used (done old) result (subst (λ file. IsTextWith comment before file result) is.1 text))
+
+-- why there is none
+pub not_added_text : (comment : Option (Bor (List ℕ))) (before : List ℕ) (refusal : Option Trouble) (done : State → State) (old new : State) (trouble : Trouble)
+    → IsCarriedOut refusal done (Err trouble) old new → IsEditedText comment before refusal (done old) (Err trouble)
+not_added_text comment before refusal done old new trouble (inr why) = subst (λ w. IsEditedText comment before w (done old) (Err trouble)) (sym why) (inr refl)
+not_added_text comment before (Some other) done old new trouble (inl memory) = inl memory
+not_added_text None before None done old new trouble (inl memory) = inl memory
+not_added_text (Some comment) before None done old new trouble (inl memory) = inl memory
 
 -- the file without the others that are meant
 pub alone_file : (key : Key) (means : Option (List ℕ) → Bool) (at : ℕ) (old new : State) (found others : Meant) → IsMeant key means old found → others.marks.items ≡ spared found.marks.items at
@@ -107,7 +123,7 @@ added_so key value old e new (Ok _) is none pushed =
     let same = same_adding key value old e is in
     let cause : first_cause (causes (adding key value old) (with_section key old)) ≡ None = (λ i. first_cause (causes (sym same.0 i) (sym same.1 i))) ∙ pushed.0 in (
       ap (option_map trouble_of_cause) (first_behind (making_causes key.section key.subsection (section_of_key key old) old) (causes (adding key value old) (with_section key old)) none ∙ cause),
-      ap printed pushed.1 ∙ (λ i. printed (done (same.0 i) (same.1 i))),
+      but_used new (added key value old) (done (adding key value old) (with_section key old)).used (pushed.1 ∙ (λ i. done (same.0 i) (same.1 i))),
     )
 added_so key value old e new (Err trouble) is none (inl memory) = inl memory
 added_so key value old e new (Err trouble) is none (inr why) =
@@ -184,19 +200,19 @@ not_pushed_so number e name value result refusal old new is err = go (subst (λ 
     go is = why (first_cause (causes (PushAfterLast number e name (Some value)) old)) refl is.told
 
 -- an entry is rewritten by an editor of the key's values
-pub rewritten_so : (key : Key) (at : ℕ) (value : List ℕ) (old : State) (e : MultiValueMut Targeted) (text : List ℕ) → AreTargets key (key_places key (λ _. true) old) (targets_of e)
-    → edited_by e ≡ old → text ≡ printed (apply (writing e at value) (edited_by e)) → IsRewritten key at value old text
-rewritten_so key at value old e text are same is =
-    (e.targets.places, are.2, is ∙ (λ i. printed (apply (rewriting OfEntry (place_at e.targets.places at) (are.3 i) value (same i)) (same i))))
+pub rewritten_so : (key : Key) (at : ℕ) (value : List ℕ) (old : State) (e : MultiValueMut Targeted) (new : State) → AreTargets key (key_places key (λ _. true) old) (targets_of e)
+    → edited_by e ≡ old → new ≡ with_used new.used (apply (writing e at value) (edited_by e)) → IsRewritten key at value old new
+rewritten_so key at value old e new are same is =
+    (e.targets.places, are.2, is ∙ (λ i. with_used new.used (apply (rewriting OfEntry (place_at e.targets.places at) (are.3 i) value (same i)) (same i))))
 
 -- how many bytes that adds
 abbrev bytes_of : MultiValueMut Targeted → (at : ℕ) (value : List ℕ) → ℕ
 bytes_of e at value = bytes_in (place_at (places_of e) at).0 (rewritten_put (key_of e) value) (edited_by e)
 
 pub written_so : (e : MultiValueMut Targeted) (at : ℕ) (value : List ℕ) (result : Result (Unit {0}) ℕ) (new : State) → IsOneSet e at value result new → result ≡ Ok tt
-    → printed new ≡ printed (apply (writing e at value) (edited_by e))
+    → new ≡ with_used new.used (apply (writing e at value) (edited_by e))
 written_so e at value result new is ok =
-    ap printed (subst (λ r. OnOk r (new ≡ with_used ((edited_by e).used + bytes_of e at value) (apply (writing e at value) (edited_by e)))) ok is.ok)
+    but_used new (apply (writing e at value) (edited_by e)) ((edited_by e).used + bytes_of e at value) (subst (λ r. OnOk r (new ≡ with_used ((edited_by e).used + bytes_of e at value) (apply (writing e at value) (edited_by e)))) ok is.ok)
 
 pub not_written_so : (e : MultiValueMut Targeted) (at : ℕ) (value : List ℕ) (result : Result (Unit {0}) ℕ) (refusal : ℕ) (new : State) → IsOneSet e at value result new → result ≡ Err refusal
     → IsUnwritten (trouble_of_number refusal)
@@ -219,6 +235,7 @@ not_written_so e at value result refusal new is err =
 -- so it is told
 pub rewritten_as_told : (key : Key) (at : ℕ) (value : List ℕ) (old : State) (before after : MultiValueMut Targeted) (new : State) (result : Result (Unit {0}) Trouble)
     → AreTargets key (key_places key (λ _. true) old) (targets_of before) → edited_by before ≡ old → edited_by after ≡ new
-    → OnOk result (printed (edited_by after) ≡ printed (apply (writing before at value) (edited_by before))) → IfOk result (λ _. IsRewritten key at value old (printed new))
-rewritten_as_told key at value old before after new (Ok _) are same left is = rewritten_so key at value old before (printed new) are same (sym (ap printed left) ∙ is)
+    → OnOk result (edited_by after ≡ with_used (edited_by after).used (apply (writing before at value) (edited_by before))) → IfOk result (λ _. IsRewritten key at value old new)
+rewritten_as_told key at value old before after new (Ok _) are same left is =
+    rewritten_so key at value old before new are same (subst (λ file. file ≡ with_used file.used (apply (writing before at value) (edited_by before))) left is)
 rewritten_as_told key at value old before after new (Err trouble) are same left is = tt

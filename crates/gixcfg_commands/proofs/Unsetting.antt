@@ -20,7 +20,7 @@ use Rattle.gixcfg_commands.specs.Answered.{IsCarriedOut, marked}
 use Rattle.gixcfg_commands.specs.Edits.{UnsetsTo, unremoved}
 use Rattle.gixcfg_commands.specs.Meant.{ByMeant, IsMeant, count_marked, has_names, holders_of, holding, plain_holder, removals, values_of_key, without_marked}
 use Rattle.gixcfg_commands.specs.declared.meant.Meant.{Meant}
-use Rattle.gixcfg_commands.proofs.Editing.{answer_done, answer_refused}
+use Rattle.gixcfg_commands.proofs.Editing.{answer_done, answer_refused, but_used}
 
 -- the sections of a key are there
 or_right : (a b : Bool) → b ≡ true → (a || b) ≡ true
@@ -50,7 +50,7 @@ pub removed_so : (key : Key) (means : Option (List ℕ) → Bool) (is_all : Bool
     → IsCarriedOut (unremoved is_all (count_marked (map means (values_of_key key old)))) (without_marked key (map means (values_of_key key old))) result old new
 removed_so key means is_all old new found (Ok _) is none done memory = (
   subst (λ marks. unremoved is_all (count_marked marks) ≡ None) is.marks none,
-  ap printed (done ∙ (λ i. apply_all (removals key.name (is.marks i) (is.holders i)) old)),
+  but_used new (without_marked key (map means (values_of_key key old)) old) (without_marked key (map means (values_of_key key old)) old).used (done ∙ (λ i. apply_all (removals key.name (is.marks i) (is.holders i)) old)),
 )
 removed_so key means is_all old new found (Err trouble) is none done memory =
     inl (memory (subst (λ holders. list_all (λ h. has_number h.0 old) holders ≡ true) (sym is.holders) (holders_stand key old)))

@@ -1,6 +1,7 @@
 -- What becomes of a text by an edit: what is printed of the edited file, or why there is nothing.
 use Rattle.std.specs.Prelude.{◌≡◌, ◌⊎◌, ℕ, nat_eq, List, ◌++◌, Option, Some, None, Result, Ok, Err, if◌then◌else◌}
 use Rattle.std.specs.List.{starts_with}
+use Rattle.gitconf_state.specs.Edit.{with_used}
 use Rattle.gitconf_state.specs.Printing.{printed}
 use Rattle.gitconf_state.specs.State.{State}
 use Rattle.gixcfg_core.specs.Line.{mark}
@@ -16,9 +17,9 @@ abbrev pub marked_answer : (before : List ℕ) → Result (List ℕ) Trouble →
 marked_answer before (Ok text) = Ok (marked before text)
 marked_answer before (Err trouble) = Err trouble
 
--- An edit of a file is done, and what is printed of it then is what this makes of it; or it is refused for that reason; else memory ran out.
+-- An edit of a file is done, and the file is then what this makes of it, but for the bytes of its buffer; or it is refused for that reason; else memory ran out.
 abbrev pub IsCarriedOut : (refusal : Option Trouble) (done : State → State) → Result (Unit {0}) Trouble → (old new : State) → Type 0
-IsCarriedOut refusal done (Ok _) old new = (refusal ≡ None) × (printed new ≡ printed (done old))
+IsCarriedOut refusal done (Ok _) old new = (refusal ≡ None) × (new ≡ with_used new.used (done old))
 IsCarriedOut refusal done (Err trouble) old new = (trouble ≡ Memory) ⊎ (refusal ≡ Some trouble)
 
 -- what is printed of an edited file, or why there is nothing

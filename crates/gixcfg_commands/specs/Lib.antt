@@ -1,5 +1,6 @@
 pub mod Answered
 pub mod Checks
+pub mod Comments
 pub mod Differing
 pub mod Edits
 pub mod Entries

@@ -1,15 +1,15 @@
 -- What `set` makes of a file.
 -- Source: the manual page of `git-config`, `set`, `--all`, `--append`, `--value` and `--type`.
-use Rattle.std.specs.Prelude.{◌≡◌, ◌⊎◌, ◌==◌, ◌&&◌, ◌++◌, ℕ, Bool, true, false, not, List, map, position, Option, Some, None, Result, Ok, Err, if◌then◌else◌, slice_get, unwrap_or}
+use Rattle.std.specs.Prelude.{◌≡◌, ◌⊎◌, ◌==◌, ◌&&◌, ◌++◌, ℕ, Bool, true, false, not, List, map, position, Option, Some, None, Result, Ok, Err, if◌then◌else◌, slice_get, unwrap_or, is_some}
+use Rattle.std.specs.Borrow.{Bor}
 use Rattle.std.specs.Option.{option_eq, option_map}
 use Rattle.std.specs.Str.{bytes_eq}
 use Rattle.bstr.specs.Owned.{bstring_bytes}
 use Rattle.bstr.specs.declared.bstring.BString.{BString}
 use Rattle.gitconf_sources.specs.Key.{Key, key_of}
-use Rattle.gitconf_state.specs.Edit.{Spacing, new_section}
+use Rattle.gitconf_state.specs.Edit.{Spacing, new_section, with_used}
 use Rattle.gitconf_state.specs.Edits.{Edit, NewSection, PushAfterLast, apply}
 use Rattle.gitconf_state.specs.Editors.{OfEntry, editor_of}
-use Rattle.gitconf_state.specs.Printing.{printed}
 use Rattle.gitconf_state.specs.State.{SectionState, State}
 use Rattle.gitconf_body.specs.Done as reasons
 use Rattle.gitconf_body.specs.Done.{Cause, first_cause}
@@ -25,6 +25,7 @@ use Rattle.gix_config.specs.declared.file.section_mut.SectionMut.{SectionMut}
 use Rattle.gixcfg_words.specs.declared.command.Placing.{Placing}
 use Rattle.gixcfg_words.specs.declared.command.Placing.TheVariants.{New, Only, All}
 use Rattle.gixcfg_words.specs.declared.command.Set.{Set}
+use Rattle.gixcfg_words.specs.declared.command.Values.{Values}
 use Rattle.gixcfg_words.specs.declared.kinds.Kind.{Kind}
 use Rattle.gixcfg_core.specs.Answers.{Answers}
 use Rattle.gixcfg_core.specs.Typed.{IsStored}
@@ -32,7 +33,7 @@ use Rattle.gixcfg_core.specs.declared.trouble.Trouble.{Trouble}
 use Rattle.gixcfg_core.specs.declared.trouble.Trouble.TheVariants.{BadName, Memory, Missing, Refused, Several, Untyped}
 use Rattle.gixcfg_core.specs.declared.typed.Fault.TheVariants as types
 use Rattle.gixcfg_core.specs.declared.typed.Refusal.{Refusal}
-use Rattle.gixcfg_commands.specs.Answered.{edited_text, marked, marked_answer}
+use Rattle.gixcfg_commands.specs.Comments.{IsEditedText, IsTextWith}
 use Rattle.gixcfg_commands.specs.Meant.{ByMeant, count_marked, spared, values_of_key, without_marked}
 use Rattle.gixcfg_commands.specs.declared.edits.Setting.{Setting}
 use Rattle.gixcfg_commands.specs.declared.edits.Setting.TheVariants.{Add, Keep, Give, GiveAlone}
@@ -94,37 +95,40 @@ setting_of is_all is_commented value marks values = elim (position (λ mark. mar
   | Some first ↦ if count_marked marks == 1 then Ok (setting_of_one is_commented value values first) else setting_of_several is_all first
 ]
 
--- the text of a file in which the entry at a place among those of a key is rewritten; these are counted in the order of the numbers of their sections
-abbrev pub IsRewritten : Key → (at : ℕ) (value : List ℕ) → (old : State) (text : List ℕ) → Type 0
-IsRewritten key at value old text =
-    (ordered : List (ℕ × ℕ)) × AreInOrder (key_places key (λ _. true) old) ordered × (text ≡ printed (apply (rewriting OfEntry (place_at ordered at) key.name value old) old))
+-- the entry at a place among those of a key is rewritten, and else only the bytes of the buffer change; entries are counted in the order of the numbers of their sections
+abbrev pub IsRewritten : Key → (at : ℕ) (value : List ℕ) → (old new : State) → Type 0
+IsRewritten key at value old new =
+    (ordered : List (ℕ × ℕ)) × AreInOrder (key_places key (λ _. true) old) ordered × (new ≡ with_used new.used (apply (rewriting OfEntry (place_at ordered at) key.name value old) old))
 
 -- an entry isn't rewritten: for want of memory or of room (that it is missing is in no definition, and comes never)
 abbrev pub IsUnwritten : Trouble → Type 0
 IsUnwritten trouble = (trouble ≡ Memory) ⊎ ((trouble ≡ Refused 3) ⊎ (trouble ≡ Missing))
 
--- the text in which such an entry is rewritten, or why there is none
-abbrev pub IsGivenText : Key → (at : ℕ) (value before : List ℕ) → State → Result BString Trouble → Type 0
-IsGivenText key at value before file (Ok new) = (text : List ℕ) × IsRewritten key at value file text × (bstring_bytes new ≡ marked before text)
-IsGivenText key at value before file (Err trouble) = IsUnwritten trouble
+-- the text of the file in which such an entry is rewritten, or why there is none
+abbrev pub IsGivenText : (comment : Option (Bor (List ℕ))) → Key → (at : ℕ) (value before : List ℕ) → State → Result BString Trouble → Type 0
+IsGivenText comment key at value before file result =
+    ((edited : State) × IsRewritten key at value file edited × IsTextWith comment before edited result)
+    ⊎ ((trouble : Trouble) × IsUnwritten trouble × (result ≡ Err trouble))
 
 -- the text in which a key's entries became what is said
-abbrev pub IsSetText : Result Setting Trouble → Key → (value : List ℕ) (marks : List Bool) (before : List ℕ) → State → Result BString Trouble → Type 0
-IsSetText (Err trouble) key value marks before file result = result ≡ Err trouble
-IsSetText (Ok Add) key value marks before file result =
-    Answers bstring_bytes result (marked_answer before (edited_text (unadded key value file) (added key value) file))
-IsSetText (Ok Keep) key value marks before file result = Answers bstring_bytes result (Ok before)
-IsSetText (Ok (Give at)) key value marks before file result = IsGivenText key at value before file result
-IsSetText (Ok (GiveAlone at)) key value marks before file result = IsGivenText key at value before (without_marked key (spared marks at) file) result
+abbrev pub IsSetText : (comment : Option (Bor (List ℕ))) → Result Setting Trouble → Key → (value : List ℕ) (marks : List Bool) (before : List ℕ) → State → Result BString Trouble → Type 0
+IsSetText comment (Err trouble) key value marks before file result = result ≡ Err trouble
+IsSetText comment (Ok Add) key value marks before file result = IsEditedText comment before (unadded key value file) (added key value file) result
+IsSetText comment (Ok Keep) key value marks before file result = Answers bstring_bytes result (Ok before)
+IsSetText comment (Ok (Give at)) key value marks before file result = IsGivenText comment key at value before file result
+IsSetText comment (Ok (GiveAlone at)) key value marks before file result =
+    IsGivenText comment key at value before (without_marked key (spared marks at) file) result
+
+-- the text in which a key has a value in place of the only entry that is meant, or of all that are
+abbrev pub IsPutText : (comment : Option (Bor (List ℕ))) (is_all : Bool) → Values → Key → (value before : List ℕ) → State → Result BString Trouble → Type 0
+IsPutText comment is_all values key value before file result = ByMeant values (λ means. let found = values_of_key key file in
+    IsSetText comment (setting_of is_all (is_some comment) value (map means found) found) key value (map means found) before file result) result
 
 -- the text in which a key has a value in place of entries that are meant, or beside others
-abbrev pub IsPlacedText : Placing → Key → (value before : List ℕ) → State → Result BString Trouble → Type 0
-IsPlacedText New key value before file result =
-    Answers bstring_bytes result (marked_answer before (edited_text (unadded key value file) (added key value) file))
-IsPlacedText (Only values) key value before file result = ByMeant values (λ means. let found = values_of_key key file in
-    IsSetText (setting_of false false value (map means found) found) key value (map means found) before file result) result
-IsPlacedText (All values) key value before file result = ByMeant values (λ means. let found = values_of_key key file in
-    IsSetText (setting_of true false value (map means found) found) key value (map means found) before file result) result
+abbrev pub IsPlacedText : (comment : Option (Bor (List ℕ))) → Placing → Key → (value before : List ℕ) → State → Result BString Trouble → Type 0
+IsPlacedText comment New key value before file result = IsEditedText comment before (unadded key value file) (added key value file) result
+IsPlacedText comment (Only values) key value before file result = IsPutText comment false values key value before file result
+IsPlacedText comment (All values) key value before file result = IsPutText comment true values key value before file result
 
 -- the value as it is stored, in the type that is asked for; or why it isn't
 abbrev pub IsStoredAs : Option Kind → (value : List ℕ) → Result BString Trouble → Type 0
@@ -136,10 +140,10 @@ IsStoredAs (Some kind) value (Err trouble) = (trouble ≡ Memory) ⊎ ((refusal 
 abbrev pub IsStoredValue : Set → Result BString Trouble → Type 0
 IsStoredValue asked result = IsStoredAs asked.kind asked.value.now result
 
--- `set`: the text in which the key has the value, as it is stored; or why there is none. Of a text with a comment it isn't said.
+-- `set`: the text in which the key has the value, as it is stored, with the comment that is asked for; or why there is none
 abbrev pub SetsTo : Set → (text : List ℕ) → State → Result BString Trouble → Type 0
 SetsTo asked text file result =
-    ((value : BString) × IsStoredValue asked (Ok value) × (asked.comment ≡ None → IsPlacedText asked.placing (key_of asked.key) (bstring_bytes value) text file result))
+    ((value : BString) × IsStoredValue asked (Ok value) × IsPlacedText asked.comment asked.placing (key_of asked.key) (bstring_bytes value) text file result)
     ⊎ ((trouble : Trouble) × IsStoredValue asked (Err trouble) × (result ≡ Err trouble))
 
 -- one of an editor's entries is rewritten

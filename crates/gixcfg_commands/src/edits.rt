@@ -1,5 +1,5 @@
 //! Edits with options: `set`, `unset`, `rename-section`, `remove-section` and `fmt`.
-ghost use Rattle.std.specs.Prelude.{◌≡◌, List, length, map, option_map, false, true, IfErr, IfOk, None, Ok, OnOk};
+ghost use Rattle.std.specs.Prelude.{◌≡◌, List, length, map, option_map, is_some, true, IfErr, IfOk, None, Ok, OnOk};
 ghost use Rattle.std.specs.Option.{option_copied};
 ghost use Rattle.bstr.specs.Owned.{bstring_bytes};
 ghost use Rattle.gitconf_text.specs.Document.{IsText};
@@ -8,17 +8,20 @@ ghost use Rattle.gitconf_text.specs.Token.{tokens_of};
 ghost use Rattle.gitconf_sources.specs.Key.{key_of};
 ghost use Rattle.gitconf_sources.specs.Metadata.{api_meta};
 ghost use Rattle.gitconf_state.specs.Made.{IsMade};
+ghost use Rattle.gitconf_state.specs.Edit.{with_used};
 ghost use Rattle.gitconf_state.specs.Edits.{RenameAll, apply, apply_all};
 ghost use Rattle.gitconf_store.specs.Edited.{has_number};
 ghost use Rattle.std.specs.List.{list_all};
 ghost use Rattle.gitconf_state.specs.Printing.{printed};
 ghost use Rattle.gixcfg_core.specs.Answers.{Answers, IsRefusedText};
+ghost use Rattle.gixcfg_core.specs.Comments.{IsUncommented};
 ghost use Rattle.gix_config.specs.MultiValueEditors as multi;
 ghost use Rattle.gix_config.specs.SectionEditors.{edited, lent};
 ghost use Rattle.gixcfg_commands.specs.Answered as spec;
-ghost use Rattle.gixcfg_commands.specs.Answered.{IsCarriedOut, IsChecked, edited_text, marked_answer};
+ghost use Rattle.gixcfg_commands.specs.Answered.{IsCarriedOut, IsChecked, marked_answer};
+ghost use Rattle.gixcfg_commands.specs.Comments.{IsCommentedText, IsEditedText, IsTextWith};
 ghost use Rattle.gixcfg_commands.specs.Edits.{EditsTo, IsOfText, UnsetsTo, no_room, others_of, removal_of, renaming_of, trouble_of_renaming, unremoved, unrenamed};
-ghost use Rattle.gixcfg_commands.specs.Setting.{IsGivenText, IsPlacedText, IsPushed, IsRewritten, IsSetText, IsStoredValue, IsUnwritten, SetsTo, added, pushing, setting_of, setting_of_one, setting_of_several, unadded, writing};
+ghost use Rattle.gixcfg_commands.specs.Setting.{IsGivenText, IsPlacedText, IsPushed, IsPutText, IsRewritten, IsSetText, IsStoredValue, IsUnwritten, SetsTo, added, pushing, setting_of, setting_of_one, setting_of_several, unadded, writing};
 ghost use Rattle.gixcfg_commands.specs.Meant.{ByMeant, IsMeant, count_marked, plain_holder, removals, spared, values_of_key, without_marked};
 ghost use Rattle.gitconf_store.specs.declared.rename_section.Error.TheVariants.{Section};
 
@@ -200,10 +203,7 @@ fn set_in(
     ensures { IsOfText read.now.text.now outside.entry.is_colored (λ file. SetsTo set.now read.now.text.now file result) result }
 {
     match parsed(alloc, read.name, read.text, outside) {
-        Ok(file) => {
-            let mut file = file;
-            with_value(alloc, read.text, &mut file, set)
-        }
+        Ok(mut file) => with_value(alloc, read.text, &mut file, set),
         Err(trouble) => Err(trouble),
     }
 }
@@ -256,7 +256,7 @@ enum Setting {
 
 /// The text of a file, in which a key has got a value: the only one, one in place of others, or one more.
 fn placed_text(alloc: Global, file: &mut File, giving: &Giving<'_>) -> Result<BString, Trouble>
-    ensures { giving.now.set.now.comment ≡ None → IsPlacedText giving.now.set.now.placing (key_of giving.now.set.now.key) giving.now.value.now giving.now.before.now file.old result }
+    ensures { let set = giving.now.set.now in IsPlacedText set.comment set.placing (key_of set.key) giving.now.value.now giving.now.before.now file.old result }
 {
     match giving.set.placing {
         Placing::New => added_text(alloc, file, giving),
@@ -273,9 +273,8 @@ fn text_in_place(
     values: Values<'_>,
     is_all: bool,
 ) -> Result<BString, Trouble>
-    ensures { let key = key_of giving.now.set.now.key in let value = giving.now.value.now in giving.now.set.now.comment ≡ None →
-        ByMeant values.entry (λ means. let found = values_of_key key file.old in
-        IsSetText (setting_of is_all false value (map means found) found) key value (map means found) giving.now.before.now file.old result) result }
+    ensures { let set = giving.now.set.now in
+        IsPutText set.comment is_all values.entry (key_of set.key) giving.now.value.now giving.now.before.now file.old result }
 {
     match entries_meant(alloc, file, giving.set.key, values) {
         Ok(meant) => meant_text(alloc, file, giving, meant, is_all),
@@ -291,9 +290,9 @@ fn meant_text(
     meant: Meant,
     is_all: bool,
 ) -> Result<BString, Trouble>
-    ensures { let key = key_of giving.now.set.now.key in let value = giving.now.value.now in
-        (means : _) → IsMeant key means file.old meant → giving.now.set.now.comment ≡ None → let found = values_of_key key file.old in
-        IsSetText (setting_of is_all false value (map means found) found) key value (map means found) giving.now.before.now file.old result }
+    ensures { let set = giving.now.set.now in let key = key_of set.key in let value = giving.now.value.now in
+        (means : _) → IsMeant key means file.old meant → let found = values_of_key key file.old in
+        IsSetText set.comment (setting_of is_all (is_some set.comment) value (map means found) found) key value (map means found) giving.now.before.now file.old result }
 {
     let is_commented = giving.set.comment.is_some();
     match setting_of(&meant, giving.value, is_commented, is_all) {
@@ -345,8 +344,8 @@ fn setting_of_several(is_all: bool, first: usize) -> Result<Setting, Trouble>
 
 /// The text of a file, with an entry more.
 fn added_text(alloc: Global, file: &mut File, giving: &Giving<'_>) -> Result<BString, Trouble>
-    ensures { let key = key_of giving.now.set.now.key in giving.now.set.now.comment ≡ None → Answers bstring_bytes result
-        (marked_answer giving.now.before.now (edited_text (unadded key giving.now.value.now file.old) (added key giving.now.value.now) file.old)) }
+    ensures { let set = giving.now.set.now in let key = key_of set.key in let value = giving.now.value.now in
+        IsEditedText set.comment giving.now.before.now (unadded key value file.old) (added key value file.old) result }
 {
     match add(file, giving.set.key, giving.value) {
         Ok(()) => with_comment(alloc, file, giving),
@@ -368,8 +367,7 @@ fn given_text(
     giving: &Giving<'_>,
     at: usize,
 ) -> Result<BString, Trouble>
-    ensures { let key = key_of giving.now.set.now.key in
-        giving.now.set.now.comment ≡ None → IsGivenText key at giving.now.value.now giving.now.before.now file.old result }
+    ensures { let set = giving.now.set.now in IsGivenText set.comment (key_of set.key) at giving.now.value.now giving.now.before.now file.old result }
 {
     match rewrite(file, giving.set.key, giving.value, at) {
         Ok(()) => with_comment(alloc, file, giving),
@@ -385,9 +383,9 @@ fn alone_text(
     meant: Meant,
     at: usize,
 ) -> Result<BString, Trouble>
-    ensures { let key = key_of giving.now.set.now.key in (means : _) → IsMeant key means file.old meant → giving.now.set.now.comment ≡ None →
+    ensures { let set = giving.now.set.now in let key = key_of set.key in (means : _) → IsMeant key means file.old meant →
         let marks = map means (values_of_key key file.old) in
-        IsGivenText key at giving.now.value.now giving.now.before.now (without_marked key (spared marks at) file.old) result }
+        IsGivenText set.comment key at giving.now.value.now giving.now.before.now (without_marked key (spared marks at) file.old) result }
 {
     let mut others = meant;
     others.spare(at);
@@ -402,9 +400,9 @@ fn text_without_others(
     others: &Meant,
     at: usize,
 ) -> Result<BString, Trouble>
-    ensures { let key = key_of giving.now.set.now.key in let holders = map plain_holder others.now.holders.items in
-        list_all (λ h. has_number h.0 file.old) holders ≡ true → giving.now.set.now.comment ≡ None →
-        IsGivenText key at giving.now.value.now giving.now.before.now (apply_all (removals key.name others.now.marks.items holders) file.old) result }
+    ensures { let set = giving.now.set.now in let key = key_of set.key in let holders = map plain_holder others.now.holders.items in
+        list_all (λ h. has_number h.0 file.old) holders ≡ true →
+        IsGivenText set.comment key at giving.now.value.now giving.now.before.now (apply_all (removals key.name others.now.marks.items holders) file.old) result }
 {
     let key = giving.set.key;
     match remove_meant(file, key.value_name, others) {
@@ -415,17 +413,14 @@ fn text_without_others(
 
 /// The text of a file, with a comment after the value of a key's last entry, if one is asked for.
 fn with_comment(alloc: Global, file: &File, giving: &Giving<'_>) -> Result<BString, Trouble>
-    ensures { giving.now.set.now.comment ≡ None → Answers bstring_bytes result (Ok (spec.marked giving.now.before.now (printed file.now))) }
+    ensures { IsTextWith giving.now.set.now.comment giving.now.before.now file.now result }
 {
     match giving.set.comment {
         None => written(alloc, giving.before, file),
-        Some(comment) => {
-            marked(
-                alloc,
-                giving.before,
-                commented(alloc, file, giving.set.key, comment)?,
-            )
-        }
+        Some(comment) => match commented(alloc, file, giving.set.key, comment) {
+            Ok(text) => marked(alloc, giving.before, text),
+            Err(trouble) => Err(trouble),
+        },
     }
 }
 
@@ -454,10 +449,7 @@ fn unset_in(
     ensures { IsOfText read.now.text.now outside.entry.is_colored (λ file. UnsetsTo unset.now read.now.text.now file result) result }
 {
     match parsed(alloc, read.name, read.text, outside) {
-        Ok(file) => {
-            let mut file = file;
-            without_entries(alloc, read.text, &mut file, unset)
-        }
+        Ok(mut file) => without_entries(alloc, read.text, &mut file, unset),
         Err(trouble) => Err(trouble),
     }
 }
@@ -524,10 +516,7 @@ fn renamed_in(
         (renaming_of old.name.now (option_copied old.subsection_name) new.name.now (option_copied new.subsection_name) file))) result }
 {
     match parsed(alloc, read.name, read.text, outside) {
-        Ok(file) => {
-            let mut file = file;
-            renamed(alloc, read.text, &mut file, renaming)
-        }
+        Ok(mut file) => renamed(alloc, read.text, &mut file, renaming),
         Err(trouble) => Err(trouble),
     }
 }
@@ -555,12 +544,10 @@ fn marked(alloc: Global, before: &[u8], edited: BString) -> Result<BString, Trou
 }
 
 /// The text of a file with a comment after the value of a key's last entry. The new text is read again, and has to mean what the file means.
-fn commented(
-    alloc: Global,
-    file: &File,
-    key: KeyRef<'_>,
-    comment: &str,
-) -> Result<BString, Trouble> {
+fn commented(alloc: Global, file: &File, key: KeyRef<'_>, comment: &str) -> Result<BString, Trouble>
+    ensures done { IfOk result (λ text. IsCommentedText comment.now file.now (bstring_bytes text)) }
+    ensures refused { IfErr result IsUncommented }
+{
     let text = comments::with_comment(alloc, &file.to_bstring()?, key, comment)?;
     match File::try_from_bytes(alloc, &text) {
         Ok(read) if read == *file => Ok(text),
@@ -606,7 +593,7 @@ fn push(section: &mut SectionMut<'_>, name: &str, value: &[u8]) -> Result<(), Tr
 
 /// Gives the entry of a key at a place among its entries another value.
 fn rewrite(file: &mut File, key: KeyRef<'_>, value: &[u8], at: usize) -> Result<(), Trouble>
-    ensures done { IfOk result (λ _. IsRewritten (key_of key.entry) at value.now file.old (printed file.new)) }
+    ensures done { IfOk result (λ _. IsRewritten (key_of key.entry) at value.now file.old file.new) }
     ensures refused { IfErr result IsUnwritten }
 {
     match file.raw_values_mut(key) {
@@ -619,7 +606,7 @@ fn rewrite(file: &mut File, key: KeyRef<'_>, value: &[u8], at: usize) -> Result<
 /// Gives one of the entries another value.
 fn write_at(editor: &mut MultiValueMut<'_>, value: &[u8], at: usize) -> Result<(), Trouble>
     ensures same_file { multi.lent editor.new ≡ multi.lent editor.old }
-    ensures done { OnOk result (printed (multi.edited editor.new) ≡ printed (apply (writing editor.old at value.now) (multi.edited editor.old))) }
+    ensures done { OnOk result (multi.edited editor.new ≡ with_used (multi.edited editor.new).used (apply (writing editor.old at value.now) (multi.edited editor.old))) }
     ensures refused { IfErr result IsUnwritten }
 {
     if at >= editor.len() {

@@ -5,8 +5,9 @@ use Rattle.gixcfg_commands.proofs.SettingLemmas.{alone_file, others_stand}
 use Rattle.gixcfg_commands.proofs.edits.alone_text.Goals as goal
 
 pub returns : goal.returns
-returns c = λ means is none.
-    let key = key_of c.args.giving.now.set.now.key in
-    subst (λ file. IsGivenText key c.args.at c.args.giving.now.value.now c.args.giving.now.before.now file c.text_without_others.result)
+returns c = λ means is.
+    let set = c.args.giving.now.set.now in
+    let key = key_of set.key in
+    subst (λ file. IsGivenText set.comment key c.args.at c.args.giving.now.value.now c.args.giving.now.before.now file c.text_without_others.result)
     (alone_file key means c.args.at c.args.file.now _ c.args.meant c.spare.new.self is c.spare.ensures.marks c.spare.ensures.holders refl)
-    (c.text_without_others.ensures (others_stand key means c.args.file.now c.args.meant c.spare.new.self is c.spare.ensures.holders) none)
+    (c.text_without_others.ensures (others_stand key means c.args.file.now c.args.meant c.spare.new.self is c.spare.ensures.holders))

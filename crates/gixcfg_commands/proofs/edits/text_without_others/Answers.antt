@@ -1,11 +1,12 @@
-use Rattle.std.proofs.Common.{inl, subst}
+use Rattle.std.proofs.Common.{inl, inr, refl, subst}
 use Rattle.gitconf_sources.specs.Key.{key_of}
 use Rattle.gixcfg_commands.specs.Setting.{IsGivenText}
 use Rattle.gixcfg_commands.proofs.edits.text_without_others.Goals as goal
 
 pub returns-in-Ok : goal.returns-in-Ok
-returns-in-Ok c = λ stand none.
-    subst (λ file. IsGivenText (key_of c.args.giving.now.set.now.key) c.args.at c.args.giving.now.value.now c.args.giving.now.before.now file c.given_text.result) c.in-Ok.ensures.ok (c.given_text.ensures none)
+returns-in-Ok c = λ stand.
+    let set = c.args.giving.now.set.now in
+    subst (λ file. IsGivenText set.comment (key_of set.key) c.args.at c.args.giving.now.value.now c.args.giving.now.before.now file c.given_text.result) c.in-Ok.ensures.ok c.given_text.ensures
 
 pub returns-in-Err : goal.returns-in-Err
-returns-in-Err c = λ stand none. inl (c.in-Err.ensures.memory stand)
+returns-in-Err c = λ stand. inr (c.in-Err.trouble, inl (c.in-Err.ensures.memory stand), refl)
