@@ -17,7 +17,7 @@ use Rattle.gixcfg_core.specs.Comments.{IsCommented, IsUncommented}
 use Rattle.gixcfg_core.specs.declared.trouble.Trouble.{Trouble}
 use Rattle.gixcfg_commands.specs.Answered.{marked}
 
--- A text of a file with a comment: what is printed of the file, but for the comment that was put in; it can be read, and the file that is read of it is equal to this one.
+-- A text of a file with a comment: what is printed of the file, with the comment in place of something; it can be read, and the file that is read of it is equal to this one.
 abbrev pub IsCommentedText : (comment : List ℕ) → State → (text : List ℕ) → Type 0
 IsCommentedText comment file text = IsCommented (printed file) comment text
     × ((parts : List Part) × (again : State) × IsText text parts × IsMade (tokens_of parts) api_meta (length text) again × AreEqual again file)

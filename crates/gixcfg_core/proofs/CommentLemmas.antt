@@ -1,5 +1,5 @@
 -- What is put before a comment, and a text with one.
-use Rattle.std.proofs.Common.{◌≡◌, ◌≤◌, ◌-◌, ◌+◌, ◌++◌, ◌==◌, ℕ, Bool, true, false, List, [], ◌∷◌, take, drop, codes, refl, sym, ap, ◌∙◌, append_assoc, arith, if◌then◌else◌}
+use Rattle.std.proofs.Common.{◌≡◌, ◌≤◌, ◌-◌, ◌++◌, ◌==◌, ℕ, Bool, true, false, List, [], ◌∷◌, take, drop, codes, refl, sym, ap, ◌∙◌, append_assoc, arith, if◌then◌else◌}
 use Rattle.std.proofs.lemmas.List.{drop-drop, take-append-drop}
 use Rattle.gitconf_text.specs.Bytes.{is_blank}
 use Rattle.gixcfg_core.specs.Comments.{IsCommented, begins_with_hash, behind_blanks, lead_of}
