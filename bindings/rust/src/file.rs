@@ -10,10 +10,12 @@ use std::str::FromStr;
 use bstr::{BStr, BString, ByteSlice};
 
 use crate::key::{AsKey, KeyRef};
+pub use crate::meta::Metadata;
 use crate::refusal::{out_of_memory, words, DONE, NOTHING_THERE, OUT_OF_MEMORY};
-use crate::section::{self, Section, SectionMut};
+use crate::section::{self, Listed, Section, SectionMut};
+use crate::source::{Source, Trust};
 use crate::sys;
-use crate::{includes, lookup, parse, value};
+use crate::{includes, lookup, parse, path, value};
 
 /// Values that are set.
 pub mod set_raw_value {
@@ -46,7 +48,11 @@ pub struct File {
 }
 
 /// The names as the library takes them.
-fn names<'a>(section: &'a str, subsection: Option<&'a BStr>, name: &'a str) -> sys::Key<'a> {
+pub(crate) fn names<'a>(
+    section: &'a str,
+    subsection: Option<&'a BStr>,
+    name: &'a str,
+) -> sys::Key<'a> {
     sys::Key {
         section: sys::Text::of(section.as_bytes()),
         has_subsection: subsection.is_some(),
@@ -87,7 +93,7 @@ fn set(number: u32) -> Result<(), set_raw_value::Error> {
 }
 
 /// What the number of a lookup says.
-fn found(number: u32) -> Result<(), lookup::existing::Error> {
+pub(crate) fn found(number: u32) -> Result<(), lookup::existing::Error> {
     match number {
         DONE => Ok(()),
         7 => Err(lookup::existing::Error::SectionMissing),
@@ -224,8 +230,9 @@ impl File {
         message: &'static str,
         call: unsafe extern "C" fn(*mut sys::Handle, *const sys::Key<'_>, *mut T) -> u32,
     ) -> Result<Option<T>, value::Error> {
-        let Some(key) = key else {
-            return Ok(None);
+        let key = match key {
+            Some(key) => key,
+            None => return Ok(None),
         };
         let mut found = T::default();
         let names = names(key.section_name, key.subsection_name, key.value_name);
@@ -297,46 +304,168 @@ impl File {
         })
     }
 
-    /// The sections in the file's order, each as it is now.
-    pub fn sections(&self) -> impl Iterator<Item = Section> {
-        let (mut sections, mut entries) = (sys::List::empty(), sys::List::empty());
-        // SAFETY: the handle has a file, which no other call has now.
-        let answers = unsafe {
-            [
-                sys::gix_config_sections(self.handle(), sections.handle()),
-                sys::gix_config_entries(self.handle(), entries.handle()),
-            ]
-        };
-        if answers != [DONE, DONE] {
-            out_of_memory()
-        }
-        let mut left = entries.entries().into_iter();
-        sections.sections().into_iter().map(move |(header, count)| {
-            let entries = left.by_ref().take(count).collect();
-            Section { header, entries }
+    /// The last value of a key as a path, if there is one: as it is written, until its shorthand is replaced.
+    #[must_use]
+    pub fn path(&self, key: impl AsKey) -> Option<path::Path<'_>> {
+        path::Path::of(self, key.try_as_key()?)
+    }
+
+    /// As [`File::path`], by names.
+    #[must_use]
+    pub fn path_by(
+        &self,
+        section_name: impl AsRef<str>,
+        subsection_name: Option<&BStr>,
+        value_name: impl AsRef<str>,
+    ) -> Option<path::Path<'_>> {
+        let (section_name, value_name) = (section_name.as_ref(), value_name.as_ref());
+        self.path(KeyRef {
+            section_name,
+            subsection_name,
+            value_name,
         })
     }
 
-    /// The place of the last section of the names.
-    fn place_of(
+    /// Where the file comes from; its sections may come from others.
+    #[must_use]
+    pub fn meta(&self) -> Metadata {
+        let (mut origin, mut path) = (sys::Origin::default(), sys::Block::empty());
+        // SAFETY: the handle has a file, which no other call has now.
+        match unsafe { sys::gix_config_file_origin(self.handle(), &mut origin, &mut path) } {
+            DONE => {
+                let path = origin.has_path.then(|| path.bytes());
+                Metadata::of(path, origin.source, origin.level, origin.trust)
+            }
+            _ => out_of_memory(),
+        }
+    }
+
+    /// What is known of the sections in the file's order, besides their entries.
+    pub(crate) fn listed(&self) -> Vec<Listed> {
+        let mut list = sys::List::empty();
+        // SAFETY: the handle has a file, which no other call has now.
+        match unsafe { sys::gix_config_sections(self.handle(), list.handle()) } {
+            DONE => list.sections(),
+            _ => out_of_memory(),
+        }
+    }
+
+    /// The sections in the file's order, each as it is now.
+    pub fn sections(&self) -> impl Iterator<Item = Section> {
+        let mut entries = sys::List::empty();
+        // SAFETY: the handle has a file, which no other call has now.
+        if unsafe { sys::gix_config_entries(self.handle(), entries.handle()) } != DONE {
+            out_of_memory()
+        }
+        let mut left = entries.entries().into_iter();
+        self.listed().into_iter().map(move |listed| Section {
+            entries: left.by_ref().take(listed.entries).collect(),
+            header: listed.header,
+            meta: listed.meta,
+        })
+    }
+
+    /// The section at a place, of which the rest is known.
+    fn section_of(&self, place: usize, listed: Listed) -> Section {
+        let mut entries = sys::List::empty();
+        // SAFETY: the handle has a file, which no other call has now.
+        match unsafe { sys::gix_config_section_entries(self.handle(), place, entries.handle()) } {
+            DONE => Section {
+                header: listed.header,
+                meta: listed.meta,
+                entries: entries.entries(),
+            },
+            _ => out_of_memory(),
+        }
+    }
+
+    /// The section at a place, if there is one.
+    pub(crate) fn section_at(&self, place: usize) -> Option<Section> {
+        let listed = self.listed().into_iter().nth(place)?;
+        Some(self.section_of(place, listed))
+    }
+
+    /// The last section of the names whose metadata a filter keeps, if it keeps one, with its place. The filter is asked from the last on.
+    fn last_of(
         &self,
         name: &str,
         subsection_name: Option<&BStr>,
-    ) -> Result<usize, lookup::existing::Error> {
-        let (mut place, mut missing) = (None, lookup::existing::Error::SectionMissing);
-        for (at, section) in self.sections().enumerate() {
-            if section
-                .header()
-                .name()
-                .eq_ignore_ascii_case(name.as_bytes())
-            {
+        mut filter: impl FnMut(&Metadata) -> bool,
+    ) -> Result<Option<(usize, Listed)>, lookup::existing::Error> {
+        let mut missing = lookup::existing::Error::SectionMissing;
+        let mut named = Vec::new();
+        for (place, listed) in self.listed().into_iter().enumerate() {
+            if listed.header.is_named(name) {
                 missing = lookup::existing::Error::SubSectionMissing;
-                if section.header().subsection_name() == subsection_name {
-                    place = Some(at);
+                if listed.header.subsection_name() == subsection_name {
+                    named.push((place, listed));
                 }
             }
         }
-        place.ok_or(missing)
+        if named.is_empty() {
+            return Err(missing);
+        }
+        Ok(named.into_iter().rev().find(|it| filter(&it.1.meta)))
+    }
+
+    /// The last section that has the name, without ASCII case, and exactly the subsection, as it is now.
+    ///
+    /// # Errors
+    ///
+    /// There is no such section.
+    ///
+    /// # Examples
+    ///
+    /// ```
+    /// let file = gix_config::File::try_from("[remote \"origin\"]\n\turl = a\n\turl = b\n")?;
+    /// let remote = file.section("remote", Some("origin".into()))?;
+    /// assert_eq!(remote.values("url"), ["a", "b"]);
+    /// # Ok::<(), Box<dyn std::error::Error>>(())
+    /// ```
+    pub fn section<'b>(
+        &self,
+        name: impl AsRef<str>,
+        subsection_name: impl Into<Option<&'b BStr>>,
+    ) -> Result<Section, lookup::existing::Error> {
+        self.section_filter(name, subsection_name, |_| true)?
+            .ok_or(lookup::existing::Error::SectionMissing)
+    }
+
+    /// As [`File::section`], the last whose metadata the filter keeps, if it keeps one.
+    ///
+    /// # Errors
+    ///
+    /// There is no section of the names, kept or not.
+    pub fn section_filter<'b>(
+        &self,
+        name: impl AsRef<str>,
+        subsection_name: impl Into<Option<&'b BStr>>,
+        filter: impl FnMut(&Metadata) -> bool,
+    ) -> Result<Option<Section>, lookup::existing::Error> {
+        let last = self.last_of(name.as_ref(), subsection_name.into(), filter)?;
+        Ok(last.map(|(place, listed)| self.section_of(place, listed)))
+    }
+
+    /// The sections that have the name, without ASCII case, and any subsection or none, in the file's order; `None` if there are none.
+    #[must_use]
+    pub fn sections_by_name(&self, name: impl AsRef<str>) -> Option<impl Iterator<Item = Section>> {
+        self.sections_by_name_and_filter(name, |_| true)
+    }
+
+    /// As [`File::sections_by_name`], those whose metadata the filter keeps; `None` if no section has the name, kept or not.
+    #[must_use]
+    pub fn sections_by_name_and_filter(
+        &self,
+        name: impl AsRef<str>,
+        mut filter: impl FnMut(&Metadata) -> bool,
+    ) -> Option<impl Iterator<Item = Section>> {
+        let mut named: Vec<_> = self.sections().collect();
+        named.retain(|section| section.header.is_named(name.as_ref()));
+        if named.is_empty() {
+            return None;
+        }
+        named.retain(|section| filter(&section.meta));
+        Some(named.into_iter())
     }
 
     /// An editor of the last section that has the name, without ASCII case, and exactly the subsection.
@@ -349,8 +478,23 @@ impl File {
         name: impl AsRef<str>,
         subsection_name: impl Into<Option<&'b BStr>>,
     ) -> Result<SectionMut<'_>, lookup::existing::Error> {
-        let place = self.place_of(name.as_ref(), subsection_name.into())?;
-        Ok(SectionMut::at(self, place))
+        self.section_mut_filter(name, subsection_name, |_| true)?
+            .ok_or(lookup::existing::Error::SectionMissing)
+    }
+
+    /// As [`File::section_mut`], of the last whose metadata the filter keeps, if it keeps one.
+    ///
+    /// # Errors
+    ///
+    /// There is no section of the names, kept or not.
+    pub fn section_mut_filter<'b>(
+        &mut self,
+        name: impl AsRef<str>,
+        subsection_name: impl Into<Option<&'b BStr>>,
+        filter: impl FnMut(&Metadata) -> bool,
+    ) -> Result<Option<SectionMut<'_>>, lookup::existing::Error> {
+        let last = self.last_of(name.as_ref(), subsection_name.into(), filter)?;
+        Ok(last.map(|(place, _)| SectionMut::at(self, place)))
     }
 
     /// Makes a section after all others, and returns an editor of it.
@@ -367,7 +511,7 @@ impl File {
         // SAFETY: the handle has a file, which no other call has now.
         match unsafe { sys::gix_config_section_new(self.handle(), &names) } {
             DONE => {
-                let last = self.sections().count() - 1;
+                let last = self.listed().len() - 1;
                 Ok(SectionMut::at(self, last))
             }
             OUT_OF_MEMORY => out_of_memory(),
@@ -381,11 +525,22 @@ impl File {
         name: impl AsRef<str>,
         subsection_name: impl Into<Option<&'b BStr>>,
     ) -> Option<Section> {
-        let place = self.place_of(name.as_ref(), subsection_name.into()).ok()?;
-        let removed = self.sections().nth(place);
+        self.remove_section_filter(name, subsection_name, |_| true)
+    }
+
+    /// As [`File::remove_section`], the last whose metadata the filter keeps, if it keeps one.
+    pub fn remove_section_filter<'b>(
+        &mut self,
+        name: impl AsRef<str>,
+        subsection_name: impl Into<Option<&'b BStr>>,
+        filter: impl FnMut(&Metadata) -> bool,
+    ) -> Option<Section> {
+        let last = self.last_of(name.as_ref(), subsection_name.into(), filter);
+        let (place, listed) = last.ok()??;
+        let removed = self.section_of(place, listed);
         // SAFETY: the handle has a file, which no other call has now.
         match unsafe { sys::gix_config_section_remove_at(self.handle(), place) } {
-            DONE => removed,
+            DONE => Some(removed),
             _ => out_of_memory(),
         }
     }
@@ -416,8 +571,8 @@ impl File {
         let real = options.real_git_dir();
         let load = sys::Load {
             path: sys::Text::of(includes::bytes(path)),
-            source: sys::SOURCE_API,
-            trust: sys::TRUST_FULL,
+            source: Source::Api.number(),
+            trust: Trust::Full.number(),
             includes: options.given(real.as_bstr()),
         };
         // SAFETY: what is told is another handle than the file's.

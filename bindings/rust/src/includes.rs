@@ -23,19 +23,7 @@ pub mod conditional {
     }
 }
 
-/// What the shorthands of paths stand for.
-pub mod interpolate {
-    use std::path::Path;
-
-    /// What the shorthands of paths stand for. The default knows nothing.
-    #[derive(Clone, Copy, Debug, Default)]
-    pub struct Context<'a> {
-        /// The folder where git is installed, for `%(prefix)/`.
-        pub git_install_dir: Option<&'a Path>,
-        /// The user's home folder, for `~/`.
-        pub home_dir: Option<&'a Path>,
-    }
-}
+pub use crate::path::interpolate;
 
 /// How includes are followed: ten files deep; deeper ones are refused, and so is a path relative to the folder of a file that has no path.
 #[derive(Clone, Copy, Debug, Default)]
@@ -79,28 +67,22 @@ impl<'a> Options<'a> {
 
     /// The git folder with its symbolic links resolved, or as it is given where that fails.
     pub(crate) fn real_git_dir(&self) -> BString {
-        let Some(git_dir) = self.conditional.git_dir else {
-            return BString::default();
-        };
-        let real = fs::canonicalize(git_dir).unwrap_or_else(|_| git_dir.to_owned());
-        bytes(&real).into()
+        self.conditional
+            .git_dir
+            .map_or_else(BString::default, |git_dir| {
+                let real = fs::canonicalize(git_dir).unwrap_or_else(|_| git_dir.to_owned());
+                bytes(&real).into()
+            })
     }
 
     /// The same as the library takes it.
     pub(crate) fn given(&self, real_git_folder: &'a BStr) -> sys::Includes<'a> {
-        let (installation, has_installation) = known(self.interpolate.git_install_dir);
-        let (home, has_home) = known(self.interpolate.home_dir);
         let (git_folder, has_git_folder) = known(self.conditional.git_dir);
         let branch = self.conditional.branch_name;
         sys::Includes {
             strict: self.strict,
             lossy: false,
-            folders: sys::Folders {
-                has_installation,
-                installation,
-                has_home,
-                home,
-            },
+            folders: self.interpolate.given(),
             has_git_folder,
             git_folder,
             real_git_folder: sys::Text::of(real_git_folder),
@@ -115,7 +97,8 @@ pub(crate) fn bytes(path: &Path) -> &[u8] {
     std::os::unix::ffi::OsStrExt::as_bytes(path.as_os_str())
 }
 
-fn known(path: Option<&Path>) -> (sys::Text<'_>, bool) {
+/// A path as the library takes it, and whether it is known.
+pub(crate) fn known(path: Option<&Path>) -> (sys::Text<'_>, bool) {
     (sys::Text::of(path.map_or(b"", bytes)), path.is_some())
 }
 
@@ -157,8 +140,9 @@ impl Files for Disk {
         if !path.is_file() {
             return Found::Missing;
         }
-        let Ok(mut file) = fs::File::open(path) else {
-            return Found::Unopened;
+        let mut file = match fs::File::open(path) {
+            Ok(file) => file,
+            Err(_) => return Found::Unopened,
         };
         let mut text = Vec::new();
         match io::Read::read_to_end(&mut file, &mut text) {
@@ -242,6 +226,7 @@ pub(crate) fn ask(
     }
 }
 
-fn path_of(bytes: &[u8]) -> std::path::PathBuf {
+/// The path of bytes.
+pub(crate) fn path_of(bytes: &[u8]) -> std::path::PathBuf {
     bytes.to_path_lossy().into_owned()
 }

@@ -14,14 +14,20 @@
 #![warn(missing_docs)]
 
 pub mod file;
+mod filter;
 pub mod includes;
 mod key;
 pub mod lookup;
+mod meta;
 pub mod parse;
+pub mod path;
 mod refusal;
 pub mod section;
+mod source;
 mod sys;
 pub mod value;
 
 pub use file::File;
 pub use key::{AsKey, KeyRef};
+pub use path::Path;
+pub use source::{Source, Trust};

@@ -2,7 +2,9 @@
 use bstr::{BStr, BString, ByteSlice};
 
 use crate::file::{section_names, File};
+use crate::meta::Metadata;
 use crate::refusal::{out_of_memory, DONE, NOTHING_THERE, OUT_OF_MEMORY};
+use crate::source::Trust;
 use crate::sys;
 
 /// The header of a section.
@@ -24,6 +26,19 @@ impl Header {
     pub fn subsection_name(&self) -> Option<&BStr> {
         self.subsection_name.as_ref().map(|name| name.as_bstr())
     }
+
+    /// Whether the section has the name, without ASCII case.
+    pub(crate) fn is_named(&self, name: &str) -> bool {
+        self.name.eq_ignore_ascii_case(name.as_bytes())
+    }
+}
+
+/// What is known of a section besides its entries.
+pub(crate) struct Listed {
+    pub(crate) header: Header,
+    pub(crate) meta: Metadata,
+    /// How many entries it has.
+    pub(crate) entries: usize,
 }
 
 /// An entry of a section: its name in lower case, and what it means; `None` for one without `=`.
@@ -33,6 +48,7 @@ pub(crate) type Entry = (BString, Option<BString>);
 #[derive(Clone, Debug, PartialEq, Eq)]
 pub struct Section {
     pub(crate) header: Header,
+    pub(crate) meta: Metadata,
     pub(crate) entries: Vec<Entry>,
 }
 
@@ -41,6 +57,12 @@ impl Section {
     #[must_use]
     pub fn header(&self) -> &Header {
         &self.header
+    }
+
+    /// Where the section comes from.
+    #[must_use]
+    pub fn meta(&self) -> &Metadata {
+        &self.meta
     }
 
     fn named<'a>(&'a self, value_name: &'a str) -> impl DoubleEndedIterator<Item = &'a Entry> {
@@ -118,6 +140,24 @@ impl<'a> SectionMut<'a> {
         SectionMut { file, place }
     }
 
+    /// The section as it is now.
+    #[must_use]
+    pub fn section(&self) -> Section {
+        let section = self.file.section_at(self.place);
+        section.expect("an editor is of a section that is there")
+    }
+
+    /// Sets how far the section is trusted.
+    pub fn set_trust(&mut self, trust: Trust) -> &mut Self {
+        // SAFETY: the handle has a file, which no other call has now.
+        match unsafe {
+            sys::gix_config_section_set_trust_at(self.file.handle(), self.place, trust.number())
+        } {
+            DONE => self,
+            _ => out_of_memory(),
+        }
+    }
+
     fn push_line(
         &mut self,
         value_name: &str,
@@ -142,6 +182,36 @@ impl<'a> SectionMut<'a> {
     /// The name can't be a value's, or the file would be too long.
     pub fn push(&mut self, value_name: impl AsRef<str>, value: Option<&BStr>) -> Result<(), Error> {
         self.push_line(value_name.as_ref(), value, None)
+    }
+
+    /// Adds an entry below the last one, or below the header if there is none: comments and blank lines behind it stay behind the new one.
+    /// It is where `git config` puts a new entry.
+    ///
+    /// # Errors
+    ///
+    /// Those of [`SectionMut::push`].
+    ///
+    /// # Examples
+    ///
+    /// ```
+    /// let mut file = gix_config::File::try_from("[a]\n\tk = 1\n\n# of b\n[b]\n")?;
+    /// file.section_mut("a", None)?.push_after_last("j", "2".into())?;
+    /// assert_eq!(file.to_string(), "[a]\n\tk = 1\n\tj = 2\n\n# of b\n[b]\n");
+    /// # Ok::<(), Box<dyn std::error::Error>>(())
+    /// ```
+    pub fn push_after_last(
+        &mut self,
+        value_name: impl AsRef<str>,
+        value: &BStr,
+    ) -> Result<(), Error> {
+        let assigned = sys::Assigned {
+            name: sys::Text::of(value_name.as_ref().as_bytes()),
+            value: sys::Text::of(value),
+        };
+        // SAFETY: the handle has a file, which no other call has now.
+        done(unsafe {
+            sys::gix_config_push_below_last_at(self.file.handle(), self.place, &assigned)
+        })
     }
 
     /// Adds a line ending after all that the section has.
@@ -208,6 +278,37 @@ impl<'a> SectionMut<'a> {
             NOTHING_THERE => None,
             _ => out_of_memory(),
         }
+    }
+
+    /// Removes the marked entries of the name: the first of its entries goes if the first mark is true, and so on; those behind the last
+    /// mark stay. Returns how many went.
+    pub fn remove_marked(&mut self, value_name: &str, marks: &[bool]) -> usize {
+        let mut count = 0;
+        let (name, name_len) = (value_name.as_ptr(), value_name.len());
+        let (at, len) = (marks.as_ptr(), marks.len());
+        let file = self.file.handle();
+        // SAFETY: the handle has a file, which no other call has now, and name and marks are as long as is said.
+        match unsafe {
+            sys::gix_config_remove_marked_at(file, self.place, name, name_len, at, len, &mut count)
+        } {
+            DONE => count,
+            _ => out_of_memory(),
+        }
+    }
+
+    /// Removes all entries of the name. Returns how many went.
+    ///
+    /// # Examples
+    ///
+    /// ```
+    /// let mut file = gix_config::File::try_from("[a]\n\tk = 1\n\tj = 2\n\tK = 3\n")?;
+    /// assert_eq!(file.section_mut("a", None)?.remove_all("k"), 2);
+    /// assert_eq!(file.to_string(), "[a]\n\tj = 2\n");
+    /// # Ok::<(), Box<dyn std::error::Error>>(())
+    /// ```
+    pub fn remove_all(&mut self, value_name: &str) -> usize {
+        let marks = vec![true; self.section().values(value_name).len()];
+        self.remove_marked(value_name, &marks)
     }
 
     /// Removes the last entry, with all that is after it. Returns its name as it is spelled, and what its value means.

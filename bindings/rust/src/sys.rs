@@ -5,6 +5,7 @@ use std::marker::PhantomData;
 use bstr::BString;
 
 use crate::includes::Found;
+use crate::meta::Metadata;
 use crate::refusal::{out_of_memory, DONE};
 use crate::section;
 
@@ -122,11 +123,23 @@ pub(crate) struct Repository<'a> {
     pub(crate) places: Places<'a>,
 }
 
-/// The number of what the calling program sets.
-pub(crate) const SOURCE_API: u32 = 256;
+/// Which sections are asked: those of some sources that are trusted enough.
+#[repr(C)]
+#[derive(Clone, Copy)]
+pub(crate) struct Filter {
+    pub(crate) sources: u32,
+    pub(crate) least_trust: u32,
+}
 
-/// The number of full trust.
-pub(crate) const TRUST_FULL: u32 = 1;
+/// Where a whole file comes from.
+#[repr(C)]
+#[derive(Default)]
+pub(crate) struct Origin {
+    pub(crate) source: u32,
+    pub(crate) level: u32,
+    pub(crate) trust: u32,
+    pub(crate) has_path: bool,
+}
 
 /// What is told of files and of variables, which is freed with this.
 pub(crate) struct Told(Handle);
@@ -324,8 +337,8 @@ impl List {
         }
     }
 
-    /// Copies of the headers of a list of sections, each with how many entries it has.
-    pub(crate) fn sections(&mut self) -> Vec<(section::Header, usize)> {
+    /// Copies of what a list of sections says of each.
+    pub(crate) fn sections(&mut self) -> Vec<section::Listed> {
         let nothing = Text::of(b"");
         // SAFETY: the handle is empty or has a list of sections, whose parts lie in it until it is closed.
         unsafe {
@@ -350,7 +363,12 @@ impl List {
                         .has_subsection
                         .then(|| found.subsection.bytes().into()),
                 };
-                sections.push((header, found.entries));
+                let path = found.has_path.then(|| found.path.bytes());
+                sections.push(section::Listed {
+                    header,
+                    meta: Metadata::of(path, found.source, found.level, found.trust),
+                    entries: found.entries,
+                });
             }
             sections
         }
@@ -388,6 +406,16 @@ extern "C" {
     pub(crate) fn gix_config_file_clone(file: *mut Handle, other_file: *mut Handle) -> u32;
     pub(crate) fn gix_config_file_append(file: *mut Handle, other_file: *mut Handle) -> u32;
     pub(crate) fn gix_config_file_text(file: *mut Handle, text: *mut Block) -> u32;
+    pub(crate) fn gix_config_file_text_filter(
+        file: *mut Handle,
+        filter: *const Filter,
+        text: *mut Block,
+    ) -> u32;
+    pub(crate) fn gix_config_file_origin(
+        file: *mut Handle,
+        origin: *mut Origin,
+        path: *mut Block,
+    ) -> u32;
     pub(crate) fn gix_config_value(
         file: *mut Handle,
         key: *const Key<'_>,
@@ -406,6 +434,36 @@ extern "C" {
     pub(crate) fn gix_config_integer(
         file: *mut Handle,
         key: *const Key<'_>,
+        value: *mut i64,
+    ) -> u32;
+    pub(crate) fn gix_config_path(
+        file: *mut Handle,
+        key: *const Key<'_>,
+        folders: *const Folders<'_>,
+        path: *mut Block,
+    ) -> u32;
+    pub(crate) fn gix_config_value_filter(
+        file: *mut Handle,
+        key: *const Key<'_>,
+        filter: *const Filter,
+        value: *mut Block,
+    ) -> u32;
+    pub(crate) fn gix_config_values_filter(
+        file: *mut Handle,
+        key: *const Key<'_>,
+        filter: *const Filter,
+        list: *mut Handle,
+    ) -> u32;
+    pub(crate) fn gix_config_boolean_filter(
+        file: *mut Handle,
+        key: *const Key<'_>,
+        filter: *const Filter,
+        value: *mut bool,
+    ) -> u32;
+    pub(crate) fn gix_config_integer_filter(
+        file: *mut Handle,
+        key: *const Key<'_>,
+        filter: *const Filter,
         value: *mut i64,
     ) -> u32;
     pub(crate) fn gix_config_set_value(
@@ -429,8 +487,32 @@ extern "C" {
         len: usize,
     ) -> u32;
     pub(crate) fn gix_config_push_newline_at(file: *mut Handle, place: usize) -> u32;
+    pub(crate) fn gix_config_push_below_last_at(
+        file: *mut Handle,
+        place: usize,
+        assigned: *const Assigned<'_>,
+    ) -> u32;
+    pub(crate) fn gix_config_remove_marked_at(
+        file: *mut Handle,
+        place: usize,
+        name: *const u8,
+        name_len: usize,
+        marks: *const bool,
+        marks_len: usize,
+        count: *mut usize,
+    ) -> u32;
+    pub(crate) fn gix_config_section_set_trust_at(
+        file: *mut Handle,
+        place: usize,
+        trust: u32,
+    ) -> u32;
     pub(crate) fn gix_config_entries(file: *mut Handle, list: *mut Handle) -> u32;
     pub(crate) fn gix_config_sections(file: *mut Handle, list: *mut Handle) -> u32;
+    pub(crate) fn gix_config_section_entries(
+        file: *mut Handle,
+        index: usize,
+        list: *mut Handle,
+    ) -> u32;
     pub(crate) fn gix_config_file_equal(
         file: *mut Handle,
         other_file: *mut Handle,

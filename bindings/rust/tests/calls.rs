@@ -1,7 +1,11 @@
 //! The calls, as they are meant to be called.
 use bstr::{BStr, BString, ByteSlice};
+use gix_config::file::Metadata;
 use gix_config::includes::{Files, Found, Options, Places, Variables};
-use gix_config::{lookup, File, KeyRef};
+use gix_config::path::interpolate::Context;
+use gix_config::section::Section;
+use gix_config::{lookup, File, KeyRef, Source, Trust};
+use std::os::unix::ffi::OsStrExt;
 use std::path::Path;
 
 const TEXT: &str = "# mine\n[core]\n\teditor = vi ; was ed\n\tbare\n\tn = 2k\n[remote \"or.igin\"]\n\turl = \"a b\" c\n\turl = d\n";
@@ -256,7 +260,8 @@ fn is_send<T: Send>() {}
 
 #[test]
 fn what_is_handed_out_may_be_sent() {
-    is_send::<gix_config::section::Section>();
+    is_send::<Section>();
+    is_send::<Metadata>();
     is_send::<KeyRef<'_>>();
     is_send::<Options<'_>>();
     is_send::<gix_config::includes::Error>();
@@ -354,4 +359,288 @@ fn values_that_are_there() {
 
 fn all_of(file: &File) -> Vec<bstr::BString> {
     file.strings("a.k").unwrap_or_default()
+}
+
+#[test]
+fn paths() {
+    let text: &BStr = b"[p]\n\thome = ~/x\n\tgit = %(prefix)/etc\n\tplain = /y\n\tada = ~ada/x\n\tempty =\n\tlatin = /\xff\n".as_bstr();
+    let file = File::try_from(text).expect("a text");
+    let folders = Context {
+        git_install_dir: Some(Path::new("/git")),
+        home_dir: Some(Path::new("/home/ada")),
+    };
+    let path = file.path("p.home").expect("a path");
+    assert_eq!(path.as_bytes(), b"~/x");
+    assert_eq!(path.interpolate(folders), Ok("/home/ada/x".into()));
+    let interpolated = |name: &str, folders: Context<'_>| {
+        let path = file.path_by("p", None, name).expect("a path");
+        path.interpolate(folders).map_err(|it| it.number)
+    };
+    assert_eq!(interpolated("git", folders), Ok("/git/etc".into()));
+    assert_eq!(interpolated("plain", Context::default()), Ok("/y".into()));
+    for name in ["home", "git", "empty"] {
+        assert_eq!(interpolated(name, Context::default()), Err(12));
+    }
+    assert_eq!(interpolated("ada", folders), Err(12));
+    let only_git = Context {
+        home_dir: None,
+        ..folders
+    };
+    let only_home = Context {
+        git_install_dir: None,
+        ..folders
+    };
+    assert_eq!(interpolated("git", only_git), Ok("/git/etc".into()));
+    assert_eq!(interpolated("home", only_git), Err(12));
+    assert_eq!(interpolated("home", only_home), Ok("/home/ada/x".into()));
+    assert_eq!(interpolated("git", only_home), Err(12));
+    assert_eq!(interpolated("latin", folders), Err(13));
+    let latin = Path::new(std::ffi::OsStr::from_bytes(b"/\xff"));
+    let unknown = Context {
+        home_dir: Some(latin),
+        ..folders
+    };
+    assert_eq!(interpolated("home", unknown), Err(101));
+    assert!(file.path("p.none").is_none() && file.path("p").is_none());
+    assert!(file.path_by("q", None, "home").is_none());
+}
+
+/// The files of the machine and of a user, who includes another.
+fn of_machine_and_user() -> File {
+    let text = |words: &str| Found::Text(words.as_bytes().to_vec());
+    let user = "[a]\n\tk = ada\n[include]\n\tpath = ~/more\n";
+    let mut files = Kept(
+        vec![
+            ("/etc/gitconfig", text("[a]\n\tk = machine\n")),
+            ("/home/ada/.gitconfig", text(user)),
+            ("/home/ada/more", text("[a]\n\tk = more\n")),
+        ],
+        0,
+    );
+    let mut variables = Set(vec![("HOME", b"/home/ada")]);
+    File::from_globals_of(&of_ada(), &mut files, &mut variables).expect("files")
+}
+
+#[test]
+fn where_files_and_sections_come_from() {
+    let file = of_machine_and_user();
+    let told = |path: &str, source, level| Metadata {
+        path: Some(path.into()),
+        source,
+        level,
+        trust: Trust::Full,
+    };
+    let wanted = [
+        told("/etc/gitconfig", Source::System, 0),
+        told("/home/ada/.gitconfig", Source::User, 0),
+        told("/home/ada/.gitconfig", Source::User, 0),
+        told("/home/ada/more", Source::User, 1),
+    ];
+    let found: Vec<_> = file.sections().map(|it| it.meta().clone()).collect();
+    assert_eq!(found, wanted);
+    assert_eq!(file.meta(), wanted[0]);
+    let of_text = Metadata {
+        path: None,
+        source: Source::Api,
+        level: 0,
+        trust: Trust::Full,
+    };
+    let mut file = File::try_from("[a]\n").expect("a text");
+    assert_eq!(file.meta(), of_text);
+    assert_eq!(File::default().meta(), of_text);
+    let mut editor = file.section_mut("a", None).expect("a section");
+    assert_eq!(editor.section().meta(), &of_text);
+    editor.set_trust(Trust::Reduced);
+    let trust = Trust::Reduced;
+    assert_eq!(editor.section().meta(), &Metadata { trust, ..of_text });
+}
+
+#[test]
+fn values_in_some_sections() {
+    let file = of_machine_and_user();
+    let machine = |meta: &Metadata| meta.source == Source::System;
+    let user = |meta: &Metadata| meta.source == Source::User;
+    // (these need the path or the level: no source and no trust says as much)
+    let included = |meta: &Metadata| meta.level > 0;
+    let own = |meta: &Metadata| meta.path.as_deref() == Some(Path::new("/home/ada/.gitconfig"));
+    assert_eq!(file.raw_value_filter("a.k", machine), Ok("machine".into()));
+    assert_eq!(file.string_filter("a.k", user), Some("more".into()));
+    assert_eq!(file.string_filter("A.k", own), Some("ada".into()));
+    assert_eq!(
+        file.string_filter_by("a", None, "K", |meta| !included(meta)),
+        Some("ada".into())
+    );
+    assert_eq!(
+        file.raw_values_filter("a.k", user),
+        Ok(texts(&["ada", "more"]))
+    );
+    assert_eq!(
+        file.strings_filter("a.k", |meta| machine(meta) || included(meta)),
+        Some(texts(&["machine", "more"]))
+    );
+    assert_eq!(
+        file.strings_filter_by("a", None, "k", |_| true),
+        Some(texts(&["machine", "ada", "more"]))
+    );
+    let missing = lookup::existing::Error::KeyMissing;
+    assert_eq!(file.raw_value_filter("a.k", |_| false), Err(missing));
+    assert_eq!(file.raw_value_filter("a", |_| true), Err(missing));
+    assert_eq!(
+        file.raw_values_filter_by("a", None, "none", own),
+        Err(missing)
+    );
+    assert_eq!(
+        file.raw_value_filter_by("b", None, "k", own),
+        Err(lookup::existing::Error::SectionMissing)
+    );
+    assert_eq!(
+        file.raw_values_filter("a.b.k", user),
+        Err(lookup::existing::Error::SubSectionMissing)
+    );
+    assert!(file.strings_filter("a.k", |_| false).is_none());
+    // (the file itself is as it was)
+    assert!(file.sections().all(|it| it.meta().trust == Trust::Full));
+}
+
+#[test]
+fn typed_values_in_some_sections() {
+    let text = "[core]\n\tbare\n\tn = 2k\n[core]\n\tbare = vi\n\tn = x\n";
+    let mut file = File::try_from(text).expect("a text");
+    let mut last = file.section_mut("core", None).expect("a section");
+    last.set_trust(Trust::Reduced);
+    let trusted = |meta: &Metadata| meta.trust == Trust::Full;
+    assert_eq!(file.boolean_filter("core.bare", trusted), Ok(Some(true)));
+    assert_eq!(
+        file.integer_filter_by("core", None, "n", trusted),
+        Ok(Some(2048))
+    );
+    assert_eq!(file.integer_filter("core.n", |_| false), Ok(None));
+    assert_eq!(
+        file.boolean_filter_by("core", None, "none", trusted),
+        Ok(None)
+    );
+    assert_eq!(file.boolean_filter("core", trusted), Ok(None));
+    let other = |meta: &Metadata| !trusted(meta);
+    let refused = file.boolean_filter("core.bare", other);
+    assert_eq!(refused.map_err(|it| it.input), Err("vi".into()));
+    let refused = file.integer_filter("core.n", |_| true);
+    assert_eq!(refused.map_err(|it| it.input), Err("x".into()));
+}
+
+#[test]
+fn some_sections_are_written() {
+    let file = File::try_from("# mine\n[a]\n\tk = 1\n[b]\n\tk = 2\n[A]\n").expect("a text");
+    let written = |filter: &dyn Fn(&Section) -> bool| {
+        let mut out = Vec::new();
+        file.write_to_filter(&mut out, filter).expect("room");
+        BString::from(out)
+    };
+    assert_eq!(written(&|_| true), file.to_bstring());
+    assert_eq!(
+        written(&|it| it.header().name() == "b"),
+        "# mine\n[b]\n\tk = 2\n"
+    );
+    assert_eq!(
+        written(&|it| it.num_values() == 0 || it.value("k") == Some("1".into())),
+        "# mine\n[a]\n\tk = 1\n[A]\n"
+    );
+    assert_eq!(written(&|_| false), "# mine\n");
+    let full = file.write_to_filter(&mut [0; 4][..], |_| true);
+    assert_eq!(
+        full.map_err(|it| it.kind()),
+        Err(std::io::ErrorKind::WriteZero)
+    );
+}
+
+#[test]
+fn sections_by_their_names() {
+    let text = "[core]\n\tk = 0\n[core \"x\"]\n\tk = 1\n[CORE]\n\tk = 2\n[core.x]\n\tk = 3\n";
+    let mut file = File::try_from(text).expect("a text");
+    let (lacks_section, lacks_subsection) = (
+        lookup::existing::Error::SectionMissing,
+        lookup::existing::Error::SubSectionMissing,
+    );
+    let value = |section: Section| section.value("k").unwrap_or_default();
+    let x: Option<&BStr> = Some("x".into());
+    assert_eq!(file.section("core", None).map(value), Ok("2".into()));
+    assert_eq!(file.section("CoRe", x).map(value), Ok("3".into()));
+    assert_eq!(
+        file.section("core", b"X".as_bstr()).err(),
+        Some(lacks_subsection)
+    );
+    assert_eq!(file.section("nope", None).err(), Some(lacks_section));
+    let all = file.sections_by_name("Core").expect("sections");
+    assert_eq!(
+        all.map(value).collect::<Vec<_>>(),
+        texts(&["0", "1", "2", "3"])
+    );
+    assert!(file.sections_by_name("nope").is_none());
+
+    let mut last = file.section_mut("core", None).expect("a section");
+    last.set_trust(Trust::Reduced);
+    let trusted = |meta: &Metadata| meta.trust == Trust::Full;
+    let found = file.section_filter("core", None, trusted);
+    assert_eq!(found.map(|it| it.map(value)), Ok(Some("0".into())));
+    assert_eq!(file.section_filter("core", x, |_| false), Ok(None));
+    let refused = file.section_filter("nope", None, trusted);
+    assert_eq!(refused, Err(lacks_section));
+    let all = file.sections_by_name_and_filter("core", trusted);
+    let all: Vec<_> = all.expect("sections").map(value).collect();
+    assert_eq!(all, texts(&["0", "1", "3"]));
+    let none = file.sections_by_name_and_filter("core", |_| false);
+    assert_eq!(none.map(|it| it.count()), Some(0));
+    assert!(file.sections_by_name_and_filter("nope", trusted).is_none());
+
+    let editor = file.section_mut_filter("core", None, trusted);
+    let mut editor = editor.expect("a section").expect("a trusted one");
+    assert_eq!(editor.set("k", "new".into()), Ok(Some("0".into())));
+    let none = file.section_mut_filter("core", None, |_| false);
+    assert!(none.expect("a section").is_none());
+    let refused = file.section_mut_filter("core", b"y".as_bstr(), trusted);
+    assert_eq!(refused.err(), Some(lacks_subsection));
+    let removed = file.remove_section_filter("core", None, trusted);
+    assert_eq!(removed.map(value), Some("new".into()));
+    assert!(file.remove_section_filter("core", None, trusted).is_none());
+    assert!(file.remove_section_filter("nope", None, trusted).is_none());
+    let removed = file.remove_section("core", x);
+    assert_eq!(removed.map(value), Some("3".into()));
+    assert_eq!(file.to_string(), "[core \"x\"]\n\tk = 1\n[CORE]\n\tk = 2\n");
+}
+
+#[test]
+fn entries_below_the_last_one() {
+    let mut file = File::try_from("[a]\n\tk = 1\n\n# of b\n[b] # b\n").expect("a text");
+    let mut a = file.section_mut("a", None).expect("a section");
+    assert_eq!(a.push_after_last("j", " 2".into()), Ok(()));
+    assert_eq!(a.section().value("j"), Some(" 2".into()));
+    let refused = a.push_after_last("a b", "2".into());
+    assert_eq!(refused.map_err(|it| it.number), Err(6));
+    let mut b = file.section_mut("b", None).expect("a section");
+    assert_eq!(b.push_after_last("j", "3".into()), Ok(()));
+    assert_eq!(
+        file.to_string(),
+        "[a]\n\tk = 1\n\tj = \" 2\"\n\n# of b\n[b] # b\n\tj = 3\n"
+    );
+}
+
+#[test]
+fn entries_are_removed_together() {
+    let text = "[a]\n\tk = 1\n\tK = 2\n\tj = 3\n\tk\n\tk = 5\n[a \"x\"]\n\tk = 6\n";
+    let mut file = File::try_from(text).expect("a text");
+    let mut section = file.section_mut("a", None).expect("a section");
+    assert_eq!(section.remove_marked("k", &[]), 0);
+    assert_eq!(section.remove_marked("none", &[true]), 0);
+    assert_eq!(section.remove_all("none"), 0);
+    assert_eq!(section.remove_marked("k", &[true, false, true]), 2);
+    assert_eq!(section.section().values("k"), ["2", "5"]);
+    assert_eq!(section.remove_marked("k", &[false, true, true]), 1);
+    assert_eq!(
+        file.to_string(),
+        "[a]\n\tK = 2\n\tj = 3\n[a \"x\"]\n\tk = 6\n"
+    );
+    file = File::try_from(text).expect("a text");
+    let mut section = file.section_mut("A", None).expect("a section");
+    assert_eq!(section.remove_all("K"), 4);
+    assert_eq!(section.remove_all("k"), 0);
+    assert_eq!(file.to_string(), "[a]\n\tj = 3\n[a \"x\"]\n\tk = 6\n");
 }

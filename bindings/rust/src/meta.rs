@@ -1,0 +1,31 @@
+//! What is known of where a file or a section comes from.
+use std::path::PathBuf;
+
+use crate::includes::path_of;
+use crate::source::{Source, Trust};
+
+/// Where a file or a section comes from.
+#[derive(Clone, Debug, PartialEq, Eq, PartialOrd, Ord, Hash)]
+pub struct Metadata {
+    /// The path of its file, if it was read from one.
+    pub path: Option<PathBuf>,
+    /// The place that it was read from.
+    pub source: Source,
+    /// How many includes led to its file: 0 for a file that was not included.
+    pub level: u8,
+    /// How far it is trusted.
+    pub trust: Trust,
+}
+
+impl Metadata {
+    /// The same as the library tells it.
+    pub(crate) fn of(path: Option<&[u8]>, source: u32, level: u32, trust: u32) -> Self {
+        Metadata {
+            path: path.map(path_of),
+            source: Source::of(source),
+            // (at the most ten)
+            level: u8::try_from(level).unwrap_or(u8::MAX),
+            trust: Trust::of(trust),
+        }
+    }
+}
