@@ -44,7 +44,7 @@ pub(crate) struct Listed {
 /// An entry of a section: its name in lower case, and what it means; `None` for one without `=`.
 pub(crate) type Entry = (BString, Option<BString>);
 
-/// A section of a file, as it was when it was asked for.
+/// A section of a file, as it was when it was asked for. Equal ones have the same header, entries and metadata.
 #[derive(Clone, Debug, PartialEq, Eq)]
 pub struct Section {
     pub(crate) header: Header,
