@@ -5,10 +5,11 @@
     >>> config["remote", "origin", "url"]
     'https://example.org/a.git'
 """
-from gixcfg._config import Config, Entry, Includes, Key, Origin, Section, SectionEditor
+from gixcfg._config import Config, Difference, Entry, Includes, Key, Origin, Section, SectionEditor, Source
 from gixcfg._errors import ConfigError, IncludeError, KeyNotFound, Locked, NotOfType, ParseError, Refused, VariableError
+from gixcfg._layout import normalize
 
 __all__ = [
-    "Config", "ConfigError", "Entry", "IncludeError", "Includes", "Key", "KeyNotFound", "Locked", "NotOfType", "Origin", "ParseError", "Refused",
-    "Section", "SectionEditor", "VariableError",
+    "Config", "ConfigError", "Difference", "Entry", "IncludeError", "Includes", "Key", "KeyNotFound", "Locked", "NotOfType", "Origin", "ParseError",
+    "Refused", "Section", "SectionEditor", "Source", "VariableError", "normalize",
 ]

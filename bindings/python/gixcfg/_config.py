@@ -1,10 +1,11 @@
 """A file of configuration."""
 import contextlib
 import ctypes
+import enum
 import itertools
 import os
 import weakref
-from typing import Iterator, List, NamedTuple, NoReturn, Optional, Sequence, Tuple, Union, cast
+from typing import Any, Dict, Iterable, Iterator, List, NamedTuple, NoReturn, Optional, Sequence, Tuple, Type, Union, cast
 
 from gixcfg import _library as c
 from gixcfg._errors import ConfigError, IncludeError, KeyNotFound, NotOfType, ParseError, Refused, VariableError
@@ -14,8 +15,10 @@ from gixcfg._saving import Lock, PathName
 # "remote.origin.url", or its names: ("remote", "origin", "url"), ("core", "editor").
 Key = Union[str, Tuple[str, str], Tuple[str, str, str]]
 
-KINDS = {7: KeyNotFound, 8: KeyNotFound, 9: KeyNotFound, c.NOTHING_THERE: KeyNotFound, 11: NotOfType,
-         **{number: IncludeError for number in (12, 13, 14, 15, 16, 17, 18, 19, 20, 21)}, **{number: VariableError for number in (22, 23, 24, 25, 26)}}
+KINDS: Dict[int, Type[ConfigError]] = {
+    7: KeyNotFound, 8: KeyNotFound, 9: KeyNotFound, c.NOTHING_THERE: KeyNotFound, 11: NotOfType,
+    **{number: IncludeError for number in (12, 13, 14, 15, 16, 17, 18, 19, 20, 21)}, **{number: VariableError for number in (22, 23, 24, 25, 26)},
+}
 
 
 def _encoded(text: str) -> bytes:
@@ -47,12 +50,17 @@ def _key(key: Key) -> c.Key:
     return c.Key(_text(section), True, _text(subsection), _text(name))
 
 
+def _folders(installation: Optional[PathName], home: Optional[PathName]) -> c.Folders:
+    """The folders that the shorthands of paths stand for, for the library."""
+    user = os.path.expanduser("~") if home is None else os.fspath(home)
+    return c.Folders(installation is not None, _text("" if installation is None else os.fspath(installation)), True, _text(user))
+
+
 def _includes(includes: "Includes") -> c.Includes:
     """How includes are followed, for the library."""
     git = None if includes.git_folder is None else os.path.abspath(os.fspath(includes.git_folder))
-    home = os.path.expanduser("~") if includes.home is None else os.fspath(includes.home)
-    folders = c.Folders(False, _text(""), True, _text(home))
-    return c.Includes(includes.strict, False, folders, git is not None, _text(git or ""), _text(os.path.realpath(git) if git else ""),
+    real_git = None if git is None else os.path.realpath(git)
+    return c.Includes(includes.strict, False, _folders(None, includes.home), git is not None, _text(git or ""), _text(real_git or ""),
                       includes.branch is not None, _text(includes.branch or ""))
 
 
@@ -62,13 +70,20 @@ def _places(installation: Optional[PathName], prefix: PathName, home: Optional[P
     return c.Places(installation is not None, _text(os.fspath(installation or "")), _text(os.fspath(prefix)), True, _text(user))
 
 
-def _refuse(number: int, key: Optional[Key] = None) -> NoReturn:
-    """Raises what stands for the number of a refusal."""
+def _refuse(number: int, key: Optional[Key] = None, kind: Optional[Type[ConfigError]] = None) -> NoReturn:
+    """Raises what stands for the number of a refusal, or this kind."""
     if number == c.OUT_OF_MEMORY:
         raise MemoryError
     named = "" if key is None else f"{key if isinstance(key, str) else '.'.join(key)}: "
-    kind = KINDS.get(number, Refused)
-    raise kind(number, named + c.words_of(number))
+    raised = KINDS.get(number, Refused) if kind is None else kind
+    raise raised(number, named + c.words_of(number))
+
+
+def _refuse_text(number: int, place: c.Place) -> NoReturn:
+    """Raises what stands for the number of a refused text."""
+    if number == c.OUT_OF_MEMORY:
+        raise MemoryError
+    raise ParseError(number, c.words_of(number), place.line, place.column, place.offset)
 
 
 class Entry(NamedTuple):
@@ -80,21 +95,49 @@ class Entry(NamedTuple):
     value: Optional[str]
 
 
-class Section(NamedTuple):
-    """A section of a file: its name as it is spelled, its subsection, and its entries in order."""
+def _entry(entry: c.Entry) -> Entry:
+    """An entry that the library lists."""
+    subsection = _decoded(c.bytes_at(entry.subsection)) if entry.has_subsection else None
+    value = _decoded(c.bytes_at(entry.value)) if entry.has_value else None
+    return Entry(_decoded(c.bytes_at(entry.section)), subsection, _decoded(c.bytes_at(entry.name)), value)
 
-    name: str
-    subsection: Optional[str]
-    entries: List[Entry]
+
+class Source(str, enum.Enum):
+    """A place that configuration is read from. Each is a `str`, its name."""
+
+    # (in the order of their numbers)
+    GIT_INSTALLATION = "git-installation"
+    """The configuration that was installed with git."""
+    SYSTEM = "system"
+    """The configuration of the whole machine."""
+    GIT = "git"
+    """The user's configuration in `git/config` of the folder for configuration."""
+    USER = "user"
+    """The user's configuration in `.gitconfig` of the home folder."""
+    LOCAL = "local"
+    """The repository's configuration."""
+    WORKTREE = "worktree"
+    """The configuration of one worktree."""
+    ENV = "env"
+    """Variables of the environment."""
+    CLI = "cli"
+    """Options of the command line."""
+    API = "api"
+    """The program itself: also a text that it parses."""
+    ENV_OVERRIDE = "env-override"
+    """Variables of the environment that override everything else."""
+
+    def __str__(self) -> str:
+        return str(self.value)
 
 
-SOURCES = ("git-installation", "system", "git", "user", "local", "worktree", "env", "cli", "api", "env-override")
+SOURCES = list(Source)
 
 
 class Origin(NamedTuple):
-    """Where a whole file comes from, as the library knows it."""
+    """Where a whole file or a section comes from, as the library knows it."""
 
-    source: str
+    source: Source
     """The place that it was read from: "system", "user", "local" and so on; "api" for a text that was parsed."""
     level: int
     """How many includes led to it."""
@@ -102,6 +145,31 @@ class Origin(NamedTuple):
     """Whether it is fully trusted."""
     path: Optional[str]
     """Its path, if it has one."""
+
+
+def _origin(origin: Union[c.Origin, c.Section], path: bytes) -> Origin:
+    """Where a file or a section comes from, of what the library tells of it."""
+    return Origin(SOURCES[origin.source.bit_length() - 1], origin.level, origin.trust == c.TRUST_FULL, os.fsdecode(path) if origin.has_path else None)
+
+
+class Section(NamedTuple):
+    """A section of a file: its name as it is spelled, its subsection, its entries in order, and where it comes from."""
+
+    name: str
+    subsection: Optional[str]
+    entries: List[Entry]
+    origin: Origin
+
+
+class Difference(NamedTuple):
+    """A key of which two files say different things: its names, and what all values of it mean in either file, in order; `None` for an entry
+    without `=`."""
+
+    section: str
+    subsection: Optional[str]
+    name: str
+    values: List[Optional[str]]
+    other_values: List[Optional[str]]
 
 
 class Includes(NamedTuple):
@@ -137,10 +205,8 @@ class Config:
     def _read(self, text: bytes) -> None:
         place = c.Place()
         number = c.LIBRARY.gix_config_file_parse(text, len(text), False, self._file, place)
-        if number == c.OUT_OF_MEMORY:
-            raise MemoryError
         if number != c.DONE:
-            raise ParseError(number, c.words_of(number), place.line, place.column, place.offset)
+            _refuse_text(number, place)
 
     @classmethod
     def parse(cls, text: Union[str, bytes]) -> "Config":
@@ -274,8 +340,7 @@ class Config:
         number = c.LIBRARY.gix_config_file_origin(self._file, origin, block)
         if number != c.DONE:
             _refuse(number)
-        path = os.fsdecode(self._taken(block)) if origin.has_path else None
-        return Origin(SOURCES[origin.source.bit_length() - 1], origin.level, origin.trust == c.TRUST_FULL, path)
+        return _origin(origin, self._taken(block))
 
     @staticmethod
     def _taken(block: c.Block) -> bytes:
@@ -297,17 +362,32 @@ class Config:
         """Whether a key has a value."""
         return self.get(cast(Key, key)) is not None
 
-    def get(self, key: Key, default: Optional[str] = None) -> Optional[str]:
-        """What the last value of a key means, or the default if there is none."""
-        try:
-            return self[key]
-        except KeyNotFound:
-            return default
+    def _found(self, call: str, key: Key, sources: Optional[Iterable[Source]], trusted_only: bool, found: Any) -> int:
+        """Looks a key up by a call of the library, in the sections that are kept. Returns the answer."""
+        if sources is None and not trusted_only:
+            return int(getattr(c.LIBRARY, f"gix_config_{call}")(self._file, _key(key), found))
+        kept = set(SOURCES if sources is None else map(Source, sources))
+        numbers = sum(1 << index for index, source in enumerate(SOURCES) if source in kept)
+        given = c.Filter(numbers, c.TRUST_FULL if trusted_only else c.TRUST_REDUCED)
+        return int(getattr(c.LIBRARY, f"gix_config_{call}_filter")(self._file, _key(key), given, found))
 
-    def get_all(self, key: Key) -> List[str]:
-        """What all values of a key mean, in the file's order; an entry without `=` counts as empty."""
+    def get(self, key: Key, default: Optional[str] = None, *, sources: Optional[Iterable[Source]] = None,
+            trusted_only: bool = False) -> Optional[str]:
+        """What the last value of a key means, or the default if there is none. With `sources` only sections that come from these places count,
+        with `trusted_only` only those that are fully trusted."""
+        block = c.Block()
+        number = self._found("value", key, sources, trusted_only, block)
+        if KINDS.get(number) is KeyNotFound:
+            return default
+        if number != c.DONE:
+            _refuse(number, key)
+        return _decoded(self._taken(block))
+
+    def get_all(self, key: Key, *, sources: Optional[Iterable[Source]] = None, trusted_only: bool = False) -> List[str]:
+        """What all values of a key mean, in the file's order; an entry without `=` counts as empty. `sources` and `trusted_only` are as for
+        `get`."""
         values, span = c.Handle(), c.Span()
-        number = c.LIBRARY.gix_config_values(self._file, _key(key), values)
+        number = self._found("values", key, sources, trusted_only, values)
         if KINDS.get(number) is KeyNotFound:
             return []
         if number != c.DONE:
@@ -331,9 +411,7 @@ class Config:
             found = []
             for index in range(c.LIBRARY.gix_config_list_len(entries)):
                 c.LIBRARY.gix_config_list_entry(entries, index, entry)
-                subsection = _decoded(c.bytes_at(entry.subsection)) if entry.has_subsection else None
-                value = _decoded(c.bytes_at(entry.value)) if entry.has_value else None
-                found.append(Entry(_decoded(c.bytes_at(entry.section)), subsection, _decoded(c.bytes_at(entry.name)), value))
+                found.append(_entry(entry))
             return found
         finally:
             c.LIBRARY.gix_config_list_close(entries)
@@ -350,7 +428,8 @@ class Config:
             for index in range(c.LIBRARY.gix_config_list_len(sections)):
                 c.LIBRARY.gix_config_list_section(sections, index, section)
                 subsection = _decoded(c.bytes_at(section.subsection)) if section.has_subsection else None
-                found.append(Section(_decoded(c.bytes_at(section.name)), subsection, list(itertools.islice(left, section.entries))))
+                entries_of = list(itertools.islice(left, section.entries))
+                found.append(Section(_decoded(c.bytes_at(section.name)), subsection, entries_of, _origin(section, c.bytes_at(section.path))))
             return found
         finally:
             c.LIBRARY.gix_config_list_close(sections)
@@ -367,27 +446,77 @@ class Config:
         if number != c.DONE:
             _refuse(number)
 
-    def get_bool(self, key: Key, default: Optional[bool] = None) -> Optional[bool]:
+    def __eq__(self, other: object) -> bool:
+        """Whether the files have the same sections in order, with the same keys that mean the same. Names are compared without case. Comments,
+        blanks, what is before the first section and where sections come from don't count. As it changes with edits, a `Config` has no hash."""
+        if not isinstance(other, Config):
+            return NotImplemented
+        if other is self:
+            return True
+        equal = ctypes.c_bool()
+        number = c.LIBRARY.gix_config_file_equal(self._file, other._file, equal)
+        if number != c.DONE:
+            _refuse(number)
+        return equal.value
+
+    def differences(self, other: "Config") -> List[Difference]:
+        """The keys of which the files say different things, sorted by their names. There are none if and only if both say the same of every
+        key: the values mean the same in order, and look-ups find the same one."""
+        if other is self:
+            return []
+        differences, difference = c.Handle(), c.Difference()
+        number = c.LIBRARY.gix_config_differences(self._file, other._file, differences)
+        if number != c.DONE:
+            _refuse(number)
+        try:
+            found: List[Difference] = []
+            for index in range(c.LIBRARY.gix_config_list_len(differences)):
+                c.LIBRARY.gix_config_list_difference(differences, index, difference)
+                section, subsection, name, value = _entry(difference.entry)
+                if not found or found[-1][:3] != (section, subsection, name):
+                    found.append(Difference(section, subsection, name, [], []))
+                (found[-1].other_values if difference.is_other else found[-1].values).append(value)
+            return found
+        finally:
+            c.LIBRARY.gix_config_list_close(differences)
+
+    def get_bool(self, key: Key, default: Optional[bool] = None, *, sources: Optional[Iterable[Source]] = None,
+                 trusted_only: bool = False) -> Optional[bool]:
         """The last value of a key as a boolean, as git takes it: yes, on, true and an entry without `=` are true, also a number but 0.
-        The default if there is none; raises NotOfType for a value that is no boolean."""
+        The default if there is none; raises NotOfType for a value that is no boolean. `sources` and `trusted_only` are as for `get`."""
         value = ctypes.c_bool()
-        number = c.LIBRARY.gix_config_boolean(self._file, _key(key), value)
+        number = self._found("boolean", key, sources, trusted_only, value)
         if number == c.NOTHING_THERE:
             return default
         if number != c.DONE:
             _refuse(number, key)
         return value.value
 
-    def get_int(self, key: Key, default: Optional[int] = None) -> Optional[int]:
+    def get_int(self, key: Key, default: Optional[int] = None, *, sources: Optional[Iterable[Source]] = None,
+                trusted_only: bool = False) -> Optional[int]:
         """The last value of a key as an integer of 64 bits, times 1024 for a `k` behind it, and so on for `m` and `g`. The default if there
-        is none; raises NotOfType for a value that is no integer."""
+        is none; raises NotOfType for a value that is no integer. `sources` and `trusted_only` are as for `get`."""
         value = ctypes.c_int64()
-        number = c.LIBRARY.gix_config_integer(self._file, _key(key), value)
+        number = self._found("integer", key, sources, trusted_only, value)
         if number == c.NOTHING_THERE:
             return default
         if number != c.DONE:
             _refuse(number, key)
         return value.value
+
+    def get_path(self, key: Key, default: Optional[str] = None, *, home: Optional[PathName] = None,
+                 prefix: Optional[PathName] = None) -> Optional[str]:
+        """The last value of a key as a path, as git takes it: `~/` at its front is the home folder, which is the user's if none is given, and
+        `%(prefix)/` the folder where git is installed. The default if there is none, as for an entry without `=`. Raises NotOfType for a value
+        that is empty, that needs the folder of another user or a prefix that isn't given, or that is not UTF-8; Refused for a folder that is
+        not UTF-8."""
+        block = c.Block()
+        number = c.LIBRARY.gix_config_path(self._file, _key(key), _folders(prefix, home), block)
+        if number == c.NOTHING_THERE:
+            return default
+        if number != c.DONE:
+            _refuse(number, key, NotOfType if number in (12, 13, 14) else None)
+        return os.fsdecode(self._taken(block))
 
     def set(self, key: Key, value: str) -> Optional[str]:
         """Gives a key a value: in the last section of its names, whose last entry of the name gets it; entry and section are made if there
@@ -499,6 +628,11 @@ class SectionEditor:
         """Gives the section another name and subsection. Raises Refused."""
         names = c.SectionKey(_text(name), subsection is not None, _text(subsection or ""))
         self._done(c.LIBRARY.gix_config_section_rename_at(self._config._file, self._place, names), name)
+
+    def set_trusted(self, is_trusted: bool) -> None:
+        """Says whether the section is fully trusted, which look-ups with `trusted_only` go by. It isn't written into the text."""
+        trust = c.TRUST_FULL if is_trusted else c.TRUST_REDUCED
+        self._done(c.LIBRARY.gix_config_section_set_trust_at(self._config._file, self._place, trust), "a section")
 
     @staticmethod
     def _done(number: int, name: str) -> None:

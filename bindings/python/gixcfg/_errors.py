@@ -34,7 +34,7 @@ class KeyNotFound(ConfigError, KeyError):
 
 
 class NotOfType(ConfigError, ValueError):
-    """The value is there, and is no boolean or no integer (11)."""
+    """The value is there, and is no boolean or no integer (11), or no path that can be made out (12, 13, 14)."""
 
 
 class Refused(ConfigError, ValueError):

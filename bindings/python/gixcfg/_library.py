@@ -7,7 +7,7 @@ from pathlib import Path
 NAME = "libgix_config.so.0"
 
 DONE, OUT_OF_MEMORY, NOTHING_THERE, NOT_UTF8, NOT_TOLD, VARIABLE_NOT_TOLD = 0, 27, 100, 101, 103, 105
-SOURCE_API, TRUST_FULL = 256, 1
+SOURCE_API, TRUST_REDUCED, TRUST_FULL = 256, 0, 1
 
 
 class Handle(ctypes.Structure):
@@ -42,6 +42,10 @@ class Entry(ctypes.Structure):
     ]
 
 
+class Difference(ctypes.Structure):
+    _fields_ = [("is_other", ctypes.c_bool), ("entry", Entry)]
+
+
 class Section(ctypes.Structure):
     _fields_ = [
         ("name", Span), ("has_subsection", ctypes.c_bool), ("subsection", Span), ("has_path", ctypes.c_bool), ("path", Span),
@@ -63,6 +67,19 @@ class Assigned(ctypes.Structure):
 
 class Folders(ctypes.Structure):
     _fields_ = [("has_installation", ctypes.c_bool), ("installation", Text), ("has_home", ctypes.c_bool), ("home", Text)]
+
+
+class Filter(ctypes.Structure):
+    _fields_ = [("sources", ctypes.c_uint32), ("least_trust", ctypes.c_uint32)]
+
+
+class Layout(ctypes.Structure):
+    _fields_ = [
+        ("keeps_root_blanks", ctypes.c_bool), ("has_root_tabs", ctypes.c_bool), ("root_indent", ctypes.c_size_t), ("has_tabs", ctypes.c_bool),
+        ("indent", ctypes.c_size_t), ("spaces_around_separator", ctypes.c_bool), ("detects_newline", ctypes.c_bool), ("is_crlf", ctypes.c_bool),
+        ("ensures_trailing_newline", ctypes.c_bool), ("limits_leading_blank_lines", ctypes.c_bool), ("max_leading_blank_lines", ctypes.c_size_t),
+        ("limits_blank_lines", ctypes.c_bool), ("max_blank_lines", ctypes.c_size_t),
+    ]
 
 
 class Includes(ctypes.Structure):
@@ -97,6 +114,10 @@ CALLS = {
     "file_parse": [ctypes.c_char_p, ctypes.c_size_t, ctypes.c_bool, ctypes.POINTER(Handle), ctypes.POINTER(Place)],
     "file_clone": [ctypes.POINTER(Handle), ctypes.POINTER(Handle)],
     "file_append": [ctypes.POINTER(Handle), ctypes.POINTER(Handle)],
+    "file_equal": [ctypes.POINTER(Handle), ctypes.POINTER(Handle), ctypes.POINTER(ctypes.c_bool)],
+    "differences": [ctypes.POINTER(Handle), ctypes.POINTER(Handle), ctypes.POINTER(Handle)],
+    "list_difference": [ctypes.POINTER(Handle), ctypes.c_size_t, ctypes.POINTER(Difference)],
+    "normalize": [ctypes.c_char_p, ctypes.c_size_t, ctypes.POINTER(Layout), ctypes.POINTER(Block), ctypes.POINTER(Place)],
     "file_text": [ctypes.POINTER(Handle), ctypes.POINTER(Block)],
     "file_origin": [ctypes.POINTER(Handle), ctypes.POINTER(Origin), ctypes.POINTER(Block)],
     "value": [ctypes.POINTER(Handle), ctypes.POINTER(Key), ctypes.POINTER(Block)],
@@ -108,6 +129,11 @@ CALLS = {
     "list_section": [ctypes.POINTER(Handle), ctypes.c_size_t, ctypes.POINTER(Section)],
     "boolean": [ctypes.POINTER(Handle), ctypes.POINTER(Key), ctypes.POINTER(ctypes.c_bool)],
     "integer": [ctypes.POINTER(Handle), ctypes.POINTER(Key), ctypes.POINTER(ctypes.c_int64)],
+    "value_filter": [ctypes.POINTER(Handle), ctypes.POINTER(Key), ctypes.POINTER(Filter), ctypes.POINTER(Block)],
+    "values_filter": [ctypes.POINTER(Handle), ctypes.POINTER(Key), ctypes.POINTER(Filter), ctypes.POINTER(Handle)],
+    "boolean_filter": [ctypes.POINTER(Handle), ctypes.POINTER(Key), ctypes.POINTER(Filter), ctypes.POINTER(ctypes.c_bool)],
+    "integer_filter": [ctypes.POINTER(Handle), ctypes.POINTER(Key), ctypes.POINTER(Filter), ctypes.POINTER(ctypes.c_int64)],
+    "path": [ctypes.POINTER(Handle), ctypes.POINTER(Key), ctypes.POINTER(Folders), ctypes.POINTER(Block)],
     "set_value": [
         ctypes.POINTER(Handle), ctypes.POINTER(Key), ctypes.c_char_p, ctypes.c_size_t, ctypes.POINTER(ctypes.c_bool), ctypes.POINTER(Block),
     ],
@@ -127,6 +153,7 @@ CALLS = {
     ],
     "section_rename_at": [ctypes.POINTER(Handle), ctypes.c_size_t, ctypes.POINTER(SectionKey)],
     "section_remove_at": [ctypes.POINTER(Handle), ctypes.c_size_t],
+    "section_set_trust_at": [ctypes.POINTER(Handle), ctypes.c_size_t, ctypes.c_uint32],
     "told_new": [ctypes.POINTER(Handle)],
     "told_text": [ctypes.POINTER(Handle), ctypes.c_char_p, ctypes.c_size_t, ctypes.c_char_p, ctypes.c_size_t],
     "told_missing": [ctypes.POINTER(Handle), ctypes.c_char_p, ctypes.c_size_t],
@@ -155,6 +182,8 @@ def opened() -> ctypes.PyDLL:
     for call, kind in FREEING.items():
         function = getattr(library, f"gix_config_{call}")
         function.argtypes, function.restype = [ctypes.POINTER(kind)], None
+    library.gix_config_layout_default.argtypes = [ctypes.POINTER(Layout)]
+    library.gix_config_layout_default.restype = None
     library.gix_config_list_len.argtypes = [ctypes.POINTER(Handle)]
     library.gix_config_list_len.restype = ctypes.c_size_t
     library.gix_config_refusal_text.argtypes = [ctypes.c_uint32, ctypes.POINTER(Span)]
