@@ -79,11 +79,13 @@ def _refuse(number: int, key: Optional[Key] = None, kind: Optional[Type[ConfigEr
     raise raised(number, named + c.words_of(number))
 
 
-def _refuse_text(number: int, place: c.Place) -> NoReturn:
-    """Raises what stands for the number of a refused text."""
+def _refuse_text(number: int, place: c.Place, path: Optional[str] = None) -> NoReturn:
+    """Raises what stands for the number of a refused text, which is that of the file at the path if there is one."""
     if number == c.OUT_OF_MEMORY:
         raise MemoryError
-    raise ParseError(number, c.words_of(number), place.line, place.column, place.offset)
+    error = ParseError(number, c.words_of(number), place.line, place.column, place.offset)
+    error.path = path
+    raise error
 
 
 class Entry(NamedTuple):
@@ -280,13 +282,8 @@ class Config:
     @staticmethod
     def _follow(asked: Asked) -> None:
         """Raises what stands for the answer of a call that followed includes."""
-        if asked.number in (1, 2) and asked.text is not None:
-            try:
-                # (the file that was told last is the one that is refused: those before it were read before it was asked for)
-                Config.parse(asked.text)
-            except ParseError as error:
-                error.path = os.fsdecode(asked.path)
-                raise
+        if asked.place is not None:
+            _refuse_text(asked.number, asked.place, os.fsdecode(asked.path))
         if asked.number != c.DONE:
             _refuse(asked.number, os.fsdecode(asked.about) if asked.about else None)
 

@@ -160,6 +160,7 @@ CALLS = {
     "told_fault": [ctypes.POINTER(Handle), ctypes.c_char_p, ctypes.c_size_t, ctypes.c_bool],
     "told_variable": [ctypes.POINTER(Handle), ctypes.c_char_p, ctypes.c_size_t, ctypes.c_char_p, ctypes.c_size_t],
     "told_no_variable": [ctypes.POINTER(Handle), ctypes.c_char_p, ctypes.c_size_t],
+    "told_place": [ctypes.POINTER(Handle), ctypes.c_char_p, ctypes.c_size_t, ctypes.POINTER(Place)],
     "load_globals_told": [ctypes.POINTER(Handle), ctypes.POINTER(Places), ctypes.POINTER(Handle), ctypes.POINTER(Block)],
     "load_env_told": [ctypes.POINTER(Handle), ctypes.POINTER(Includes), ctypes.POINTER(Handle), ctypes.POINTER(Block)],
     "load_repository_told": [ctypes.POINTER(Handle), ctypes.POINTER(Repository), ctypes.POINTER(Handle), ctypes.POINTER(Block)],

@@ -60,6 +60,11 @@ class Loads(unittest.TestCase):
         with self.assertRaises(ParseError) as refused:
             Config.load_with_includes(path)
         self.assertEqual((refused.exception.path, refused.exception.line), (str(self.folder / "b"), 2))
+        self.put("b", "[x]\n\tk = v\n= 1\n")
+        with self.assertRaises(ParseError) as placed:
+            Config.parse("[include]\n\tpath = %s\n" % (self.folder / "b")).resolve_includes()
+        self.assertEqual((placed.exception.number, placed.exception.line, placed.exception.column, placed.exception.offset), (1, 3, 1, 11))
+        self.assertEqual(str(placed.exception), f"{self.folder / 'b'}:3:1: {placed.exception.reason}")
         self.put("b", "[include]\n\tpath = a\n")
         with self.assertRaises(IncludeError) as deep:
             Config.load_with_includes(path)
