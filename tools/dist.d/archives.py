@@ -77,6 +77,7 @@ DEVELOPMENT = Package("libgix-config-dev", "libdevel", "git's configuration file
                       "what programs in C are built with: the header, the\n library to be linked with, and its manual page.",
                       more="Source: gixcfg\nMulti-Arch: same\n")
 
+
 def put(source, to, mode=0o644):
     """Copies a file with this mode."""
     to.parent.mkdir(parents=True, exist_ok=True)
