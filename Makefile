@@ -1,11 +1,12 @@
-# GNU's targets over the project's own commands; `make help` lists them. dist/install.mk has install and uninstall.
+# GNU's targets over the project's own commands; `make help` lists them. dist/install.mk has those that install.
 
-.PHONY: build check prove lib dist clean help
+.PHONY: build check prove dist clean help
 .DEFAULT_GOAL = all
 
 include dist/install.mk
 
 PROGRAM = crates/gixcfg/out/gixcfg
+LIBRARY = out/lib
 
 all: build
 
@@ -19,11 +20,11 @@ check:
 prove:
 	./prove
 
-# (the library for C, proved as the program is: docs/c.md)
+# (the library for C, proved as the program is, unless it is there and newer than its sources: docs/c.md)
 lib:
 	tools/c_library
 
-dist: build
+dist: build lib
 	tools/dist $(DIST)
 
 # What was proved stays where the kit keeps it, so the next build takes it from there.
@@ -31,11 +32,12 @@ clean:
 	rm -rf crates/*/out out
 
 help:
-	@echo 'make            proves and builds the program ($(PROGRAM))'
-	@echo 'make check      the tests of a fresh clone, some minutes: ./test'
-	@echo 'make prove      the whole gate: ./prove'
-	@echo 'make lib        the library for C, its header and its pkg-config file, in out/lib; docs/c.md'
-	@echo 'make install    the program, its manual, completions and licences, below PREFIX (/usr/local) and DESTDIR; builds first'
-	@echo 'make uninstall  removes just these'
-	@echo 'make dist       archives and Debian packages, in the folder DIST (outside the repository); docs/releases.md'
-	@echo 'make clean      removes what was built'
+	@echo 'make              proves and builds the program ($(PROGRAM))'
+	@echo 'make check        the tests of a fresh clone, some minutes: ./test'
+	@echo 'make prove        the whole gate: ./prove'
+	@echo 'make lib          proves and builds the library for C, in out/lib, in MINUTES_OF_MAKE_LIB; docs/c.md'
+	@echo 'make install      the program, its manual, completions and licences, below PREFIX (/usr/local) and DESTDIR; builds first'
+	@echo 'make install-lib  the library for C, its header, pkg-config file, manual and licences, there too; make lib first, in its time'
+	@echo 'make uninstall    removes just what these two put there'
+	@echo 'make dist         archives and Debian packages of both, in the folder DIST (outside the repository); docs/releases.md'
+	@echo 'make clean        removes what was built'

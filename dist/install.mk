@@ -1,22 +1,30 @@
-# Installs gixcfg by GNU's names of targets and folders. It asks for no kit: an archive of a release has this file as its Makefile.
+# Installs gixcfg and the library for C by GNU's names of targets and folders. It asks for no kit: an archive of a release has this file as
+# its Makefile.
 #
-#     make install [PREFIX=/usr/local] [DESTDIR=FOLDER]
-#     make uninstall [PREFIX=..] [DESTDIR=..]       with what make install was given
+#     make install [PREFIX=/usr/local] [DESTDIR=FOLDER]        the program
+#     make install-lib [PREFIX=/usr/local] [DESTDIR=FOLDER]    the library, in an archive for x86_64
+#     make uninstall [PREFIX=..] [DESTDIR=..]                  both; with what they were given
 #
 # The program is not stripped, unless by install-strip: as it was linked, its sum is the one in dist/SHA256SUMS, by which anybody can
 # tell of which sources it is, and a strip takes only a few hundredths off it.
 
 PROGRAM = gixcfg
+LIBRARY = lib
 
 PREFIX ?= /usr/local
 prefix = $(PREFIX)
 exec_prefix = $(prefix)
 bindir = $(exec_prefix)/bin
+libdir = $(exec_prefix)/lib
+pkgconfigdir = $(libdir)/pkgconfig
+includedir = $(prefix)/include
 datarootdir = $(prefix)/share
 datadir = $(datarootdir)
 mandir = $(datarootdir)/man
 man1dir = $(mandir)/man1
+man3dir = $(mandir)/man3
 docdir = $(datarootdir)/doc/gixcfg
+libdocdir = $(datarootdir)/doc/libgix_config
 bashcompletiondir = $(datadir)/bash-completion/completions
 zshcompletiondir = $(datadir)/zsh/site-functions
 fishcompletiondir = $(datadir)/fish/vendor_completions.d
@@ -27,9 +35,16 @@ INSTALL_DATA = $(INSTALL) -m 644
 
 licences = LICENSE-MIT LICENSE-APACHE dist/copyright
 
-.PHONY: all install install-strip uninstall
+# The shared library by its soname, which programs ask for as they start, and by the name that they are linked with.
+soname = libgix_config.so.0
+linkname = libgix_config.so
+archives = libgix_config.a libgix_config_c.a
+
+.PHONY: all lib install install-strip install-lib uninstall
 
 all:
+
+lib:
 
 # (with quotes, since a folder's name may have blanks)
 install: all
@@ -45,9 +60,26 @@ install: all
 install-strip:
 	$(MAKE) INSTALL_PROGRAM="$(INSTALL_PROGRAM) -s" install
 
-# Of the folders only the one that is gixcfg's alone is removed: others may have stood there before.
+# (with quotes in the file for pkg-config, too)
+install-lib: lib
+	$(INSTALL) -d "$(DESTDIR)$(includedir)" "$(DESTDIR)$(pkgconfigdir)" "$(DESTDIR)$(man3dir)" "$(DESTDIR)$(libdocdir)"
+	$(INSTALL_DATA) "$(LIBRARY)/gix_config.h" "$(DESTDIR)$(includedir)/gix_config.h"
+	$(INSTALL_DATA) "$(LIBRARY)/$(soname)" "$(DESTDIR)$(libdir)/$(soname)"
+	ln -sf $(soname) "$(DESTDIR)$(libdir)/$(linkname)"
+	for file in $(archives); do $(INSTALL_DATA) "$(LIBRARY)/$$file" "$(DESTDIR)$(libdir)/$$file" || exit; done
+	$(INSTALL_DATA) "$(LIBRARY)/gix_config.pc" "$(DESTDIR)$(pkgconfigdir)/gix_config.pc"
+	sed -i -e 's|^prefix=.*|prefix=$(prefix)\nexec_prefix=$(exec_prefix)\nlibdir=$(libdir)\nincludedir=$(includedir)|' \
+		-e 's|-I$${prefix}|-I"$${includedir}"|' -e 's|-L$${prefix}|-L"$${libdir}"|' "$(DESTDIR)$(pkgconfigdir)/gix_config.pc"
+	$(INSTALL_DATA) "$(LIBRARY)/gix_config.3" "$(DESTDIR)$(man3dir)/gix_config.3"
+	$(INSTALL_DATA) $(licences) "$(DESTDIR)$(libdocdir)"
+
+# Of the folders only those that are gixcfg's and the library's alone are removed: others may have stood there before.
 uninstall:
 	rm -f "$(DESTDIR)$(bindir)/gixcfg" "$(DESTDIR)$(man1dir)/gixcfg.1" "$(DESTDIR)$(bashcompletiondir)/gixcfg" \
 		"$(DESTDIR)$(zshcompletiondir)/_gixcfg" "$(DESTDIR)$(fishcompletiondir)/gixcfg.fish"
-	for file in $(notdir $(licences)); do rm -f "$(DESTDIR)$(docdir)/$$file"; done
-	[ ! -d "$(DESTDIR)$(docdir)" ] || rmdir "$(DESTDIR)$(docdir)" 2>/dev/null || true
+	rm -f "$(DESTDIR)$(includedir)/gix_config.h" "$(DESTDIR)$(pkgconfigdir)/gix_config.pc" "$(DESTDIR)$(man3dir)/gix_config.3"
+	for file in $(soname) $(linkname) $(archives); do rm -f "$(DESTDIR)$(libdir)/$$file"; done
+	for folder in "$(DESTDIR)$(docdir)" "$(DESTDIR)$(libdocdir)"; do \
+		for file in $(notdir $(licences)); do rm -f "$$folder/$$file"; done; \
+		[ ! -d "$$folder" ] || rmdir "$$folder" 2>/dev/null || true; \
+	done

@@ -1,8 +1,10 @@
 """Builds the package, by Python's own modules alone: pip calls it (PEP 517), so `pip install .` needs no network.
 
-The wheel has the modules and the shared library: that which GIXCFG_LIBRARY names, else the one that `make lib` put into out/lib.
+The wheel has the modules and the shared library: that which GIXCFG_LIBRARY names, else the one that `make lib` put into out/lib. Where
+there is none, and `make install-lib` or a package of Debian's put one where the system finds it, the wheel has the modules alone.
 """
 import base64
+import ctypes
 import hashlib
 import os
 import re
@@ -21,12 +23,24 @@ def version() -> str:
     return found[1]
 
 
-def library() -> Path:
-    """The shared library that goes into the wheel."""
-    found = Path(os.environ.get("GIXCFG_LIBRARY") or HERE.parent.parent / "out/lib" / LIBRARY)
-    if not found.is_file():
-        raise SystemExit(f"gixcfg: no library is at {found}: `make lib` makes it")
-    return found
+def is_installed() -> bool:
+    """Whether the system finds the library by its soname."""
+    try:
+        ctypes.CDLL(LIBRARY)
+    except OSError:
+        return False
+    return True
+
+
+def library() -> List[Tuple[str, bytes]]:
+    """The shared library that goes into the wheel; none where the system's is to be used."""
+    named = os.environ.get("GIXCFG_LIBRARY")
+    found = Path(named or HERE.parent.parent / "out/lib" / LIBRARY)
+    if found.is_file():
+        return [(f"{PACKAGE}/{LIBRARY}", found.read_bytes())]
+    if named or not is_installed():
+        raise SystemExit(f"gixcfg: no library is at {found}: `make lib` makes it, and `make install-lib` installs it")
+    return []
 
 
 def files() -> List[Tuple[str, bytes]]:
@@ -37,7 +51,7 @@ def files() -> List[Tuple[str, bytes]]:
     modules = [it for it in sorted((HERE / PACKAGE).iterdir()) if it.suffix == ".py" or it.name == "py.typed"]
     return [
         *((f"{PACKAGE}/{it.name}", it.read_bytes()) for it in modules),
-        (f"{PACKAGE}/{LIBRARY}", library().read_bytes()),
+        *library(),
         (f"{folder}/METADATA", about.encode()),
         (f"{folder}/WHEEL", kind.encode()),
     ]

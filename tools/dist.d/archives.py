@@ -6,6 +6,7 @@ import re
 import shutil
 import subprocess
 import tempfile
+from dataclasses import dataclass
 from email.utils import formatdate
 from pathlib import Path
 
@@ -25,22 +26,56 @@ FILES = {
     "INSTALL": "dist/INSTALL",
     "Makefile": "dist/install.mk",
 }
+# What one for x86_64 has of the library for C, in its folder lib.
+LIBRARY_FILES = ["gix_config.h", "gix_config.pc", "gix_config.3", "libgix_config.a", "libgix_config_c.a", "libgix_config.so.0"]
+
 DEBIAN = {"x86_64": "amd64", "aarch64": "arm64"}
+# Where Debian has libraries for x86_64, which is all that the library for C is for.
+LIBRARIES = "usr/lib/x86_64-linux-gnu"
+SHARED = f"{LIBRARIES}/libgix_config.so.0"
 MAINTAINER = "Bugyortev maintainers <maintainers@users.noreply.bugyortev.example>"
-# Where lintian asks for something else, and why it isn't so.
+# Where lintian asks for something else of each package, and why it isn't so.
 OVERRIDES = """\
-# The program is packaged byte for byte as it was linked, so that its sum shows of which proved sources it is.
-gixcfg: unstripped-binary-or-object [usr/bin/gixcfg]
 # The package is made by its own project, and not uploaded to Debian.
-gixcfg: initial-upload-closes-no-bugs *
+{name}: initial-upload-closes-no-bugs *
 """
-DESCRIPTION = """reads, checks and edits git's configuration files
+
+
+@dataclass(frozen=True)
+class Package:
+    """What a Debian package has of its own: also further lines of its control file, and of its overrides for lintian."""
+    name: str
+    section: str
+    description: str
+    more: str = ""
+    overrides: str = ""
+
+
+PROGRAM = Package("gixcfg", "vcs", """reads, checks and edits git's configuration files
  gixcfg has the commands of git config, and beside them fmt, check and diff. An
  edit changes what it names and keeps all else, comments and layout too, and a
  file that can't be read is reported with its line, column and reason.
  .
  Each function of the program was proved to be safe, to end, and to do what its
- contract says, before it was compiled."""
+ contract says, before it was compiled.""", overrides="""\
+# The program is packaged byte for byte as it was linked, so that its sum shows of which proved sources it is.
+gixcfg: unstripped-binary-or-object [usr/bin/gixcfg]
+""")
+OF_LIBRARY = """
+ The library parses git's configuration files, looks values up, and edits and
+ prints files. Each of its calls was proved to be safe, to end, and to do what
+ its contract says, before it was compiled.
+ .
+ This package has """
+RUNTIME = Package("libgix-config0", "libs", "git's configuration files, read and edited (shared library)" + OF_LIBRARY +
+                  "the library that programs ask for as they start.",
+                  more="Source: gixcfg\nMulti-Arch: same\n", overrides=f"""\
+# The library is packaged byte for byte as it was linked and tested.
+libgix-config0: unstripped-binary-or-object [{SHARED}]
+""")
+DEVELOPMENT = Package("libgix-config-dev", "libdevel", "git's configuration files, read and edited (development)" + OF_LIBRARY +
+                      "what programs in C are built with: the header, the\n library to be linked with, and its manual page.",
+                      more="Source: gixcfg\nMulti-Arch: same\n")
 
 
 def put(source, to, mode=0o644):
@@ -65,13 +100,13 @@ def settle(folder, time):
     """Gives all below a folder, and itself, modes that don't depend on the umask, and one time."""
     for at, _, names in os.walk(folder, topdown=False):
         for name in names:
-            os.utime(os.path.join(at, name), (time, time))
+            os.utime(os.path.join(at, name), (time, time), follow_symlinks=False)
         os.chmod(at, 0o755)
         os.utime(at, (time, time))
 
 
-def archive(program, processor, to):
-    """Makes the archive for a processor in the folder `to`, and returns its path."""
+def archive(program, processor, to, library=None):
+    """Makes the archive for a processor in the folder `to`, with the library of a folder if there is one, and returns its path."""
     name, time = folder_of(processor), time_of_release()
     made = to / f"{name}.tar.gz"
     with tempfile.TemporaryDirectory() as room:
@@ -79,6 +114,8 @@ def archive(program, processor, to):
         put(program, top / "gixcfg", 0o755)
         for place, source in FILES.items():
             put(TOP / source, top / place)
+        for file in LIBRARY_FILES if library else []:
+            put(library / file, top / "lib" / file)
         settle(top, time)
         tar = run_bytes("tar", "-C", room, "--sort=name", "--format=ustar", "--owner=0", "--group=0", "--numeric-owner",
                         f"--mtime=@{time}", "-cf", "-", name)
@@ -94,26 +131,26 @@ def run_bytes(*words):
     return ran.stdout
 
 
-def depends(program):
-    """The packages that the program needs, by the versions of glibc that its symbols are of: a symbol of GLIBC_2.34 is there from 2.34 on."""
-    told = run("readelf", "--wide", "--dynamic", "--version-info", str(program))
+def depends(linked):
+    """The packages that what was linked needs, by the versions of glibc that its symbols are of: a symbol of GLIBC_2.34 is there from 2.34 on."""
+    told = run("readelf", "--wide", "--dynamic", "--version-info", str(linked))
     libraries = set(re.findall(r"\(NEEDED\).*\[(.+)\]", told))
     if libraries != {"libc.so.6"}:
-        raise Lacking(f"{program} needs {sorted(libraries)}, where depends() in tools/dist.d/archives.py knows the package of libc.so.6 alone")
+        raise Lacking(f"{linked} needs {sorted(libraries)}, where depends() in tools/dist.d/archives.py knows the package of libc.so.6 alone")
     versions = {tuple(map(int, it.split("."))) for it in re.findall(r"\bGLIBC_([\d.]+)", told)}
     return f"libc6 (>= {'.'.join(map(str, max(versions)))})"
 
 
-def control(program, processor, size):
-    return f"""Package: gixcfg
+def control(package, processor, needs, size):
+    return f"""Package: {package.name}
 Version: {version()}-1
 Architecture: {DEBIAN[processor]}
 Maintainer: {MAINTAINER}
 Installed-Size: {size}
-Depends: {depends(program)}
-Section: vcs
+Depends: {needs}
+Section: {package.section}
 Priority: optional
-Description: {DESCRIPTION}
+{package.more}Description: {package.description}
 """
 
 
@@ -126,28 +163,63 @@ def changelog(time):
 """
 
 
-def package(program, processor, to):
-    """Makes the Debian package for a processor in the folder `to`, and returns its path."""
+def install(target, top, *words):
+    """Puts below a folder what a target of make installs; of the licences what Debian wants."""
+    run("make", "-s", "-C", str(TOP), "-f", "dist/install.mk", target, f"DESTDIR={top}", "PREFIX=/usr", "licences=dist/copyright", *words,
+        env=plain_environment())
+
+
+def pack_page(page):
+    write(page.with_name(f"{page.name}.gz"), packed(page.read_bytes()))
+    page.unlink()
+
+
+def file_of(package, processor):
+    """What the file of a Debian package is called."""
+    return f"{package.name}_{version()}-1_{DEBIAN[processor]}.deb"
+
+
+def pack(package, processor, top, needs, to):
+    """Makes a Debian package of what lies in a folder, and of what each package has, in the folder `to`, and returns its path."""
     time = time_of_release()
-    made = to / f"gixcfg_{version()}-1_{DEBIAN[processor]}.deb"
+    made = to / file_of(package, processor)
+    write(top / f"usr/share/doc/{package.name}/changelog.Debian.gz", packed(changelog(time).encode()))
+    write(top / f"usr/share/lintian/overrides/{package.name}", package.overrides + OVERRIDES.format(name=package.name))
+    held = sorted(path for path in top.rglob("*") if "DEBIAN" not in path.relative_to(top).parts)
+    files = [path for path in held if path.is_file() and not path.is_symlink()]
+    # (as dpkg-gencontrol counts it)
+    size = sum(-(-path.stat().st_size // 1024) for path in files) + len(held) - len(files)
+    write(top / "DEBIAN/md5sums", "".join(f"{hashlib.md5(path.read_bytes()).hexdigest()}  {path.relative_to(top)}\n" for path in files))
+    write(top / "DEBIAN/control", control(package, processor, needs, size))
+    settle(top, time)
+    run("dpkg-deb", "--root-owner-group", "-Zxz", "--build", str(top), str(made), env={**os.environ, "SOURCE_DATE_EPOCH": str(time)})
+    return made
+
+
+def program_package(program, processor, to):
+    """Makes the Debian package of the program for a processor in the folder `to`, and returns its path."""
     with tempfile.TemporaryDirectory() as room:
         top = Path(room, "package")
-        # (as `make install` has it; Debian has its own places for zsh's functions and for licences)
-        run("make", "-s", "-C", str(TOP), "-f", "dist/install.mk", "install", f"PROGRAM={program}", f"DESTDIR={top}", "PREFIX=/usr",
-            "zshcompletiondir=/usr/share/zsh/vendor-completions", "licences=dist/copyright", env=plain_environment())
-        page = top / "usr/share/man/man1/gixcfg.1"
-        write(page.with_suffix(".1.gz"), packed(page.read_bytes()))
-        page.unlink()
-        write(top / "usr/share/doc/gixcfg/changelog.Debian.gz", packed(changelog(time).encode()))
-        write(top / "usr/share/lintian/overrides/gixcfg", OVERRIDES)
-        files = sorted(path for path in top.rglob("*") if path.is_file())
-        # (as dpkg-gencontrol counts it)
-        size = sum(-(-path.stat().st_size // 1024) for path in files) + sum(path.is_dir() for path in top.rglob("*"))
-        write(top / "DEBIAN/md5sums", "".join(f"{hashlib.md5(path.read_bytes()).hexdigest()}  {path.relative_to(top)}\n" for path in files))
-        write(top / "DEBIAN/control", control(program, processor, size))
-        settle(top, time)
-        run("dpkg-deb", "--root-owner-group", "-Zxz", "--build", str(top), str(made), env={**os.environ, "SOURCE_DATE_EPOCH": str(time)})
-    return made
+        # (Debian has its own place for zsh's functions)
+        install("install", top, f"PROGRAM={program}", "zshcompletiondir=/usr/share/zsh/vendor-completions")
+        pack_page(top / "usr/share/man/man1/gixcfg.1")
+        return pack(PROGRAM, processor, top, depends(program), to)
+
+
+def library_packages(library, to):
+    """Makes the two Debian packages of the library for C that lies in a folder, in the folder `to`, and returns their paths."""
+    with tempfile.TemporaryDirectory() as room:
+        runtime, top = Path(room, "runtime"), Path(room, "development")
+        install("install-lib", top, f"LIBRARY={library}", f"libdir=/{LIBRARIES}", f"libdocdir=/usr/share/doc/{DEVELOPMENT.name}")
+        pack_page(top / "usr/share/man/man3/gix_config.3")
+        shared = runtime / SHARED
+        shared.parent.mkdir(parents=True)
+        (top / SHARED).rename(shared)
+        put(TOP / "dist/copyright", runtime / f"usr/share/doc/{RUNTIME.name}/copyright")
+        write(runtime / "DEBIAN/shlibs", f"libgix_config 0 {RUNTIME.name} (>= {version()})\n")
+        write(runtime / "DEBIAN/triggers", "activate-noawait ldconfig\n")
+        return [pack(RUNTIME, "x86_64", runtime, depends(shared), to),
+                pack(DEVELOPMENT, "x86_64", top, f"{RUNTIME.name} (= {version()}-1)", to)]
 
 
 def plain_environment():

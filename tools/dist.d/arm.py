@@ -48,10 +48,10 @@ def listed_crates():
     return crates
 
 
-def libraries():
-    """The libraries below the program: those of this repository, and those of the kit that they name."""
+def libraries(crate="gixcfg"):
+    """The libraries below the program, or below another crate: those of this repository, and those of the kit that they name."""
     crates = listed_crates()
-    found, left = {}, list(crates["gixcfg"][1])
+    found, left = {}, list(crates[crate][1])
     while left:
         name = left.pop()
         if name not in found:

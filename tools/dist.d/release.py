@@ -1,9 +1,12 @@
 """What a release is called, and where its parts are."""
 import hashlib
+import importlib.machinery
+import importlib.util
 import os
 import re
 import shutil
 import subprocess
+import sys
 from pathlib import Path
 
 TOP = Path(__file__).resolve().parents[2]
@@ -24,6 +27,15 @@ def run(*words, **how):
     if ran.returncode:
         raise Lacking(f"{' '.join(map(str, words[:2]))} failed with {ran.returncode}: {(ran.stderr or ran.stdout)[-900:].strip()}")
     return ran.stdout
+
+
+def tool(name):
+    """A tool of this repository, for what it defines."""
+    sys.path.insert(0, str(TOP / "tools"))
+    loader = importlib.machinery.SourceFileLoader(name, str(TOP / "tools" / name))
+    module = importlib.util.module_from_spec(importlib.util.spec_from_loader(name, loader))
+    loader.exec_module(module)
+    return module
 
 
 def said_version():
@@ -103,3 +115,11 @@ def built_program():
     if newer is not None:
         raise Lacking(f"{PROGRAM.relative_to(TOP)} is older than {newer.relative_to(TOP)}: ./gixcfg --build makes it anew")
     return PROGRAM
+
+
+def built_library():
+    """The folder of the library for C as `make lib` left it, if it is newer than its sources."""
+    library = tool("c_library")
+    if not library.is_made():
+        raise Lacking(f"{library.MADE.relative_to(TOP)} has no library for C, or one that is older than its sources: `make lib` makes it")
+    return library.MADE

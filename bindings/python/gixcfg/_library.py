@@ -1,6 +1,5 @@
 """The calls of libgix_config, as include/gix_config.h has them."""
 import ctypes
-import ctypes.util
 import os
 from pathlib import Path
 
@@ -171,12 +170,13 @@ FREEING = {"file_close": Handle, "list_close": Handle, "told_close": Handle, "by
 
 
 def opened() -> ctypes.PyDLL:
-    """The library: that which GIXCFG_LIBRARY names, else the one beside this file, else the system's."""
+    """The library: that which GIXCFG_LIBRARY names, else the one beside this file, else the system's, which is found by its soname."""
     beside = Path(__file__).with_name(NAME)
-    name = os.environ.get("GIXCFG_LIBRARY") or (str(beside) if beside.exists() else ctypes.util.find_library("gix_config"))
-    if name is None:
-        raise ImportError(f"gixcfg: {NAME} is not installed")
-    library = ctypes.PyDLL(name)
+    name = os.environ.get("GIXCFG_LIBRARY") or (str(beside) if beside.exists() else NAME)
+    try:
+        library = ctypes.PyDLL(name)
+    except OSError as error:
+        raise ImportError(f"gixcfg: the library for C can't be loaded: {error}") from error
     for call, given in CALLS.items():
         function = getattr(library, f"gix_config_{call}")
         function.argtypes, function.restype = given, ctypes.c_uint32
