@@ -58,3 +58,51 @@ returns-in-Ok-clause-time g c = goes_on _ _ _ _ c.has.ensures.time c.rename.ensu
 
 pub returns-in-Err-rename-clause-time : goal.returns-in-Err-rename-clause-time
 returns-in-Err-rename-clause-time g c = goes_on _ _ _ _ c.has.ensures.time c.rename.ensures.time
+
+pub rename-requires-clause-apart : goal.rename-requires-clause-apart
+rename-requires-clause-apart g c = c.requires.names
+
+pub returns-in-Err-clause-ends : goal.returns-in-Err-clause-ends
+returns-in-Err-clause-ends g c = λ text down. (c.in-Err.ensures.cause, c.has.ensures.kept)
+
+pub returns-in-Err-clause-crash : goal.returns-in-Err-clause-crash
+returns-in-Err-clause-crash g c = λ text down. adds_nothing _ _ _ _ text c.has.ensures.kept
+
+pub returns-in-Err-clause-undone : goal.returns-in-Err-clause-undone
+returns-in-Err-clause-undone g c = tt
+
+pub returns-in-Err-clause-alone : goal.returns-in-Err-clause-alone
+returns-in-Err-clause-alone g c = λ other draft file. c.has.ensures.alone other
+
+pub returns-in-Err-clause-respect : goal.returns-in-Err-clause-respect
+returns-in-Err-clause-respect g c = λ other apart. c.has.ensures.respect other
+
+pub returns-in-Err-clause-time : goal.returns-in-Err-clause-time
+returns-in-Err-clause-time g c = c.has.ensures.time
+
+pub returns-in-Ok-clause-undone : goal.returns-in-Ok-clause-undone
+returns-in-Ok-clause-undone g c = tt
+
+pub returns-in-Err-rename-clause-undone : goal.returns-in-Err-rename-clause-undone
+returns-in-Err-rename-clause-undone g c = tt
+
+pub returns-in-Err-rename-clause-draft : goal.returns-in-Err-rename-clause-draft
+returns-in-Err-rename-clause-draft g c = c.in-Err-rename.ensures.moved.0
+
+pub returns-in-Ok-false-clause-ends : goal.returns-in-Ok-false-clause-ends
+returns-in-Ok-false-clause-ends g c = λ text down. (λ is. absurd (let same = c.in-Ok-false.ensures.same.1 is in cc (same, c.in-Ok-false.field-0-test)), c.has.ensures.kept)
+
+pub returns-in-Ok-false-clause-crash : goal.returns-in-Ok-false-clause-crash
+returns-in-Ok-false-clause-crash g c = λ text down. adds_nothing _ _ _ _ text c.has.ensures.kept
+
+pub returns-in-Ok-false-clause-undone : goal.returns-in-Ok-false-clause-undone
+returns-in-Ok-false-clause-undone g c = tt
+
+pub returns-in-Ok-false-clause-alone : goal.returns-in-Ok-false-clause-alone
+returns-in-Ok-false-clause-alone g c = λ other draft file. c.has.ensures.alone other
+
+pub returns-in-Ok-false-clause-respect : goal.returns-in-Ok-false-clause-respect
+returns-in-Ok-false-clause-respect g c = λ other apart. c.has.ensures.respect other
+
+pub returns-in-Ok-false-clause-time : goal.returns-in-Ok-false-clause-time
+returns-in-Ok-false-clause-time g c = c.has.ensures.time
