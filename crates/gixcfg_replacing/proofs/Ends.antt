@@ -2,7 +2,7 @@
 use Rattle.std.proofs.Common.{◌≡◌, ◌≢◌, ◌⊎◌, inl, inr, ⊎_elim, Bool, true, false, List, [], ◌∷◌, ◌++◌, Option, None, Some, Result, Ok, Err, OnOk, sym, ◌∙◌, ap}
 use Rattle.std.specs.declared.io.Error.{Error}
 use Rattle.gixcfg_replacing.specs.Disk.{Name, Text, Disk, last_found, seen, IsQuiet, KeepsName, IsLeftAlone, GoesOn, HasCause, Makes, IsMovedOver, IsDown}
-use Rattle.gixcfg_replacing.specs.Edit.{IsNext, IsTidied}
+use Rattle.gixcfg_replacing.specs.Edit.{IsNext}
 use Rattle.gixcfg_replacing.specs.Steps.{AddsOnly, LeavesDraft, SwapsAs, LocksAs}
 use Rattle.gixcfg_replacing.specs.declared.ended.Ended.{Ended}
 use Rattle.gixcfg_replacing.specs.declared.ended.Ended.TheVariants.{Done, Changed, Locked, Drafted, Failed, Unsure, Unsynced}
@@ -16,10 +16,6 @@ module _ {F : Type 0} (disk : Disk F) (a b : F) (name : Name) where
   pub was_taken : (made : Bool) → made ≡ false → Makes disk a b name (Ok made) → (IsQuiet disk a b name → seen disk a name ≢ None) × IsLeftAlone disk a b name
   was_taken true is makes = absurd (cc)
   was_taken false is makes = makes
-
-  -- what is left alone stays if it is somebody else's, and else is still none
-  pub still_theirs : IsLeftAlone disk a b name → IsTidied disk a b name None
-  still_theirs alone = record { theirs = λ quiet held. alone.kept quiet; own = λ told quiet free. seen_same disk a b name (alone.kept quiet) ∙ free; cause = tt }
 
 -- a file and its draft are as they were, and then the draft is moved
 module _ {F : Type 0} (disk : Disk F) (a b c : F) (file draft : Name) (before : Option Text) (text : Text) (had : seen disk a file ≡ before) (down : IsDown disk a draft text) (draft_ab : KeepsName disk a b draft) (file_ab : KeepsName disk a b file) where

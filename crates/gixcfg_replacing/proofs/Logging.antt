@@ -262,9 +262,6 @@ module _ {C : Type 0} (told : C → Option (List Change)) (a l n k : LoggedFolde
         it : is_same also.items other ≡ false
         it = is_other also name other also_is apart
 
-    pub makes_respect : (other : Name) → IsRespected (logged_disk told) a k other
-    makes_respect other = respected_on (logged_disk told) a n k other (an.alone other) (an.respect other) (respect_so told n k (Made also) is (λ older m. refl) other)
-
     pub makes_time : GoesOn (logged_disk told) a k
     makes_time = goes_on (logged_disk told) a n k an.time time_nk
 
@@ -280,11 +277,6 @@ not_told None result name not = refl
 not_told (Some before) (Ok true) name not = absurd (not refl)
 not_told (Some before) (Ok false) name not = refl
 not_told (Some before) (Err error) name not = refl
-
--- what a folder was asked (b to m) that was the same before (a)
-pub asked_so : {C : Type 0} (told : C → Option (List Change)) {a b m : C} (result : Result Bool Error) (name : Name)
-    → told m ≡ told_making (told b) result name → b ≡ a → result ≡ Ok true → told m ≡ told_making (told a) (Ok true) name
-asked_so told {a} {b} {m} result name asked same is = asked ∙ ap (λ x. told_making (told b) x name) is ∙ ap (λ x. told_making (told x) (Ok true) name) same
 
 -- a file was made (m), others looked at (l, n), and then that is kept (k)
 module _ {C : Type 0} (told : C → Option (List Change)) (a m l n k : LoggedFolder C) (name : Name) (at also : Vec ℕ Global) (at_is : at.items ≡ name) (also_is : also.items ≡ name) (am : calls_of m ≡ calls_of a)
@@ -309,15 +301,8 @@ module _ {C : Type 0} (told : C → Option (List Change)) (a m l n k : LoggedFol
   pub makes_kept_alone : (other : Name) → other ≢ name → IsLeftAlone (logged_disk told) a k other
   makes_kept_alone = makes_alone told a (before_make l) (before_make n) k name at also at_is also_is al (over told l n a.folder ln) gone is made
 
-  pub makes_kept_respect : (other : Name) → IsRespected (logged_disk told) a k other
-  makes_kept_respect = makes_respect told a (before_make l) (before_make n) k name at also at_is also_is al (over told l n a.folder ln) gone is made
-
   pub makes_kept_time : GoesOn (logged_disk told) a k
   makes_kept_time = makes_time told a (before_make l) (before_make n) k name at also at_is also_is al (over told l n a.folder ln) gone is made
-
--- nothing was kept, and the folder is the same
-pub same_does : {C : Type 0} (told : C → Option (List Change)) {a b : LoggedFolder C} → calls_of b ≡ calls_of a → b.folder ≡ a.folder → IsOthersDoing told a b
-same_does told calls folder = none_does told _ _ calls (ap told folder)
 
 -- what others did after a moment (a) since which no call was kept (b)
 pub after_same : {C : Type 0} (told : C → Option (List Change)) {a b c : LoggedFolder C} → IsOthersDoing told b c → calls_of b ≡ calls_of a → told b.folder ≡ told a.folder → IsOthersDoing told a c

@@ -32,15 +32,3 @@ returns-clause-alone g c = λ other apart.
 
 pub returns-clause-time : goal.returns-clause-time
 returns-clause-time g c = goes_on _ _ _ _ (goes_on _ _ _ _ c.share_rights.ensures.time c.write.ensures.time) c.sync.ensures.time
-
-pub returns-in_err-share_rights-clause-alone : goal.returns-in_err-share_rights-clause-alone
-returns-in_err-share_rights-clause-alone g c = λ other apart. c.share_rights.ensures.alone other
-
-pub returns-in_err-share_rights-clause-time : goal.returns-in_err-share_rights-clause-time
-returns-in_err-share_rights-clause-time g c = c.share_rights.ensures.time
-
-pub returns-in_err-write-clause-ours : goal.returns-in_err-write-clause-ours
-returns-in_err-write-clause-ours g c = c.write.ensures.ours
-
-pub returns-clause-ours : goal.returns-clause-ours
-returns-clause-ours g c = c.sync.ensures.ours

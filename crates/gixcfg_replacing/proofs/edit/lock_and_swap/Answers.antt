@@ -1,5 +1,5 @@
-use Rattle.std.proofs.Common.{◌≢◌, ◌∙◌, subst, sym}
-use Rattle.gixcfg_replacing.proofs.Ends.{was_free, was_taken, still_theirs, locks, locked_adds, is_next, leaves_draft}
+use Rattle.std.proofs.Common.{◌≢◌, sym}
+use Rattle.gixcfg_replacing.proofs.Ends.{was_free, was_taken, locks, locked_adds, is_next, leaves_draft}
 use Rattle.gixcfg_replacing.proofs.Runs.{alone_on, goes_on, ours_keeps, still_down, adds_nothing}
 use Rattle.gixcfg_replacing.proofs.edit.lock_and_swap.Goals as goal
 
@@ -71,49 +71,3 @@ returns-in-Ok-true-clause-alone g c = λ other file draft lock.
 
 pub returns-in-Ok-true-clause-time : goal.returns-in-Ok-true-clause-time
 returns-in-Ok-true-clause-time g c = goes_on _ _ _ _ (goes_on _ _ _ _ c.make.ensures.time c.swap-swapped.ensures.time) c.remove.ensures.time
-
-pub swap-swapped-requires-clause-names : goal.swap-swapped-requires-clause-names
-swap-swapped-requires-clause-names g c = c.requires.names.drafted
-
-pub swap-swapped-requires-clause-apart : goal.swap-swapped-requires-clause-apart
-swap-swapped-requires-clause-apart g c = λ is. c.requires.names.apart (c.requires.names.of_file ∙ is)
-
-pub swap-swapped-requires-clause-locked : goal.swap-swapped-requires-clause-locked
-swap-swapped-requires-clause-locked g c =
-    let made = was_free g.F.Folder.disk c.args.folder.now c.make.new.self c.args.lock.now c.in-Ok-true.field-0 c.in-Ok-true.field-0-test c.in-Ok-true.ensures.made in
-    subst (λ name. g.F.Folder.disk.ours c.make.new.self name) c.requires.names.of_file made.2
-
-pub returns-in-Err-clause-next : goal.returns-in-Err-clause-next
-returns-in-Err-clause-next g c = λ text down. tt
-
-pub returns-in-Err-clause-undone : goal.returns-in-Err-clause-undone
-returns-in-Err-clause-undone g c = tt
-
-pub returns-in-Err-clause-locked : goal.returns-in-Err-clause-locked
-returns-in-Err-clause-locked g c = still_theirs g.F.Folder.disk c.args.folder.now c.make.new.self c.args.lock.now c.in-Err.ensures.made
-
-pub returns-in-Err-clause-alone : goal.returns-in-Err-clause-alone
-returns-in-Err-clause-alone g c = λ other file draft lock. c.make.ensures.alone other lock
-
-pub returns-in-Err-clause-time : goal.returns-in-Err-clause-time
-returns-in-Err-clause-time g c = c.make.ensures.time
-
-pub returns-in-Ok-false-clause-next : goal.returns-in-Ok-false-clause-next
-returns-in-Ok-false-clause-next g c = λ text down. tt
-
-pub returns-in-Ok-false-clause-undone : goal.returns-in-Ok-false-clause-undone
-returns-in-Ok-false-clause-undone g c = tt
-
-pub returns-in-Ok-false-clause-locked : goal.returns-in-Ok-false-clause-locked
-returns-in-Ok-false-clause-locked g c =
-    let taken = was_taken g.F.Folder.disk c.args.folder.now c.make.new.self c.args.lock.now c.in-Ok-false.field-0 c.in-Ok-false.field-0-test c.in-Ok-false.ensures.made in
-    still_theirs g.F.Folder.disk c.args.folder.now c.make.new.self c.args.lock.now taken.1
-
-pub returns-in-Ok-false-clause-alone : goal.returns-in-Ok-false-clause-alone
-returns-in-Ok-false-clause-alone g c = λ other file draft lock. c.make.ensures.alone other lock
-
-pub returns-in-Ok-false-clause-time : goal.returns-in-Ok-false-clause-time
-returns-in-Ok-false-clause-time g c = c.make.ensures.time
-
-pub returns-in-Ok-true-clause-undone : goal.returns-in-Ok-true-clause-undone
-returns-in-Ok-true-clause-undone g c = c.swap-swapped.ensures.undone

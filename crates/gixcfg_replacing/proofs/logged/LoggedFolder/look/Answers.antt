@@ -1,5 +1,5 @@
-use Rattle.std.proofs.Common.{◌∙◌, ap, refl}
-use Rattle.gixcfg_replacing.proofs.Logging.{fault_does, found_does, same_does, none_does}
+use Rattle.std.proofs.Common.{◌∙◌, ap}
+use Rattle.gixcfg_replacing.proofs.Logging.{fault_does, found_does}
 use Rattle.gixcfg_replacing.proofs.logged.LoggedFolder.look.Goals as goal
 
 pub returns-then-ne-clause-others : goal.returns-then-ne-clause-others
@@ -14,9 +14,3 @@ returns-in-Err-clause-others g c = fault_does g.C.FolderCalls.told _ _ c.failed.
 
 pub returns-in-Err-clause-room : goal.returns-in-Err-clause-room
 returns-in-Err-clause-room g c = c.failed.ensures.room 2 c.requires.room
-
-pub returns-in_err-at-clause-others : goal.returns-in_err-at-clause-others
-returns-in_err-at-clause-others g c = same_does g.C.FolderCalls.told refl refl
-
-pub returns-else-ne-clause-others : goal.returns-else-ne-clause-others
-returns-else-ne-clause-others g c = none_does g.C.FolderCalls.told _ _ refl c.read.ensures

@@ -1,5 +1,5 @@
 use Rattle.std.proofs.Common.{refl, ap, None, Some}
-use Rattle.gixcfg_replacing.proofs.Logging.{found_does, same_does}
+use Rattle.gixcfg_replacing.proofs.Logging.{found_does}
 use Rattle.gixcfg_replacing.proofs.logged.LoggedFolder.note.Goals as goal
 
 pub returns-then-not-was_there-clause-others : goal.returns-then-not-was_there-clause-others
@@ -13,6 +13,3 @@ returns-then-not-is_there-clause-others g c = found_does g.C.FolderCalls.told _ 
 
 pub returns-then-not-is_there-clause-room : goal.returns-then-not-is_there-clause-room
 returns-then-not-is_there-clause-room g c = c.keep-then-not-is_there.ensures.room 1 c.requires.room
-
-pub returns-else-was_there-clause-others : goal.returns-else-was_there-clause-others
-returns-else-was_there-clause-others g c = same_does g.C.FolderCalls.told refl refl

@@ -1,6 +1,6 @@
 use Rattle.std.proofs.Common.{◌∙◌, ◌∷◌, ap, refl}
 use Rattle.gixcfg_replacing.specs.declared.call.Call.TheVariants.{Fault}
-use Rattle.gixcfg_replacing.proofs.Logging.{after_same, fault_does, same_does}
+use Rattle.gixcfg_replacing.proofs.Logging.{after_same, fault_does}
 use Rattle.gixcfg_replacing.proofs.logged.LoggedFolder.refresh.Goals as goal
 
 pub returns-in-Some-clause-others : goal.returns-in-Some-clause-others
@@ -8,12 +8,3 @@ returns-in-Some-clause-others g c = fault_does g.C.FolderCalls.told _ _ (c.faile
 
 pub returns-then-branch-clause-others : goal.returns-then-branch-clause-others
 returns-then-branch-clause-others g c = after_same g.C.FolderCalls.told {a = c.args.self.now} c.look.ensures.others c.in_ok-reserve.ensures.items refl
-
-pub returns-in_err-reserve-clause-others : goal.returns-in_err-reserve-clause-others
-returns-in_err-reserve-clause-others g c = same_does g.C.FolderCalls.told c.in_err-reserve.ensures.items refl
-
-pub returns-in_err-is_free-clause-others : goal.returns-in_err-is_free-clause-others
-returns-in_err-is_free-clause-others g c = same_does g.C.FolderCalls.told c.in_ok-reserve.ensures.items refl
-
-pub returns-clause-others : goal.returns-clause-others
-returns-clause-others g c = same_does g.C.FolderCalls.told c.in_ok-reserve.ensures.items refl

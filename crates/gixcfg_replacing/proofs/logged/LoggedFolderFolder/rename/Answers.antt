@@ -2,7 +2,7 @@ use Rattle.std.proofs.Common.{subst, refl, sym, ap, ◌∙◌}
 use Rattle.gixcfg_replacing.specs.Changes.{Renaming}
 use Rattle.gixcfg_replacing.specs.Logged.{calls_of, Does}
 use Rattle.gixcfg_replacing.specs.declared.call.Call.TheVariants.{Renamed}
-use Rattle.gixcfg_replacing.proofs.Logging.{does_respect, passed_on, does_time, does_cause, does_move, does_crash, does_rename_alone, same_does}
+use Rattle.gixcfg_replacing.proofs.Logging.{does_respect, passed_on, does_time, does_cause, does_move, does_crash, does_rename_alone}
 use Rattle.gixcfg_replacing.proofs.logged.LoggedFolderFolder.rename.Goals as goal
 
 pub returns-clause-moved : goal.returns-clause-moved
@@ -35,21 +35,3 @@ pub returns-clause-cause : goal.returns-clause-cause
 returns-clause-cause g c =
     let did = subst (λ older. Does (Renamed c.in_ok-old_name.old_name c.in_ok-new_name.new_name) older (calls_of c.done.new.self) c.done.result) c.in_ok-new_name.ensures.calls c.done.ensures.calls in
     does_cause g.C.FolderCalls.told c.args.self.now c.done.new.self (Renamed c.in_ok-old_name.old_name c.in_ok-new_name.new_name) c.done.result did
-
-pub returns-in_err-old_name-clause-alone : goal.returns-in_err-old_name-clause-alone
-returns-in_err-old_name-clause-alone g c = λ other not_from not_to. (same_does g.C.FolderCalls.told {a = c.args.self.now} {b = c.args.self.now} refl refl).alone other
-
-pub returns-in_err-old_name-clause-respect : goal.returns-in_err-old_name-clause-respect
-returns-in_err-old_name-clause-respect g c = λ other apart. (same_does g.C.FolderCalls.told {a = c.args.self.now} {b = c.args.self.now} refl refl).respect other
-
-pub returns-in_err-old_name-clause-time : goal.returns-in_err-old_name-clause-time
-returns-in_err-old_name-clause-time g c = (same_does g.C.FolderCalls.told {a = c.args.self.now} {b = c.args.self.now} refl refl).time
-
-pub returns-in_err-new_name-clause-alone : goal.returns-in_err-new_name-clause-alone
-returns-in_err-new_name-clause-alone g c = λ other not_from not_to. (same_does g.C.FolderCalls.told {a = c.args.self.now} {b = c.ready.new.self} c.in_err-new_name.ensures.calls c.in_err-new_name.ensures.folder).alone other
-
-pub returns-in_err-new_name-clause-respect : goal.returns-in_err-new_name-clause-respect
-returns-in_err-new_name-clause-respect g c = λ other apart. (same_does g.C.FolderCalls.told {a = c.args.self.now} {b = c.ready.new.self} c.in_err-new_name.ensures.calls c.in_err-new_name.ensures.folder).respect other
-
-pub returns-in_err-new_name-clause-time : goal.returns-in_err-new_name-clause-time
-returns-in_err-new_name-clause-time g c = (same_does g.C.FolderCalls.told {a = c.args.self.now} {b = c.ready.new.self} c.in_err-new_name.ensures.calls c.in_err-new_name.ensures.folder).time

@@ -3,7 +3,7 @@ use Rattle.gixcfg_replacing.specs.Changes.{Sharing}
 use Rattle.gixcfg_replacing.specs.Logged.{calls_of, Does}
 use Rattle.gixcfg_replacing.specs.declared.call.Call.TheVariants.{Shared}
 use Rattle.gixcfg_replacing.proofs.Untouched.{shared_all}
-use Rattle.gixcfg_replacing.proofs.Logging.{does_alone, does_respect, passed_on, does_time, does_cause, same_does}
+use Rattle.gixcfg_replacing.proofs.Logging.{does_alone, does_respect, passed_on, does_time, does_cause}
 use Rattle.gixcfg_replacing.proofs.logged.LoggedFolderFolder.share_rights.Goals as goal
 
 pub returns-clause-alone : goal.returns-clause-alone
@@ -26,21 +26,3 @@ pub returns-clause-cause : goal.returns-clause-cause
 returns-clause-cause g c =
     let did = subst (λ older. Does (Shared c.in_ok-source.source c.in_ok-target.target) older (calls_of c.done.new.self) c.done.result) c.in_ok-target.ensures.calls c.done.ensures.calls in
     does_cause g.C.FolderCalls.told c.args.self.now c.done.new.self (Shared c.in_ok-source.source c.in_ok-target.target) c.done.result did
-
-pub returns-in_err-source-clause-alone : goal.returns-in_err-source-clause-alone
-returns-in_err-source-clause-alone g c = λ other. (same_does g.C.FolderCalls.told {a = c.args.self.now} {b = c.args.self.now} refl refl).alone other
-
-pub returns-in_err-source-clause-respect : goal.returns-in_err-source-clause-respect
-returns-in_err-source-clause-respect g c = λ other. (same_does g.C.FolderCalls.told {a = c.args.self.now} {b = c.args.self.now} refl refl).respect other
-
-pub returns-in_err-source-clause-time : goal.returns-in_err-source-clause-time
-returns-in_err-source-clause-time g c = (same_does g.C.FolderCalls.told {a = c.args.self.now} {b = c.args.self.now} refl refl).time
-
-pub returns-in_err-target-clause-alone : goal.returns-in_err-target-clause-alone
-returns-in_err-target-clause-alone g c = λ other. (same_does g.C.FolderCalls.told {a = c.args.self.now} {b = c.ready.new.self} c.in_err-target.ensures.calls c.in_err-target.ensures.folder).alone other
-
-pub returns-in_err-target-clause-respect : goal.returns-in_err-target-clause-respect
-returns-in_err-target-clause-respect g c = λ other. (same_does g.C.FolderCalls.told {a = c.args.self.now} {b = c.ready.new.self} c.in_err-target.ensures.calls c.in_err-target.ensures.folder).respect other
-
-pub returns-in_err-target-clause-time : goal.returns-in_err-target-clause-time
-returns-in_err-target-clause-time g c = (same_does g.C.FolderCalls.told {a = c.args.self.now} {b = c.ready.new.self} c.in_err-target.ensures.calls c.in_err-target.ensures.folder).time

@@ -3,7 +3,7 @@ use Rattle.gixcfg_replacing.specs.Changes.{Syncing}
 use Rattle.gixcfg_replacing.specs.Logged.{calls_of, Does}
 use Rattle.gixcfg_replacing.specs.declared.call.Call.TheVariants.{Synced}
 use Rattle.gixcfg_replacing.proofs.Untouched.{is_other, synced_else}
-use Rattle.gixcfg_replacing.proofs.Logging.{does_alone, does_respect, passed_on, does_time, does_cause, same_does}
+use Rattle.gixcfg_replacing.proofs.Logging.{does_alone, does_respect, passed_on, does_time, does_cause}
 use Rattle.gixcfg_replacing.proofs.logged.LoggedFolderFolder.sync.Goals as goal
 
 pub returns-clause-alone : goal.returns-clause-alone
@@ -27,15 +27,3 @@ pub returns-clause-cause : goal.returns-clause-cause
 returns-clause-cause g c =
     let did = subst (λ older. Does (Synced c.in_ok-at.at) older (calls_of c.done.new.self) c.done.result) c.in_ok-at.ensures.calls c.done.ensures.calls in
     does_cause g.C.FolderCalls.told c.args.self.now c.done.new.self (Synced c.in_ok-at.at) c.done.result did
-
-pub returns-in_err-at-clause-alone : goal.returns-in_err-at-clause-alone
-returns-in_err-at-clause-alone g c = λ other apart. (same_does g.C.FolderCalls.told {a = c.args.self.now} {b = c.ready.new.self} c.in_err-at.ensures.calls c.in_err-at.ensures.folder).alone other
-
-pub returns-in_err-at-clause-respect : goal.returns-in_err-at-clause-respect
-returns-in_err-at-clause-respect g c = λ other. (same_does g.C.FolderCalls.told {a = c.args.self.now} {b = c.ready.new.self} c.in_err-at.ensures.calls c.in_err-at.ensures.folder).respect other
-
-pub returns-in_err-at-clause-time : goal.returns-in_err-at-clause-time
-returns-in_err-at-clause-time g c = (same_does g.C.FolderCalls.told {a = c.args.self.now} {b = c.ready.new.self} c.in_err-at.ensures.calls c.in_err-at.ensures.folder).time
-
-pub returns-in_err-at-clause-ours : goal.returns-in_err-at-clause-ours
-returns-in_err-at-clause-ours g c = (same_does g.C.FolderCalls.told {a = c.args.self.now} {b = c.ready.new.self} c.in_err-at.ensures.calls c.in_err-at.ensures.folder).owned _ ∙ c.requires

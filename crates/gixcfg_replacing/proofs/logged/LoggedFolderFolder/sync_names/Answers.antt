@@ -3,7 +3,7 @@ use Rattle.gixcfg_replacing.specs.Changes.{SyncingNames}
 use Rattle.gixcfg_replacing.specs.Logged.{calls_of, Does}
 use Rattle.gixcfg_replacing.specs.declared.call.Call.TheVariants.{Settled}
 use Rattle.gixcfg_replacing.proofs.Untouched.{settled_all}
-use Rattle.gixcfg_replacing.proofs.Logging.{does_alone, does_respect, passed_on, does_time, does_cause, same_does}
+use Rattle.gixcfg_replacing.proofs.Logging.{does_alone, does_respect, passed_on, does_time, does_cause}
 use Rattle.gixcfg_replacing.proofs.logged.LoggedFolderFolder.sync_names.Goals as goal
 
 pub returns-clause-alone : goal.returns-clause-alone
@@ -26,12 +26,3 @@ pub returns-clause-cause : goal.returns-clause-cause
 returns-clause-cause g c =
     let did = subst (λ older. Does Settled older (calls_of c.done.new.self) c.done.result) c.in_ok-reserve.ensures.items c.done.ensures.calls in
     does_cause g.C.FolderCalls.told c.args.self.now c.done.new.self Settled c.done.result did
-
-pub returns-in_err-reserve-clause-alone : goal.returns-in_err-reserve-clause-alone
-returns-in_err-reserve-clause-alone g c = λ other. (same_does g.C.FolderCalls.told {a = c.args.self.now} {b = record c.args.self.now { calls = c.reserve.new.self }} c.in_err-reserve.ensures.items refl).alone other
-
-pub returns-in_err-reserve-clause-respect : goal.returns-in_err-reserve-clause-respect
-returns-in_err-reserve-clause-respect g c = λ other. (same_does g.C.FolderCalls.told {a = c.args.self.now} {b = record c.args.self.now { calls = c.reserve.new.self }} c.in_err-reserve.ensures.items refl).respect other
-
-pub returns-in_err-reserve-clause-time : goal.returns-in_err-reserve-clause-time
-returns-in_err-reserve-clause-time g c = (same_does g.C.FolderCalls.told {a = c.args.self.now} {b = record c.args.self.now { calls = c.reserve.new.self }} c.in_err-reserve.ensures.items refl).time
