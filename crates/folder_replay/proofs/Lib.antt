@@ -1,0 +1,2 @@
+mod InMemory
+mod MemoryCalls

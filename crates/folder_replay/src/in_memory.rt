@@ -1,7 +1,8 @@
 //! The folder in memory, by the calls that the one on the disk has.
 ghost use Rattle.std.specs.Prelude.{None};
 
-use gixcfg_replacing::{Folder, FolderCalls, Memory};
+use crate::memory::Memory;
+use gixcfg_replacing::{Folder, FolderCalls};
 use std::io;
 use std::io::ErrorKind;
 

@@ -5,7 +5,10 @@
 #![tactic(auto)]
 
 mod call;
+mod crash;
 mod in_memory;
+mod memory;
+mod memory_folder;
 mod replay;
 
 use replay::replay;
@@ -19,3 +22,6 @@ fn main(rt: HostRuntime) -> ExitCode {
         Err(_) => 1,
     })
 }
+
+#[cfg(test)]
+mod tests;

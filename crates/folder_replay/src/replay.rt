@@ -2,8 +2,9 @@
 
 use crate::call::{Call, DRAFT, FILE, LOCK, call_of};
 use crate::in_memory::InMemory;
+use crate::memory::Memory;
 use gixcfg_files::DiskFolder;
-use gixcfg_replacing::{FolderCalls, Memory};
+use gixcfg_replacing::FolderCalls;
 use std::alloc::{AllocGlobal, Global};
 use std::io;
 use std::io::{ErrorKind, Read, Write};

@@ -1,6 +1,5 @@
 mod Ends
-mod InMemory
 mod Logging
-mod MemoryCalls
 mod Runs
+pub mod Untouched
 mod Whole

@@ -10,7 +10,7 @@ use Rattle.gixcfg_replacing.specs.declared.call.Call.{Call}
 use Rattle.gixcfg_replacing.specs.declared.call.Call.TheVariants.{Made, Shared, Written, Synced, Renamed, Removed, Settled, Found, Fault}
 use Rattle.gixcfg_replacing.specs.declared.logged.LoggedFolder.{LoggedFolder}
 use Rattle.gixcfg_replacing.proofs.Runs.{told_none, goes_on, alone_on, respected_on, quiet_first, quiet_next}
-use Rattle.gixcfg_replacing.proofs.InMemory.{Untouched, is_other, is_it, holds_so, made_else, renamed_else, grows}
+use Rattle.gixcfg_replacing.proofs.Untouched.{Untouched, is_other, is_it, holds_so, made_else, renamed_else, grows}
 
 module _ (older : List Call) (n : Name) where
   pub found_else : (at : Vec ℕ Global) (found : Option (Vec ℕ Global)) → is_same at.items n ≡ false → Untouched (Found at found) older n

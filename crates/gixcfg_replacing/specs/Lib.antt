@@ -3,5 +3,4 @@ pub mod Changes
 pub mod Disk
 pub mod Edit
 pub mod Logged
-pub mod Memory
 pub mod Steps

@@ -1,7 +1,7 @@
 //! The calls that were made on a folder, the last one first, and what they come to.
 ghost use Rattle.std.specs.Prelude.{◌≡◌, Option, option_map};
 ghost use Rattle.gixcfg_replacing.specs.Disk.{last_found};
-ghost use Rattle.gixcfg_replacing.specs.Calls.{past, is_synced as is_synced_lem, is_ours as is_ours_lem};
+ghost use Rattle.gixcfg_replacing.specs.Calls.{past, is_ours as is_ours_lem};
 
 /// A call that changed a folder.
 #[derive(Drop)]
@@ -66,46 +66,6 @@ pub fn seen<'a>(calls: &'a [Call], name: &'a [u8]) -> Option<&'a [u8]>
         rest = older;
     }
     None
-}
-
-/// Whether the text of the file at a name is written down after these calls.
-pub fn is_synced(calls: &[Call], name: &[u8]) -> bool
-    ensures { result ≡ is_synced_lem calls.now name.now }
-{
-    let mut rest = calls;
-    let mut at = name;
-    while let Some((call, older)) = rest.split_first() {
-        match call {
-            Call::Made(made) => {
-                if made.as_slice() == at {
-                    return false;
-                }
-            }
-            Call::Written(written, _) => {
-                if written.as_slice() == at {
-                    return false;
-                }
-            }
-            Call::Synced(synced) => {
-                if synced.as_slice() == at {
-                    return true;
-                }
-            }
-            Call::Renamed(from, to) => {
-                if to.as_slice() == at {
-                    at = from.as_slice();
-                }
-            }
-            Call::Found(found, _) => {
-                if found.as_slice() == at {
-                    return false;
-                }
-            }
-            Call::Shared(_, _) | Call::Removed(_) | Call::Settled | Call::Fault => {}
-        }
-        rest = older;
-    }
-    false
 }
 
 /// Whether a name is ours after these calls: a file was made there, and not removed or renamed since.

@@ -2,7 +2,7 @@ use Rattle.std.proofs.Common.{subst, refl, sym, ap, ◌∙◌}
 use Rattle.gixcfg_replacing.specs.Changes.{Removing}
 use Rattle.gixcfg_replacing.specs.Logged.{calls_of, Does}
 use Rattle.gixcfg_replacing.specs.declared.call.Call.TheVariants.{Removed}
-use Rattle.gixcfg_replacing.proofs.InMemory.{is_other, removed_else}
+use Rattle.gixcfg_replacing.proofs.Untouched.{is_other, removed_else}
 use Rattle.gixcfg_replacing.proofs.Logging.{does_alone, does_respect, passed_on, does_time, does_cause}
 use Rattle.gixcfg_replacing.proofs.logged.LoggedFolderFolder.remove.Goals as goal
 

@@ -2,7 +2,7 @@ use Rattle.std.proofs.Common.{subst, refl}
 use Rattle.gixcfg_replacing.specs.Changes.{SyncingNames}
 use Rattle.gixcfg_replacing.specs.Logged.{calls_of, Does}
 use Rattle.gixcfg_replacing.specs.declared.call.Call.TheVariants.{Settled}
-use Rattle.gixcfg_replacing.proofs.InMemory.{settled_all}
+use Rattle.gixcfg_replacing.proofs.Untouched.{settled_all}
 use Rattle.gixcfg_replacing.proofs.Logging.{does_alone, does_respect, passed_on, does_time, does_cause}
 use Rattle.gixcfg_replacing.proofs.logged.LoggedFolderFolder.sync_names.Goals as goal
 

@@ -1,0 +1,8 @@
+use Rattle.folder_replay.proofs.MemoryCalls.{settle_alone, settle_goes}
+use Rattle.folder_replay.proofs.memory_folder.MemoryFolder.sync_names.Goals as goal
+
+pub returns-clause-alone : goal.returns-clause-alone
+returns-clause-alone c = settle_alone c.args.self.now c.settle.new.self c.settle.result c.settle.ensures.settled
+
+pub returns-clause-time : goal.returns-clause-time
+returns-clause-time c = settle_goes c.args.self.now c.settle.new.self c.settle.result c.settle.ensures.settled c.settle.ensures.counts.later

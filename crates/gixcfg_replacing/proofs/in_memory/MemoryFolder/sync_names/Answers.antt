@@ -1,8 +1,0 @@
-use Rattle.gixcfg_replacing.proofs.MemoryCalls.{settle_alone, settle_goes}
-use Rattle.gixcfg_replacing.proofs.in_memory.MemoryFolder.sync_names.Goals as goal
-
-pub returns-clause-alone : goal.returns-clause-alone
-returns-clause-alone c = settle_alone c.args.self.now c.settle.new.self c.settle.result c.settle.ensures.settled
-
-pub returns-clause-time : goal.returns-clause-time
-returns-clause-time c = settle_goes c.args.self.now c.settle.new.self c.settle.result c.settle.ensures.settled c.settle.ensures.counts.later

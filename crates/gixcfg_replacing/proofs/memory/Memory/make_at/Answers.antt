@@ -1,5 +1,0 @@
-use Rattle.std.proofs.Common.{rules}
-use Rattle.gixcfg_replacing.proofs.memory.Memory.make_at.Goals as goal
-
-pub returns-clause-made : goal.returns-clause-made
-returns-clause-made c = (search rules, (c.in_ok-at.at, search rules, search rules))

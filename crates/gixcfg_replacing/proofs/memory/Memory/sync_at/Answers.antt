@@ -1,5 +1,0 @@
-use Rattle.std.proofs.Common.{rules}
-use Rattle.gixcfg_replacing.proofs.memory.Memory.sync_at.Goals as goal
-
-pub returns-clause-synced : goal.returns-clause-synced
-returns-clause-synced c = (c.in_ok-at.at, search rules, search rules)
