@@ -1,9 +1,9 @@
 -- What a call in a log leaves as it was.
-use Rattle.std.proofs.Common.{◌≡◌, ◌≢◌, inl, inr, ⊎_elim, ℕ, ◌≤◌, ◌+◌, Bool, true, false, List, [], ◌∷◌, ◌++◌, length, Option, None, Some, Result, Ok, Err, Vec, refl, sym, ◌∙◌, ap, subst, arith, if◌then◌else◌, option_map, IfErr}
+use Rattle.std.proofs.Common.{◌≡◌, ◌≢◌, inl, inr, ⊎_elim, ℕ, ◌≤◌, ◌+◌, Bool, true, false, List, [], ◌∷◌, length, Option, None, Some, Result, Ok, Err, Vec, refl, sym, ◌∙◌, ap, subst, arith, if◌then◌else◌, IfErr}
 use Rattle.std.specs.declared.alloc.Global.{Global}
 use Rattle.std.specs.declared.io.Error.{Error}
 use Rattle.gixcfg_replacing.specs.Changes.{Change, told_since, told_after, told_making, Making}
-use Rattle.gixcfg_replacing.specs.Disk.{Name, Text, Disk, last_found, lock_of, IsQuiet, KeepsName, IsLeftAlone, IsRespected, GoesOn, HasCause, Makes, Moves, IsOldOrMoved}
+use Rattle.gixcfg_replacing.specs.Disk.{Name, last_found, lock_of, IsQuiet, KeepsName, IsLeftAlone, IsRespected, GoesOn, HasCause, Makes, Moves, IsOldOrMoved}
 use Rattle.gixcfg_replacing.specs.Calls.{is_same, past, is_synced, may_hold, may_leave, left_since, counts_now, is_ours, others_at, faults_in, change_of, changes_in}
 use Rattle.gixcfg_replacing.specs.Logged.{calls_of, logged_disk, IsFree, IsOthersDoing, Does}
 use Rattle.gixcfg_replacing.specs.declared.call.Call.{Call}

@@ -1,15 +1,12 @@
 -- A folder of which nothing is known, as the log of the calls on it has it: what differs from the log was done by others.
-use Rattle.std.specs.Prelude.{◌≡◌, ◌≢◌, ◌⊎◌, ℕ, ◌+◌, ◌≤◌, Bool, true, false, List, [], ◌∷◌, length, Option, None, Some, option_map, Result, Ok, Err, Vec, if◌then◌else◌}
-use Rattle.std.specs.IoError.{error_kind}
+use Rattle.std.specs.Prelude.{◌≡◌, ℕ, ◌+◌, ◌≤◌, true, false, List, ◌∷◌, length, Option, Result, Ok, Err}
 use Rattle.std.specs.Vec.{vec_len, vec_capacity}
-use Rattle.std.specs.declared.alloc.Global.{Global}
 use Rattle.std.specs.declared.io.Error.{Error}
-use Rattle.std.specs.declared.io.ErrorKind.TheVariants.{OutOfMemory}
 use Rattle.gixcfg_replacing.specs.Changes.{Change}
-use Rattle.gixcfg_replacing.specs.Disk.{Name, Text, Disk, last_found, lock_of, IsLeftAlone, IsRespected, GoesOn}
+use Rattle.gixcfg_replacing.specs.Disk.{Name, Disk, lock_of, IsLeftAlone, IsRespected, GoesOn}
 use Rattle.gixcfg_replacing.specs.Calls.{past, may_hold, may_leave, left_since, is_ours, others_at, faults_in, changes_in}
 use Rattle.gixcfg_replacing.specs.declared.call.Call.{Call}
-use Rattle.gixcfg_replacing.specs.declared.call.Call.TheVariants.{Made, Written, Synced, Renamed, Removed, Settled, Found, Fault}
+use Rattle.gixcfg_replacing.specs.declared.call.Call.TheVariants.{Fault}
 use Rattle.gixcfg_replacing.specs.declared.logged.LoggedFolder.{LoggedFolder}
 
 abbrev pub calls_of : {C : Type 0} → LoggedFolder C → List Call
