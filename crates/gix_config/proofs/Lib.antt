@@ -1,14 +1,8 @@
 pub mod Integers
 pub mod Conversions
-pub mod Puts
 pub mod Numbers
 pub mod Entries
-pub mod CleanLoads
 pub mod Repositories
-pub mod OneConfiguration
 pub mod ValueEditors
 pub mod MultiValueEditors
 pub mod Standing
-pub mod NewEditors
-pub mod SameLookups
-pub mod Headline

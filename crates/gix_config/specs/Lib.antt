@@ -12,4 +12,3 @@ pub mod AloneEditors
 pub mod Environment
 pub mod Repository
 pub mod Renamed
-pub mod Headline

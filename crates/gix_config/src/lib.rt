@@ -6,7 +6,6 @@ pub mod file;
 pub mod format;
 pub mod glob;
 pub mod host;
-pub mod laws;
 pub mod lookup;
 pub mod parse;
 pub mod refusals;

@@ -1,4 +1,7 @@
-//! What holds of editors and of loaded files, for all of them: each law is a function that does nothing.
+//! What holds of editors, of loaded files, and of files after any calls: each law is a function that does nothing. Nothing links this crate;
+//! the gate proves it.
+#![tactic(auto)]
+
 ghost use Rattle.std.specs.List.{AllByRecursion};
 ghost use Rattle.bstr.specs.Owned.{bstring_bytes};
 ghost use Rattle.std.specs.Prelude.{◌≡◌, ◌≤◌, ℕ, Bool, false, true, List, [], filter, map, option_map, None, Result, Ok, Option, Some, IfOk, OnErr, OnOk, string_bytes};
@@ -29,7 +32,7 @@ ghost use Rattle.gitconf_lookups.specs.Picks.{picked};
 ghost use Rattle.gitconf_lookups.specs.SomeSections.{AreSome};
 ghost use Rattle.gitconf_sources.specs.Key.{Key};
 ghost use Rattle.gitconf_lookups.specs.ValuePlaces.{editor_of_numbered};
-ghost use Rattle.gix_config.specs.Headline.{AreCleanCalls, IsOneEnding, Call, Ending, Ends, Runs, no_memory};
+ghost use Rattle.gix_config_laws.specs.Headline.{AreCleanCalls, IsOneEnding, Call, Ending, Ends, Runs, no_memory};
 ghost use Rattle.gitconf_text.specs.declared.memory.NoMemory.{NoMemory};
 ghost use Rattle.std.specs.declared.alloc.Global.{Global};
 ghost use Rattle.std.specs.declared.string.String.{String};
@@ -57,7 +60,7 @@ pub use gitconf_loaders::laws as loaders;
 
 /// A new editor writes what edits ask of an editor: for a section that is found by its names, whatever a filter answers, or by its number, for one
 /// that is made, and for a value in the section of a number. It stays so with other blanks before names, and with line endings switched on or off. What it asks of
-/// the state holds of every file (`state` of [`File::sections`](crate::file::File::sections)).
+/// the state holds of every file (`state` of [`File::sections`](gix_config::File::sections)).
 pub fn new_editors_are_editors()
     ensures found { (name : List ℕ) (subsection : Option (List ℕ)) (keeps : Meta → Bool) (state : State) (s : SectionState) → HasItems state
         → picked name subsection keeps state ≡ Some s → IsEditor (editor_of state s) }
@@ -119,7 +122,7 @@ pub fn lossy_loads_of_variables_say_the_same()
 {}
 
 /// The configuration of a repository is clean, and has no entry before its first section, if no key of variables names a section with an empty
-/// name and no subsection, and no file that is read or included has an entry before its first section: so what is written of it reads back. No
+/// name and no subsection, and no file that is read, or that a section names, has an entry before its first section: so what is written of it reads back. No
 /// file has such an entry if no text that the host tells has one.
 pub fn repositories_are_clean()
     ensures clean { (variables : List ℕ → VariableReport) (places : Places) (table : Option (List ℕ → FileReport)) (dir : List ℕ)
@@ -193,7 +196,7 @@ pub fn calls_end_as_their_contracts_say()
 /// deleted, and includes resolved. The file was loaded,
 /// whole or lossy, or has items such as a text may have and is clean: so is one that a loader made ([`files_of_variables_are_clean`], [`repositories_are_clean`], and
 /// [`loaders`]). Of the calls it is asked that edits are handed what the library makes ([`new_editors_are_editors`]); that no header has an empty
-/// name and no subsection; that blanks before names that were set are spaces and tabs; and that no file that is appended or included has an
+/// name and no subsection; that blanks before names that were set are spaces and tabs; and that no file that is appended, or that a section names, has an
 /// entry before its first section. Then the file after them is such a one again, the text that is written of it has exactly its
 /// document, and a file that is loaded from this text has the same document and is equal to it.
 pub fn headline()

@@ -11,11 +11,11 @@ use Rattle.gitconf_text.specs.declared.memory.NoMemory.{NoMemory}
 use Rattle.gitconf_body.specs.Refusals.{header_refusal, span_refusal, value_refusal}
 use Rattle.gitconf_store.specs.RenameErrors.{rename_refusal}
 use Rattle.gitconf_store.specs.SetErrors.{set_refusal}
-use Rattle.gix_config.specs.Headline.{Ending, Ends, IsOneEnding, no_memory}
+use Rattle.gix_config_laws.specs.Headline.{Ending, Ends, IsOneEnding, no_memory}
 use Rattle.gix_config.specs.SectionEditors.{IsFoundOrMadeOf, edited, editor_at, number_of, told}
 use Rattle.gix_config.specs.declared.file.section_mut.SectionMut.{SectionMut}
-use Rattle.gix_config.proofs.Headline.{always_ends, is_editor_step, is_free_step, is_step}
-use Rattle.gix_config.proofs.laws.calls_end_as_their_contracts_say.Goals as goal
+use Rattle.gix_config_laws.proofs.ReadsBack.{always_ends, is_editor_step, is_free_step, is_step}
+use Rattle.gix_config_laws.proofs.calls_end_as_their_contracts_say.Goals as goal
 
 -- there is one refusal for want of memory
 only_memory : {T : Type 0} (result : Result T NoMemory) → IfErr result (λ e. e ≡ no_memory)

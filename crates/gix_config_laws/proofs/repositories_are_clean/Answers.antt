@@ -1,5 +1,5 @@
-use Rattle.gix_config.proofs.CleanLoads.{repository_clean, repository_texts}
-use Rattle.gix_config.proofs.laws.repositories_are_clean.Goals as goal
+use Rattle.gix_config_laws.proofs.CleanLoads.{repository_clean, repository_texts}
+use Rattle.gix_config_laws.proofs.repositories_are_clean.Goals as goal
 
 pub returns-clause-clean : goal.returns-clause-clean
 returns-clause-clean c = repository_clean

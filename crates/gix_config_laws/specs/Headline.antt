@@ -82,7 +82,7 @@ IsHanded (Append other) = HasItems other
 IsHanded _ = Unit {0}
 
 -- What is asked of a call on a file, so that what is written after it reads back: a clean edit of what it is handed; that a header that it makes
--- has a name or a subsection; and that no file that is included has an entry before its first section.
+-- has a name or a subsection; and that no file that a section names has an entry before its first section.
 abbrev pub IsCleanCall : Call → (old : State) → Type 0
 IsCleanCall (Edits edit ending) old = IsHanded edit × IsCleanEdit edit
 IsCleanCall (SetsSomewhere name subsection key value result) old = is_nameless (made_header name subsection) ≡ false

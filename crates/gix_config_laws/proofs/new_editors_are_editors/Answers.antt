@@ -1,5 +1,5 @@
-use Rattle.gix_config.proofs.NewEditors.{editor_made, editor_numbered, editor_of_value, editor_picked, editor_picked_of_some, ended_by, led_by}
-use Rattle.gix_config.proofs.laws.new_editors_are_editors.Goals as goal
+use Rattle.gix_config_laws.proofs.NewEditors.{editor_made, editor_numbered, editor_of_value, editor_picked, editor_picked_of_some, ended_by, led_by}
+use Rattle.gix_config_laws.proofs.new_editors_are_editors.Goals as goal
 
 pub returns-clause-found : goal.returns-clause-found
 returns-clause-found c = editor_picked

@@ -48,9 +48,9 @@ use Rattle.gitconf_store.specs.Renamings.{marked, with_renamed}
 use Rattle.gitconf_store.specs.SetErrors.{set_refusal}
 use Rattle.gitconf_store.specs.SetSomewhere.{IsSetChosen}
 use Rattle.gitconf_store.specs.Several.{AreRewritten, all_deleted}
-use Rattle.gix_config.specs.Headline.{AreCleanCalls, Call, DeletesAll, Edits, Ending, Ends, IsCleanCall, IsHanded, IsOneEnding, LeavesFile, RenamesSome, Resolves, Runs, SetsAllExisting, SetsExisting, SetsSomewhere, SetsValues}
+use Rattle.gix_config_laws.specs.Headline.{AreCleanCalls, Call, DeletesAll, Edits, Ending, Ends, IsCleanCall, IsHanded, IsOneEnding, LeavesFile, RenamesSome, Resolves, Runs, SetsAllExisting, SetsExisting, SetsSomewhere, SetsValues}
 use Rattle.gix_config.specs.Renamed.{IsRenamedOfSome}
-use Rattle.gix_config.proofs.NewEditors.{editor_of_value}
+use Rattle.gix_config_laws.proofs.NewEditors.{editor_of_value}
 
 -- If none of the causes holds, the names are valid.
 keyed : (key full : Bool) → first_cause ((not key, InvalidKey) ∷ (full, TooLarge) ∷ []) ≡ None → key ≡ true

@@ -26,7 +26,7 @@ use Rattle.gitconf_loaders.proofs.Clean.{all_global_headed, behind_headed, from_
 use Rattle.gix_config.specs.Environment.{AreEntriesPut, Edited, env_meta, HaveSectionNames, IncludeHeaded, IsEntryPut, IsFromEnv, IsOverrides, IsPutUnder, IsValuePushed, IsValuePut}
 use Rattle.gix_config.specs.Repository.{AreHeadedWith, folder_of, has_worktree, IsExpandedBehind, IsHeadedRepository, IsHeadedWith, IsJoined, IsPutBehind, IsReadOf, IsRepository, IsWorktree, IsWorktreeBehind, local_path, repository_rules, RepositoryFiles, worktree_path}
 use Rattle.gix_config.specs.SectionEditors.{editor_at, IsFoundOr}
-use Rattle.gix_config.proofs.NewEditors.{clean_picked}
+use Rattle.gix_config_laws.proofs.NewEditors.{clean_picked}
 
 -- what follows an outcome
 abbrev state_in : State → Result State ℕ → State

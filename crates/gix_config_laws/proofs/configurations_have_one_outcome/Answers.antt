@@ -1,5 +1,5 @@
-use Rattle.gix_config.proofs.OneConfiguration.{one_from_env, one_overrides, one_repository}
-use Rattle.gix_config.proofs.laws.configurations_have_one_outcome.Goals as goal
+use Rattle.gix_config_laws.proofs.OneConfiguration.{one_from_env, one_overrides, one_repository}
+use Rattle.gix_config_laws.proofs.configurations_have_one_outcome.Goals as goal
 
 pub returns-clause-made : goal.returns-clause-made
 returns-clause-made c = λ variables asks files tells. one_from_env variables asks files tells

@@ -9,9 +9,9 @@ use Rattle.gitconf_state.specs.Loads.{IsLoad}
 use Rattle.gitconf_state.proofs.Loading.Clean.{full_has_items, full_is_clean, kept_has_items, lossy_is_clean}
 use Rattle.gitconf_state.proofs.Exact.Printing.{byte_for_byte}
 use Rattle.gitconf_state.proofs.Printing.InsertingLineEnds.{printed_inserted}
-use Rattle.gix_config.proofs.Headline.{loads_equal, made_is_load, runs_keep, runs_read}
-use Rattle.gix_config.proofs.SameLookups.{same_implicit, same_value, same_values}
-use Rattle.gix_config.proofs.laws.headline.Goals as goal
+use Rattle.gix_config_laws.proofs.ReadsBack.{loads_equal, made_is_load, runs_keep, runs_read}
+use Rattle.gix_config_laws.proofs.SameLookups.{same_implicit, same_value, same_values}
+use Rattle.gix_config_laws.proofs.headline.Goals as goal
 
 pub returns-clause-kept : goal.returns-clause-kept
 returns-clause-kept c = runs_keep

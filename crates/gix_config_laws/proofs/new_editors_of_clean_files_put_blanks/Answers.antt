@@ -1,6 +1,6 @@
 use Rattle.std.proofs.Common.{refl}
-use Rattle.gix_config.proofs.NewEditors.{clean_numbered, clean_picked, clean_picked_of_some}
-use Rattle.gix_config.proofs.laws.new_editors_of_clean_files_put_blanks.Goals as goal
+use Rattle.gix_config_laws.proofs.NewEditors.{clean_numbered, clean_picked, clean_picked_of_some}
+use Rattle.gix_config_laws.proofs.new_editors_of_clean_files_put_blanks.Goals as goal
 
 pub returns-clause-found : goal.returns-clause-found
 returns-clause-found c = clean_picked

@@ -1,0 +1,6 @@
+mod Puts
+mod NewEditors
+mod SameLookups
+mod CleanLoads
+mod OneConfiguration
+mod ReadsBack
