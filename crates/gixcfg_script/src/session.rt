@@ -46,6 +46,10 @@ impl Session {
     }
 
     /// Runs a call of these words. It takes what is on standard input.
+    ///
+    /// # Errors
+    ///
+    /// [`NoMemory`] when out of memory around the call, also for what it writes: the call itself ends with a status.
     pub fn call(&mut self, words: &[&str]) -> Result<Done, NoMemory> {
         let mut input = replace(&mut self.input, Source::of(Vec::new(self.alloc)));
         let mut out = Target::new(self.alloc, self.out)?;
@@ -57,6 +61,9 @@ impl Session {
         };
         let machine = Machine { state: &self.state };
         let status = run_words(&machine, words, Terminal::none(), streams)?;
+        if out.lacks_memory() || err.lacks_memory() {
+            return Err(NoMemory);
+        }
         let read = input.count();
         Ok(Done {
             status,

@@ -59,6 +59,8 @@ const LITTLE: usize = 4096;
 pub struct Target {
     text: Vec<u8>,
     room: usize,
+    /// Whether memory ran out for what was written.
+    lacks_memory: bool,
 }
 
 impl Target {
@@ -67,12 +69,18 @@ impl Target {
         Ok(Target {
             text: Vec::with_capacity(alloc, LITTLE)?,
             room: room.unwrap_or(usize::MAX),
+            lacks_memory: false,
         })
     }
 
     /// What was written.
     pub fn text(&self) -> &[u8] {
         &self.text
+    }
+
+    /// Whether memory ran out for what was written. A stream of the system takes none of the program's, so no call ends in this way.
+    pub fn lacks_memory(&self) -> bool {
+        self.lacks_memory
     }
 }
 
@@ -83,8 +91,13 @@ impl Write for Target {
         if count < buf.len() && count == 0 {
             return Err(Refusal::Full.error());
         }
-        self.text.extend_from_slice(buf.split_at(count).0)?;
-        Ok(count)
+        match self.text.extend_from_slice(buf.split_at(count).0) {
+            Ok(()) => Ok(count),
+            Err(fault) => {
+                self.lacks_memory = true;
+                Err(fault.into())
+            }
+        }
     }
 
     fn flush(&mut self) -> io::Result<()> {
