@@ -42,7 +42,7 @@ pub fn expansions_keep_states()
         → IsState (file_of r) }
 {}
 
-/// A clean file stays clean, whatever the outcome, if no file that is included has an entry before its first section: so what is written of
+/// A clean file stays clean, whatever the outcome, if no file that a section names has an entry before its first section: so what is written of
 /// it reads back. It is asked of each file that a path of a section names, also where the condition of its include doesn't hold, and of
 /// those that these name, as deep as the expansion may go; so it holds where no text at all has such an entry.
 pub fn expansions_stay_clean()

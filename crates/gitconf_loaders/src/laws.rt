@@ -21,7 +21,7 @@ ghost use Rattle.gitconf_loaders.specs.Paths.{HasOneOutcome, IsLoadedFrom, IsLoa
 ghost use Rattle.gitconf_loaders.specs.Resolving.{AreMadeAlike, IsMadeOf};
 
 /// Files that are loaded by their paths or from a text are clean, those of the machine and of the user too, and have no entry before their
-/// first section, if no text that is loaded has such an entry, and no file that is included. A file that is loaded without includes is clean
+/// first section, if no text that is loaded has such an entry, and no file that a section names. A file that is loaded without includes is clean
 /// in any case. So what is written of them reads back.
 pub fn loaded_files_are_clean()
     ensures path { (table : Option (List ℕ → FileReport)) (path : List ℕ) (source : Source) (file : State) → IsLoadedFrom table path source (Ok file)

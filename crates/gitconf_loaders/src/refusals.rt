@@ -1,4 +1,4 @@
-//! The numbers of refusals, E1 to E28, as programs show them. Only here are they given to all errors: no crate below asks for a number.
+//! The numbers of refusals, E1 to E28, as programs show them. Only here are they given to all errors.
 ghost use Rattle.std.specs.Prelude.{◌≡◌};
 
 use crate::{from_env, from_git_dir, from_paths, lookup};

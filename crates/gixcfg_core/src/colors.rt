@@ -1,4 +1,4 @@
-//! Colors as git reads them, by its manual page `git-config`, "Values", and as `git config --type=color` of 2.47 prints them: the sequence
+//! Colors as git reads them, by its manual page `git-config`, "Values", and as `git config --type=color` prints them: the sequence
 //! of bytes that tells a terminal.
 ghost use Rattle.std.specs.Prelude.{◌≡◌, ◌≤◌, ◌++◌, IfOk, OnOk, string_bytes};
 ghost use Rattle.gixcfg_core.specs.Colors as spec;

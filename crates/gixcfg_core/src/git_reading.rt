@@ -1,4 +1,4 @@
-//! How git 2.47 reads a text: which entries it finds, and where it refuses. `check` compares that with how the library reads it.
+//! How git reads a text: which entries it finds, and where it refuses. `check` compares that with how the library reads it.
 //!
 //! git reads byte by byte. A carriage return before a line feed counts for nothing; white space is a blank, a tab, a line feed and a carriage
 //! return. An entry is a name that begins with a letter, blanks and tabs, and then the end of the line, or `=` and a value. A value has no

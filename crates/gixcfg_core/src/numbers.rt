@@ -1,4 +1,4 @@
-//! Integers and booleans as git reads them, by its manual page `git-config`, "Values", and by what `git config --type` of 2.47 does.
+//! Integers and booleans as git reads them, by its manual page `git-config`, "Values", and by what `git config --type` does.
 ghost use Rattle.std.specs.Prelude.{◌≡◌, ◌≤◌, ◌<◌, ◌^◌, ◌+◌, ◌*◌, ◌⊎◌, IsTrue, IfSome, MatchOption, length, position, take, drop};
 ghost use Rattle.std.specs.Char.{digit_value};
 ghost use Rattle.std.specs.Option.{option_and_then};

@@ -1,4 +1,4 @@
-//! URLs as git compares them, by its manual page `git-config`, `http.<url>.*` and `--url`, and by what git 2.47 does.
+//! URLs as git compares them, by its manual page `git-config`, `http.<url>.*` and `--url`, and by what git does.
 ghost use Rattle.std.specs.Prelude.{◌≡◌, true, false, None, ◌<◌, ◌≤◌, ◌++◌, ◌∷◌, [], Some, IfSome, MatchOption, IfOk, IfErr, OnOk, length, map, position, take, unwrap_or};
 ghost use Rattle.std.specs.Char.{to_ascii_lowercase};
 ghost use Rattle.std.specs.List.{list_any};

@@ -13,7 +13,7 @@ use Rattle.gixcfg_files.specs.declared.place.Replaced.TheVariants.{Done, Changed
 abbrev pub TellsLocked : Result Replaced Fault → Type 0
 TellsLocked result = ((path : String Global) × (result ≡ Err (Locked path))) ⊎ (result ≡ Err Memory)
 
--- success is told of what is done and written down alone
+-- success is told only where each call of the edit answered that it was done; under `--no-sync` those that write down do nothing
 abbrev pub TellsAs : Ended → Result Replaced Fault → Type 0
 TellsAs ends.Done result = result ≡ Ok Done
 TellsAs ends.Changed result = result ≡ Ok Changed
