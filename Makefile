@@ -27,7 +27,7 @@ lib:
 dist: build lib
 	tools/dist $(DIST)
 
-# What was proved stays where the kit keeps it, so the next build takes it from there.
+# (with the proved libraries, so the next build proves all anew)
 clean:
 	rm -rf crates/*/out out
 

@@ -1,9 +1,9 @@
 """The program for aarch64: proved and compiled by the kit, and linked by Debian's compiler for that processor.
 
 The kit's rt has no word for another processor, and its rattle has (`rattle help build`). That proves the program's own crate for the
-target, over the libraries below it as `rt ci` gives them: those that it left in this clone, where they are newer than all sources,
-else those that it makes in a copy. The kit has no C library for aarch64, so dist/c/ has the few functions that its own C files define
-for x86_64, and gcc links all to glibc.
+target, over the proved libraries below it: those that `rt ci` or tools/build left in this clone, where they are newer than all sources,
+else those that `rt ci` makes in a copy. The kit has no C library for aarch64, so dist/c/ has the few functions that its own C files
+define for x86_64, and gcc links all to glibc.
 """
 import os
 import shutil
@@ -75,20 +75,22 @@ def copy_libraries(room):
     (room / ".git").mkdir()
 
 
-def proved_library(name, top):
-    """The proved library of a crate, as `rt ci` leaves it in a repository."""
-    return top / "crates" / name / "out/rlib" / f"{name}.rlib"
+def left_by_ci(top):
+    """The folder of each proved library below the program, as `rt ci` leaves them in a repository."""
+    return {name: top / "crates" / name / "out/rlib" for name in libraries()[0]}
 
 
-def has_libraries():
-    """Whether `rt ci` left all libraries below the program in this clone, and none is older than a source."""
-    files = [proved_library(name, TOP) for name in libraries()[0]]
-    return all(file.exists() and source_newer_than(file) is None for file in files)
+def left_in_clone():
+    """The same of this clone, as `rt ci` or tools/build left them, if none is missing or older than a source."""
+    for below in (left_by_ci(TOP), {name: TOP / "out/libraries" / name for name in libraries()[0]}):
+        files = [folder / f"{name}.rlib/format" for name, folder in below.items()]
+        if all(file.exists() and source_newer_than(file) is None for file in files):
+            return below
+    return None
 
 
-def words_of(top, root):
-    """The words that tell rattle of the program's crate, the libraries below it, which lie in a repository, and the program logic."""
-    below = {name: proved_library(name, top).parent for name in libraries()[0]}
+def words_of(below, root):
+    """The words that tell rattle of the program's crate, the libraries below it, and the program logic."""
     words = ["--crate-name", "gixcfg", "src/main.rt"]
     for name in ["std", *listed_crates()["gixcfg"][1]]:
         words += ["--extern", f"{name}={below.get(name, root / 'rlibs')}/{name}.rlib"]
@@ -116,14 +118,15 @@ def prove():
     LOG.unlink(missing_ok=True)
     with tempfile.TemporaryDirectory(prefix="gixcfg-aarch64-") as name:
         room = Path(name)
-        top = TOP if has_libraries() else room
-        if top == room:
+        below = left_in_clone()
+        if below is None:
+            below = left_by_ci(room)
             copy_libraries(room)
             logged(room, "rt", "ci")
         # (rt ci refuses a crate that crates.txt doesn't have)
         copy_crate("gixcfg", room)
         jobs = str(min(4, os.cpu_count()))
-        said = logged(room / "crates/gixcfg", root / "bin/rattle", "build", *words_of(top, root), "--jobs", jobs, "-o", new)
+        said = logged(room / "crates/gixcfg", root / "bin/rattle", "build", *words_of(below, root), "--jobs", jobs, "-o", new)
     verdict = [line for line in said.splitlines() if line.startswith("logic=")][-1:]
     if not verdict or not verdict[0].startswith("logic=proved ") or f" target={TARGET} " not in verdict[0]:
         raise Lacking(f"rattle gave no verdict of a proof for aarch64: {LOG} has what it wrote")
