@@ -38,6 +38,27 @@ def above(names):
     return found
 
 
+def files_of(name):
+    """The files that a crate is proved of."""
+    for part in ("src", "specs", "proofs"):
+        for folder, _, files in os.walk(os.path.join(TOP, "crates", name, part)):
+            yield from (os.path.join(folder, file) for file in files)
+
+
+def changed(names):
+    """When a source of these crates was last changed."""
+    return max((os.path.getmtime(file) for name in names for file in files_of(name)), default=0)
+
+
+def left_by_gate(names):
+    """The folder of the library of each of these crates, as `rt ci` left it in this clone in a gate that began, and passed, since a source was
+    changed; else None. (The libraries may be older: what was kept has the time at which it was proved.)"""
+    folders = {name: os.path.join(TOP, "crates", name, "out", "rlib") for name in names}
+    proved = os.path.join(TOP, "out", "proved")
+    is_proved = os.path.exists(proved) and os.path.getmtime(proved) > changed(names) and all(map(os.path.isdir, folders.values()))
+    return folders if is_proved else None
+
+
 def main():
     about = argparse.ArgumentParser(description=__doc__, formatter_class=argparse.RawDescriptionHelpFormatter)
     way = about.add_mutually_exclusive_group(required=True)

@@ -1,7 +1,7 @@
 """The program for aarch64: proved and compiled by the kit, and linked by Debian's compiler for that processor.
 
 The kit's rt has no word for another processor, and its rattle has (`rattle help build`). That proves the program's own crate for the
-target, over the proved libraries below it: those that `rt ci` or tools/build left in this clone, where they are newer than all sources,
+target, over the proved libraries below it: those that ./prove or tools/build left in this clone, where no source is newer,
 else those that `rt ci` makes in a copy. The kit has no C library for aarch64, so dist/c/ has the few functions that its own C files
 define for x86_64, and gcc links all to glibc.
 """
@@ -13,6 +13,9 @@ import tempfile
 import time
 from pathlib import Path
 
+sys.path.append(str(Path(__file__).resolve().parents[1]))
+
+import crates  # noqa: E402
 from release import PROGRAM, TOP, Lacking, built_program, kit, kit_line, run, source_newer_than, sum_of
 
 TARGET = "aarch64-unknown-linux-gnu"
@@ -38,26 +41,11 @@ def linked_with():
     return ", ".join(run("dpkg-query", "-W", "-f", "${Package} ${Version}", package) for package in packages)
 
 
-def listed_crates():
-    """Each crate of crates.txt: its line, and the libraries that this names."""
-    crates = {}
-    for line in (TOP / "crates.txt").read_text(encoding="utf-8").splitlines():
-        head, colon, named = line.partition("#")[0].partition(":")
-        if colon:
-            crates[head.split()[0]] = line, named.split()
-    return crates
-
-
 def libraries(crate="gixcfg"):
-    """The libraries below the program, or below another crate: those of this repository, and those of the kit that they name."""
-    crates = listed_crates()
-    found, left = {}, list(crates[crate][1])
-    while left:
-        name = left.pop()
-        if name not in found:
-            found[name] = name in crates
-            left += crates[name][1] if name in crates else []
-    return [name for name, is_ours in found.items() if is_ours], [name for name, is_ours in found.items() if not is_ours]
+    """The libraries below a crate: those of this repository, and those of the kit that they name."""
+    ours = [name for name in crates.below([crate]) if name != crate]
+    named = {it for name in [crate, *ours] for it in crates.named(crates.lines()[name])}
+    return ours, sorted(named.difference(crates.lines()))
 
 
 def copy_crate(name, room):
@@ -66,10 +54,10 @@ def copy_crate(name, room):
 
 def copy_libraries(room):
     """Puts the libraries below the program into a repository of their own."""
-    names, crates = libraries()[0], listed_crates()
+    names = libraries()[0]
     for name in names:
         copy_crate(name, room)
-    (room / "crates.txt").write_text("".join(f"{crates[name][0]}\n" for name in names), encoding="utf-8")
+    (room / "crates.txt").write_text("".join(crates.lines()[name] for name in names), encoding="utf-8")
     shutil.copy(TOP / "HANDLES", room)
     # (so it is the top of a repository, as rt wants it)
     (room / ".git").mkdir()
@@ -81,18 +69,19 @@ def left_by_ci(top):
 
 
 def left_in_clone():
-    """The same of this clone, as `rt ci` or tools/build left them, if none is missing or older than a source."""
-    for below in (left_by_ci(TOP), {name: TOP / "out/libraries" / name for name in libraries()[0]}):
-        files = [folder / f"{name}.rlib/format" for name, folder in below.items()]
-        if all(file.exists() and source_newer_than(file) is None for file in files):
-            return below
-    return None
+    """The same of this clone, as ./prove or tools/build left them, if none is missing or older than a source."""
+    left = crates.left_by_gate(libraries()[0])
+    if left:
+        return {name: Path(folder) for name, folder in left.items()}
+    built = {name: TOP / "out/libraries" / name for name in libraries()[0]}
+    files = [folder / f"{name}.rlib/format" for name, folder in built.items()]
+    return built if all(file.exists() and source_newer_than(file) is None for file in files) else None
 
 
 def words_of(below, root):
     """The words that tell rattle of the program's crate, the libraries below it, and the program logic."""
     words = ["--crate-name", "gixcfg", "src/main.rt"]
-    for name in ["std", *listed_crates()["gixcfg"][1]]:
+    for name in ["std", *crates.named(crates.lines()["gixcfg"])]:
         words += ["--extern", f"{name}={below.get(name, root / 'rlibs')}/{name}.rlib"]
     for folder in [root / "rlibs", *below.values()]:
         words += ["-L", f"dependency={folder}"]
