@@ -35,7 +35,7 @@ help:
 	@echo 'make              proves and builds the program ($(PROGRAM))'
 	@echo 'make check        the tests of a fresh clone, some minutes: ./test'
 	@echo 'make prove        the whole gate: ./prove'
-	@echo 'make lib          proves and builds the library for C, in out/lib, in about 75 minutes, or some twelve minutes after make; docs/c.md'
+	@echo 'make lib          proves and builds the library for C, in out/lib, in about 70 minutes, or some twelve minutes after make; docs/c.md'
 	@echo 'make install      the program, its manual, completions and licences, below PREFIX (/usr/local) and DESTDIR; builds first'
 	@echo 'make install-lib  the library for C, its header, pkg-config file, manual and licences, there too; make lib first, in its time'
 	@echo 'make uninstall    removes just what these two put there'

@@ -1,10 +1,8 @@
-# Completion of gixcfg in bash. `make install` puts this file where bash-completion finds it; without that package, source it.
+# Completion of gixcfg in bash, made by `tools/completion --write` of the program's sources.
+# `make install` puts this file where bash-completion finds it; without that package, source it.
 
 _gixcfg() {
     local word=${COMP_WORDS[COMP_CWORD]} before=${COMP_WORDS[COMP_CWORD-1]} command=${COMP_WORDS[1]} words=""
-    local commands="get set unset list rename-section remove-section fmt check diff help"
-    local places="-f --file --global --system --local --worktree" values="--value --fixed-value"
-    local shown="--effective --includes --no-includes -t --type -z --null --show-origin --show-scope --show-names --name-only"
     COMPREPLY=()
     # bash takes --type=bool apart, into three words.
     if [ "$word" = "=" ]; then
@@ -20,25 +18,37 @@ _gixcfg() {
         _gixcfg_files "$word"
         return
         ;;
-    --comment | --default | --value | --url) return ;;
+    --value) return ;;
+    --url) return ;;
+    --default) return ;;
     -t | --type) words="bool int bool-or-int bool-or-str path expiry-date color" ;;
-    --newline) words="lf crlf detect" ;;
+    --comment) return ;;
     --indent) words="tabs:1 spaces:2 spaces:4 spaces:8" ;;
+    --newline) words="lf crlf detect" ;;
     *)
         case $command:$word in
         :-*) words="--version -h --help" ;;
-        get:-*) words="$places $values $shown --all --regexp --url --default -h --help" ;;
-        set:-*) words="$places $values --all --append -t --type --comment --no-sync -h --help" ;;
-        unset:-*) words="$places $values --all --no-sync -h --help" ;;
-        list:-*) words="$places $shown -h --help" ;;
-        rename-section:-* | remove-section:-*) words="$places --no-sync -h --help" ;;
-        fmt:-*) words="$places --check --indent --newline --no-sync -h --help" ;;
-        check:-*) words="-q --quiet --lenient -h --help" ;;
-        diff:-*) words="-q --quiet -z --null -h --help" ;;
-        help:-*) words="-h --help" ;;
-        :*) words="$commands all bool int print load" ;;
-        help:*) words=$commands ;;
-        check:* | diff:* | fmt:*)
+        get:-*) words="--file -f --global --system --local --worktree --effective --help -h --all --regexp --value --fixed-value --url --default --type -t --null -z --show-origin --show-scope --includes --no-includes --show-names --name-only" ;;
+        set:-*) words="--file -f --global --system --local --worktree --help -h --all --append --value --fixed-value --type -t --comment --no-sync" ;;
+        unset:-*) words="--file -f --global --system --local --worktree --help -h --all --value --fixed-value --no-sync" ;;
+        list:-*) words="--file -f --global --system --local --worktree --effective --help -h --type -t --null -z --show-origin --show-scope --includes --no-includes --show-names --name-only" ;;
+        rename-section:-*) words="--file -f --global --system --local --worktree --help -h --no-sync" ;;
+        remove-section:-*) words="--file -f --global --system --local --worktree --help -h --no-sync" ;;
+        fmt:-*) words="--file -f --global --system --local --worktree --help -h --check --indent --newline --no-sync" ;;
+        check:-*) words="--help -h --quiet -q --lenient" ;;
+        diff:-*) words="--help -h --null -z --quiet -q" ;;
+        help:-*) words="--help -h" ;;
+        :*) words="get set unset list rename-section remove-section fmt check diff help all bool int print load" ;;
+        help:*) words="get set unset list rename-section remove-section fmt check diff help" ;;
+        fmt:*)
+            _gixcfg_files "$word"
+            return
+            ;;
+        check:*)
+            _gixcfg_files "$word"
+            return
+            ;;
+        diff:*)
             _gixcfg_files "$word"
             return
             ;;

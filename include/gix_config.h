@@ -1,8 +1,8 @@
 /* Git's configuration files for programs in C.
  *
- * Each call answers a number: 0 when it is done, that of a refusal (docs/refusals.md), or one of those below.
- * What a call does is said by its contract for every content of every handle, also an empty one or one that
- * holds something else.
+ * Each call answers a number: 0 when it is done, that of a refusal (docs/refusals.md), or another of those
+ * below. What a call does is said by its contract for every content of every handle, also an empty one or one
+ * that holds something else.
  *
  * Made by tools/c_header of crates/gix_config_c. docs/c.md says what a program owes. */
 #ifndef GIX_CONFIG_H
@@ -12,15 +12,71 @@
 #include <stddef.h>
 #include <stdint.h>
 
+/* The version of this header; gix_config_version tells that of the library. */
+#define GIX_CONFIG_VERSION "0.1.0"
+#define GIX_CONFIG_VERSION_MAJOR 0
+#define GIX_CONFIG_VERSION_MINOR 1
+#define GIX_CONFIG_VERSION_PATCH 0
+
 #ifdef __cplusplus
 extern "C" {
 #endif
 
-/* The numbers that calls answer, besides those of docs/refusals.md. */
+/* The numbers that calls answer. Up to 27 they are those of docs/refusals.md; no call answers 10 or 28. */
 enum {
     /* The call is done. */
     GIX_CONFIG_DONE = 0,
-    /* Out of memory, as in docs/refusals.md. */
+    /* A text can't be read on at some place. */
+    GIX_CONFIG_UNEXPECTED_TOKEN = 1,
+    /* A text has more than 4294967295 bytes. */
+    GIX_CONFIG_INPUT_TOO_LARGE = 2,
+    /* The file would have more than 4294967295 bytes, or more sections than there are numbers. */
+    GIX_CONFIG_SPAN_TOO_LARGE = 3,
+    /* The name can't be that of a section that is made. */
+    GIX_CONFIG_INVALID_SECTION_NAME = 4,
+    /* The name can't be that of a subsection that is made. */
+    GIX_CONFIG_INVALID_SUBSECTION = 5,
+    /* The name can't be that of a value. */
+    GIX_CONFIG_INVALID_VALUE_NAME = 6,
+    /* No section has the name. */
+    GIX_CONFIG_SECTION_MISSING = 7,
+    /* No section of the name has the subsection. */
+    GIX_CONFIG_SUBSECTION_MISSING = 8,
+    /* The sections have no such value. */
+    GIX_CONFIG_KEY_MISSING = 9,
+    /* The value is not of the type that is asked for, or 64 bits don't hold it. */
+    GIX_CONFIG_BAD_VALUE = 11,
+    /* A path needs a folder that is not known, or is empty. */
+    GIX_CONFIG_MISSING_FOLDER = 12,
+    /* A path is not UTF-8. */
+    GIX_CONFIG_PATH_NOT_UTF8 = 13,
+    /* The name of a path's user is not UTF-8. */
+    GIX_CONFIG_USER_NOT_UTF8 = 14,
+    /* Files include each other too deeply. */
+    GIX_CONFIG_INCLUDE_DEPTH_EXCEEDED = 15,
+    /* The path of an include is relative, and its file has no path. */
+    GIX_CONFIG_MISSING_CONFIG_PATH = 16,
+    /* The condition of an include is about a repository, and there is none. */
+    GIX_CONFIG_MISSING_GIT_DIR = 17,
+    /* The repository's folder can't be resolved. */
+    GIX_CONFIG_REALPATH = 18,
+    /* A file that is included can't be opened. */
+    GIX_CONFIG_INCLUDE_NOT_OPENED = 19,
+    /* A file that is included can't be read. */
+    GIX_CONFIG_INCLUDE_NOT_READ = 20,
+    /* A file that is loaded can't be opened or read. */
+    GIX_CONFIG_FILE_NOT_READ = 21,
+    /* The key or the value that variables of the environment set is not UTF-8. */
+    GIX_CONFIG_ILLFORMED_VARIABLE = 22,
+    /* `GIT_CONFIG_COUNT` is no number. */
+    GIX_CONFIG_INVALID_CONFIG_COUNT = 23,
+    /* The variable of a key, such as `GIT_CONFIG_KEY_0`, is not set. */
+    GIX_CONFIG_INVALID_KEY_ID = 24,
+    /* The key that a variable sets has no dot. */
+    GIX_CONFIG_INVALID_KEY_VALUE = 25,
+    /* The variable of a value, such as `GIT_CONFIG_VALUE_0`, is not set. */
+    GIX_CONFIG_INVALID_VALUE_ID = 26,
+    /* Out of memory. */
     GIX_CONFIG_OUT_OF_MEMORY = 27,
     /* There is no such thing. */
     GIX_CONFIG_NOTHING_THERE = 100,
@@ -265,6 +321,18 @@ typedef struct gix_config_load {
     gix_config_includes includes;
 } gix_config_load;
 
+/* Where a text comes from that is parsed: its sections come from there, too. */
+typedef struct gix_config_metadata {
+    /* Whether it is that of a file with a path. */
+    bool has_path;
+    /* The path of its file, if there is one: that of an include is relative to its folder. */
+    gix_config_text path;
+    /* The place that it stands for: one of the sources' numbers. */
+    uint32_t source;
+    /* How far it is trusted: one of the numbers of trust. */
+    uint32_t trust;
+} gix_config_metadata;
+
 /* The places of configuration that a program knows: what variables of the environment say comes before it. */
 typedef struct gix_config_places {
     /* Whether there is configuration that was installed with git. */
@@ -387,10 +455,10 @@ uint32_t gix_config_list_entry(gix_config_list *list, size_t index, gix_config_e
  * that is included: its name or path is then in the block, whose bytes from before are freed; tell it, and call
  * again. 23 for a count that is no number; of an entry whose key or value isn't set 24 or 26, or isn't UTF-8 22,
  * and 25 for a key without a dot: the name of the variable is then in the block, too. 4, 5 and 6 for names that
- * can't be written into a file. 19 if a file that is included was told to have a fault: its path is then in the
- * block; 20 if one can't be read. 1, 2, 3 and 12 to 18 if an include is refused. 101 if a text that has to be
- * UTF-8 isn't, 102 if the handle is not one for what is told, 27 when out of memory. The file's handle is as it
- * was after any number but 0, and the block after any but 19, 22 to 26, 103 and 105. */
+ * can't be written into a file. 19 or 20 if a file that is included was told to have a fault, 1 or 2 if the text
+ * of one is refused: its path is then in the block. 3 and 12 to 18 if an include is refused. 101 if a text that
+ * has to be UTF-8 isn't, 102 if the handle is not one for what is told, 27 when out of memory. The file's handle
+ * is as it was after any number but 0, and the block after any but 1, 2, 19, 20, 22 to 26, 103 and 105. */
 uint32_t gix_config_load_env_told(gix_config_told *told, const gix_config_includes *includes,
     gix_config_file *file, gix_config_bytes *asked);
 
@@ -455,10 +523,10 @@ uint32_t gix_config_file_text_filter(gix_config_file *file, const gix_config_fil
  *
  * 105 if nothing was told of a variable that says where these files are, 103 if nothing was told of a file that
  * is needed: its name or path is then in the block, whose bytes from before are freed; tell it, and call again.
- * 21 if one of these files, and 19 if one that is included, was told to have a fault: its path is then in the
- * block, too; 20 if one that is included can't be read. 1, 2, 3 and 12 to 18 if a file or its includes are
- * refused. 101 if a place is not UTF-8, 102 if the handle is not one for what is told, 27 when out of memory.
- * The file's handle is as it was after any number but 0, and the block after any but 19, 21, 103 and 105. */
+ * 21 if one of these files, and 19 or 20 if one that is included, was told to have a fault; 1 or 2 if the text
+ * of one is refused: its path is then in the block, too. 3 and 12 to 18 if a file or its includes are refused.
+ * 101 if a place is not UTF-8, 102 if the handle is not one for what is told, 27 when out of memory. The file's
+ * handle is as it was after any number but 0, and the block after any but 1, 2, 19 to 21, 103 and 105. */
 uint32_t gix_config_load_globals_told(gix_config_told *told, const gix_config_places *places,
     gix_config_file *file, gix_config_bytes *asked);
 
@@ -520,11 +588,12 @@ void gix_config_list_close(gix_config_list *list);
  * before is closed.
  *
  * 103 if the load needs a file of which nothing was told: its path is then in the block, whose bytes from before
- * are freed; tell it, and call again. 21 if the file itself, and 19 if one that is included, was told to have a
- * fault: its path is then in the block, too; 20 if one that is included can't be read. 1, 2, 3 and 12 to 18 if a
- * file or its includes are refused, 100 if there is nothing to load. 101 if a text that has to be UTF-8 isn't,
- * 104 if no source or trust has the number, 102 if the handle is not one for what is told, 27 when out of
- * memory. The file's handle is as it was after any number but 0, and the block after any but 19, 21 and 103. */
+ * are freed; tell it, and call again. 21 if the file itself, and 19 or 20 if one that is included, was told to
+ * have a fault; 1 or 2 if the text of one is refused: the file's path is then in the block, too. 3 and 12 to 18
+ * if the file or its includes are refused, 100 if there is nothing to load. 101 if a text that has to be UTF-8
+ * isn't, 104 if no source or trust has the number, 102 if the handle is not one for what is told, 27 when out of
+ * memory. The file's handle is as it was after any number but 0, and the block after any but 1, 2, 19 to 21 and
+ * 103. */
 uint32_t gix_config_load_told(gix_config_told *told, const gix_config_load *load, gix_config_file *file,
     gix_config_bytes *path);
 
@@ -532,10 +601,10 @@ uint32_t gix_config_load_told(gix_config_told *told, const gix_config_load *load
  * includes it.
  *
  * 103 if a file is needed of which nothing was told: its path is then in the block, whose bytes from before are
- * freed; tell it, and call again. 19 if one was told not to open: its path is then in the block, too; 20 if one
- * can't be read. 1, 2, 3 and 12 to 18 if a file or an include is refused. 101 if a text that has to be UTF-8
- * isn't, 102 if a handle is not one for what is told or has no file, 27 when out of memory. The file is as it
- * was after any number but 0, and the block after any but 19, 21 and 103. */
+ * freed; tell it, and call again. 19 or 20 if one was told to have a fault, 1 or 2 if the text of one is
+ * refused: its path is then in the block, too. 3 and 12 to 18 if an include is refused. 101 if a text that has
+ * to be UTF-8 isn't, 102 if a handle is not one for what is told or has no file, 27 when out of memory. The file
+ * is as it was after any number but 0, and the block after any but 1, 2, 19 to 21 and 103. */
 uint32_t gix_config_resolve_includes_told(gix_config_told *told, gix_config_file *file,
     const gix_config_includes *includes, gix_config_bytes *path);
 
@@ -631,6 +700,14 @@ uint32_t gix_config_section_set_trust_at(gix_config_file *file, size_t place, ui
 uint32_t gix_config_file_parse(const uint8_t *text, size_t text_len, bool lossy, gix_config_file *file,
     gix_config_place *place);
 
+/* As gix_config_file_parse, of a text that comes from somewhere else than the calling program. Its includes are
+ * not followed: gix_config_resolve_includes_told reads them.
+ *
+ * The numbers of gix_config_file_parse; 101 if it has a path that is not UTF-8, else 104 if no source or trust
+ * has the number. The handle is as it was after any number but 0, and the place after any but 1 and 2. */
+uint32_t gix_config_file_parse_as(const uint8_t *text, size_t text_len, const gix_config_metadata *meta,
+    bool lossy, gix_config_file *file, gix_config_place *place);
+
 /* Closes the file in a handle; an empty one stays empty. */
 void gix_config_file_close(gix_config_file *file);
 
@@ -649,6 +726,25 @@ uint32_t gix_config_file_clone(gix_config_file *file, gix_config_file *other_fil
 uint32_t gix_config_path(gix_config_file *file, const gix_config_key *key, const gix_config_folders *folders,
     gix_config_bytes *path);
 
+/* Tells the names of a key that is written in one text, such as `remote.origin.url`: the section's is before the
+ * first dot, the value's behind the last one, and the subsection's between them, if these are two. They lie in
+ * the text, and are not checked further.
+ *
+ * 100 for a text without a dot, 101 if the section's or the value's name is not UTF-8. The key is then as it
+ * was. */
+uint32_t gix_config_key_parse(const uint8_t *text, size_t text_len, gix_config_key *key);
+
+/* Tells what a text means as a boolean, as gix_config_boolean does of the value of a key.
+ *
+ * 11 for a text that is no boolean, 27 when out of memory. The boolean is then as it was. */
+uint32_t gix_config_boolean_parse(const uint8_t *text, size_t text_len, bool *value);
+
+/* Tells what a text means as an integer, times its suffix, as gix_config_integer does of the value of a key.
+ *
+ * 11 for a text that is no integer, or one that 64 bits don't hold, 27 when out of memory. The integer is then
+ * as it was. */
+uint32_t gix_config_integer_parse(const uint8_t *text, size_t text_len, int64_t *value);
+
 /* Loads the configuration of a repository, from what a program told of files and of variables: that of the
  * machine and of the user (gix_config_load_globals_told), of the repository (`config` in its folder), of its
  * worktree (`config.worktree`, if `extensions.worktreeConfig` is true), and the entries that variables set
@@ -657,11 +753,11 @@ uint32_t gix_config_path(gix_config_file *file, const gix_config_key *key, const
  *
  * 105 if nothing was told of a variable that is needed, 103 if nothing was told of a file that is: its name or
  * path is then in the block, whose bytes from before are freed; tell it, and call again. 21 if one of these
- * files, and 19 if one that is included, was told to have a fault: its path is then in the block, too; 20 if one
- * that is included can't be read; 22 to 26 for the entries of variables, as gix_config_load_env_told has them. 1
- * to 6 and 12 to 18 if a file, an entry or an include is refused. 101 if a text that has to be UTF-8 isn't, 102
- * if the handle is not one for what is told, 27 when out of memory. The file's handle is as it was after any
- * number but 0, and the block after any but 19, 21 to 26, 103 and 105. */
+ * files, and 19 or 20 if one that is included, was told to have a fault; 1 or 2 if the text of one is refused:
+ * its path is then in the block, too. 22 to 26 for the entries of variables, as gix_config_load_env_told has
+ * them. 3 to 6 and 12 to 18 if a file, an entry or an include is refused. 101 if a text that has to be UTF-8
+ * isn't, 102 if the handle is not one for what is told, 27 when out of memory. The file's handle is as it was
+ * after any number but 0, and the block after any but 1, 2, 19 to 26, 103 and 105. */
 uint32_t gix_config_load_repository_told(gix_config_told *told, const gix_config_repository *repository,
     gix_config_file *file, gix_config_bytes *asked);
 
@@ -776,14 +872,17 @@ uint32_t gix_config_text_values(const uint8_t *text, size_t text_len, const gix_
     gix_config_list *list, gix_config_place *place);
 
 /* Tells where the text that was told of a path can't be read on: a load that needs that file is refused. The
- * text is read once more. A load that is answered with 1 or 2 leaves in its block the path that it asked for
- * last, which is that of the refused file for a program that tells one file after the other.
+ * text is read once more. A load that is answered with 1 or 2 leaves in its block the path of the refused file.
  *
  * Refusal 1 for a text that can't be read on at some place, 2 for one of more than 4294967295 bytes; then the
  * place says where, else it is as it was. 0 for a text that can be read, 100 if no text was told of the path.
  * 101 if the path is not UTF-8, 102 if the handle is not one for what is told, 27 when out of memory. */
 uint32_t gix_config_told_place(gix_config_told *told, const uint8_t *path, size_t path_len,
     gix_config_place *place);
+
+/* Tells the version of the library that a program runs with, such as `0.1.0`; that of the header is
+ * GIX_CONFIG_VERSION. The text stays for good. */
+void gix_config_version(gix_config_text *text);
 
 #ifdef __cplusplus
 }

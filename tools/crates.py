@@ -6,6 +6,8 @@
 """
 import argparse
 import os
+import shutil
+import subprocess
 import sys
 
 TOP = os.path.dirname(os.path.dirname(os.path.realpath(__file__)))
@@ -50,13 +52,64 @@ def changed(names):
     return max((os.path.getmtime(file) for name in names for file in files_of(name)), default=0)
 
 
+def copy_into(room, names, left_out=("out", "must-fail")):
+    """Copies these crates, but for some of their folders, so that they are a repository."""
+    listed = lines()
+    for name in names:
+        copy = os.path.join(room, "crates", name)
+        shutil.copytree(os.path.join(TOP, "crates", name), copy, copy_function=shutil.copyfile, ignore=shutil.ignore_patterns(*left_out))
+        # (a clone that can't be written has directories that can't)
+        for folder, _, _ in os.walk(copy):
+            os.chmod(folder, 0o755)
+    with open(os.path.join(room, "crates.txt"), "w", encoding="utf-8") as file:
+        file.writelines(listed[name] for name in names)
+    shutil.copyfile(os.path.join(TOP, "HANDLES"), os.path.join(room, "HANDLES"))
+    # (so it is the top of a repository, as rt wants it)
+    os.mkdir(os.path.join(room, ".git"))
+
+
+def library(top, name):
+    """Where the proved library of a crate of a repository is."""
+    return os.path.join(top, "crates", name, "out", "rlib")
+
+
+def link(folder, to):
+    """Gives the files of a folder second names, so that a command may remove what it replaces."""
+    shutil.copytree(folder, to, copy_function=os.link)
+
+
 def left_by_gate(names):
     """The folder of the library of each of these crates, as `rt ci` left it in this clone in a gate that began, and passed, since a source was
     changed; else None. (The libraries may be older: what was kept has the time at which it was proved.)"""
-    folders = {name: os.path.join(TOP, "crates", name, "out", "rlib") for name in names}
+    folders = {name: library(TOP, name) for name in names}
     proved = os.path.join(TOP, "out", "proved")
     is_proved = os.path.exists(proved) and os.path.getmtime(proved) > changed(names) and all(map(os.path.isdir, folders.values()))
     return folders if is_proved else None
+
+
+def take_from_gate(room, names):
+    """Gives the copies of these crates in a room the libraries that `rt ci` left of them, which are all that they stand on, and tells whether it
+    did. `rt ci` gives them no stamp by which rt would take them, so they get it here."""
+    left = left_by_gate(names)
+    if left is None:
+        return False
+    for name, folder in left.items():
+        link(folder, library(room, name))
+    toolchain = os.path.dirname(os.path.realpath(shutil.which("rt")))
+    subprocess.run([sys.executable, "-B", "-c", STAMPING, toolchain, *names], cwd=room, check=True)
+    return True
+
+
+# Marks the libraries of crates of a repository as those of their sources.
+STAMPING = """
+import os, sys
+sys.path.insert(0, sys.argv[1])
+import rtlib
+for crate in rtlib.crates_below(os.getcwd()):
+    if crate.name in sys.argv[2:]:
+        with open(f"{crate.folder}/out/rlib/stamp", "w") as file:
+            file.write(crate.stamp())
+"""
 
 
 def main():

@@ -15,6 +15,7 @@
 #include <stdio.h>
 #include <stdlib.h>
 #include <string.h>
+#include <sys/file.h>
 #include <sys/stat.h>
 #include <sys/syscall.h>
 #include <sys/types.h>
@@ -139,8 +140,12 @@ int statx(int folder, const char *path, int flags, unsigned mask, struct statx *
     return fails("statx") ? -1 : syscall(SYS_statx, folder, path, flags, mask, told);
 }
 
-int lchown(const char *path, uid_t owner, gid_t group) {
-    return fails("lchown") ? -1 : syscall(SYS_lchown, path, owner, group);
+int fchown(int file, uid_t owner, gid_t group) { return fails("fchown") ? -1 : syscall(SYS_fchown, file, owner, group); }
+
+int flock(int file, int how) { return fails("flock") ? -1 : syscall(SYS_flock, file, how); }
+
+int link(const char *from, const char *to) {
+    return fails("link") ? -1 : syscall(SYS_linkat, AT_FDCWD, from, AT_FDCWD, to, 0);
 }
 
 int fchmod(int file, mode_t mode) { return fails("fchmod") ? -1 : syscall(SYS_fchmod, file, mode); }

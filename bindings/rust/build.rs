@@ -16,6 +16,11 @@ fn installed() -> Option<PathBuf> {
 }
 
 fn main() {
+    let target = std::env::var("TARGET").unwrap_or_default();
+    assert!(
+        target.starts_with("x86_64-") && target.contains("-linux-"),
+        "the library is for x86-64 with Linux alone, and not for {target}",
+    );
     println!("cargo:rerun-if-env-changed=GIX_CONFIG_LIBRARY");
     println!("cargo:rerun-if-env-changed=PKG_CONFIG_PATH");
     let made = PathBuf::from(env!("CARGO_MANIFEST_DIR")).join("../../out/lib");

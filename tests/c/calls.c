@@ -10,9 +10,9 @@ static void look_ups(gix_config_file *file)
     CHECK(gix_config_value(file, &editor, &value) == GIX_CONFIG_DONE && is_text(value.at, value.len, "vi"));
     CHECK(gix_config_value(file, &url, &value) == GIX_CONFIG_DONE && is_text(value.at, value.len, "d"));
     gix_config_key no_section = key_of("nope", NULL, "x"), no_subsection = key_of("remote", "x", "url"), no_name = key_of("core", NULL, "x");
-    CHECK(gix_config_value(file, &no_section, &value) == 7);
-    CHECK(gix_config_value(file, &no_subsection, &value) == 8);
-    CHECK(gix_config_value(file, &no_name, &value) == 9 && is_text(value.at, value.len, "d"));
+    CHECK(gix_config_value(file, &no_section, &value) == GIX_CONFIG_SECTION_MISSING);
+    CHECK(gix_config_value(file, &no_subsection, &value) == GIX_CONFIG_SUBSECTION_MISSING);
+    CHECK(gix_config_value(file, &no_name, &value) == GIX_CONFIG_KEY_MISSING && is_text(value.at, value.len, "d"));
 
     gix_config_list list = { NULL };
     gix_config_text text = { NULL, 0 };
@@ -26,10 +26,10 @@ static void look_ups(gix_config_file *file)
     int64_t integer = 0;
     gix_config_key bare = key_of("core", NULL, "bare"), n = key_of("core", NULL, "n");
     CHECK(gix_config_boolean(file, &bare, &boolean) == GIX_CONFIG_DONE && boolean);
-    CHECK(gix_config_boolean(file, &editor, &boolean) == 11 && boolean);
+    CHECK(gix_config_boolean(file, &editor, &boolean) == GIX_CONFIG_BAD_VALUE && boolean);
     CHECK(gix_config_boolean(file, &no_name, &boolean) == GIX_CONFIG_NOTHING_THERE);
     CHECK(gix_config_integer(file, &n, &integer) == GIX_CONFIG_DONE && integer == 2048);
-    CHECK(gix_config_integer(file, &editor, &integer) == 11 && integer == 2048);
+    CHECK(gix_config_integer(file, &editor, &integer) == GIX_CONFIG_BAD_VALUE && integer == 2048);
     CHECK(gix_config_integer(file, &no_name, &integer) == GIX_CONFIG_NOTHING_THERE);
     gix_config_bytes_free(&value);
 }
@@ -91,10 +91,10 @@ static void filters(gix_config_file *file)
     int64_t integer = 0;
     CHECK(gix_config_value_filter(file, &url, &all, &bytes) == GIX_CONFIG_DONE && is_text(bytes.at, bytes.len, "d"));
     CHECK(gix_config_value_filter(file, &url, &api, &bytes) == GIX_CONFIG_DONE && is_text(bytes.at, bytes.len, "d"));
-    CHECK(gix_config_value_filter(file, &url, &others, &bytes) == 9 && gix_config_value_filter(file, &url, &untrusted, &bytes) == 9);
-    CHECK(gix_config_value_filter(file, &no_section, &others, &bytes) == 7);
+    CHECK(gix_config_value_filter(file, &url, &others, &bytes) == GIX_CONFIG_KEY_MISSING && gix_config_value_filter(file, &url, &untrusted, &bytes) == GIX_CONFIG_KEY_MISSING);
+    CHECK(gix_config_value_filter(file, &no_section, &others, &bytes) == GIX_CONFIG_SECTION_MISSING);
     CHECK(gix_config_values_filter(file, &url, &api, &list) == GIX_CONFIG_DONE && gix_config_list_len(&list) == 2);
-    CHECK(gix_config_values_filter(file, &url, &others, &list) == 9 && gix_config_list_len(&list) == 2);
+    CHECK(gix_config_values_filter(file, &url, &others, &list) == GIX_CONFIG_KEY_MISSING && gix_config_list_len(&list) == 2);
     CHECK(gix_config_boolean_filter(file, &bare, &api, &boolean) == GIX_CONFIG_DONE && boolean);
     CHECK(gix_config_boolean_filter(file, &bare, &untrusted, &boolean) == GIX_CONFIG_NOTHING_THERE);
     CHECK(gix_config_integer_filter(file, &n, &all, &integer) == GIX_CONFIG_DONE && integer == 2048);
@@ -117,9 +117,9 @@ static void paths(void)
     CHECK(gix_config_path(&file, &home, &both, &path) == GIX_CONFIG_DONE && is_text(path.at, path.len, "/home/ada/x"));
     CHECK(gix_config_path(&file, &git, &both, &path) == GIX_CONFIG_DONE && is_text(path.at, path.len, "/git/etc"));
     CHECK(gix_config_path(&file, &plain, &none, &path) == GIX_CONFIG_DONE && is_text(path.at, path.len, "/y"));
-    CHECK(gix_config_path(&file, &home, &none, &path) == 12 && gix_config_path(&file, &git, &none, &path) == 12);
-    CHECK(gix_config_path(&file, &user, &both, &path) == 12 && gix_config_path(&file, &empty, &both, &path) == 12);
-    CHECK(gix_config_path(&file, &latin, &both, &path) == 13 && is_text(path.at, path.len, "/y"));
+    CHECK(gix_config_path(&file, &home, &none, &path) == GIX_CONFIG_MISSING_FOLDER && gix_config_path(&file, &git, &none, &path) == GIX_CONFIG_MISSING_FOLDER);
+    CHECK(gix_config_path(&file, &user, &both, &path) == GIX_CONFIG_MISSING_FOLDER && gix_config_path(&file, &empty, &both, &path) == GIX_CONFIG_MISSING_FOLDER);
+    CHECK(gix_config_path(&file, &latin, &both, &path) == GIX_CONFIG_PATH_NOT_UTF8 && is_text(path.at, path.len, "/y"));
     CHECK(gix_config_path(&file, &missing, &both, &path) == GIX_CONFIG_NOTHING_THERE);
     gix_config_bytes_free(&path);
     gix_config_file_close(&file);
@@ -176,7 +176,7 @@ static void layouts(void)
     CHECK(normalize("  # c\n[a]\nk = v\n\n\n\nb", &layout, &laid_out, &place) == GIX_CONFIG_DONE);
     CHECK(is_text(laid_out.at, laid_out.len, "  # c\r\n[a]\r\n  k=v\r\n\r\n  b\r\n"));
     CHECK(place.line == 7 && place.column == 8 && place.offset == 9);
-    CHECK(normalize("[a]\n  = 1\n", &layout, &laid_out, &place) == 1 && place.line == 2 && place.column == 3 && place.offset == 6);
+    CHECK(normalize("[a]\n  = 1\n", &layout, &laid_out, &place) == GIX_CONFIG_UNEXPECTED_TOKEN && place.line == 2 && place.column == 3 && place.offset == 6);
     CHECK(is_text(laid_out.at, laid_out.len, "  # c\r\n[a]\r\n  k=v\r\n\r\n  b\r\n"));
     gix_config_bytes_free(&laid_out);
 }
@@ -195,6 +195,80 @@ static void patterns(void)
     CHECK(matches("", "", false) && !matches("[b-d]", "a", false) && matches("[b-d]", "c", false));
 }
 
+static bool is_key(const gix_config_key *key, const char *section, const char *subsection, const char *name)
+{
+    return is_text(key->section.at, key->section.len, section) && is_text(key->name.at, key->name.len, name) && key->has_subsection == (subsection != NULL)
+        && is_text(key->subsection.at, key->subsection.len, subsection != NULL ? subsection : "");
+}
+
+static void keys(gix_config_file *file)
+{
+    gix_config_key key = key_of("a", "b", "c");
+    gix_config_bytes value = { NULL, 0, NULL };
+    CHECK(key_parse("core", &key) == GIX_CONFIG_NOTHING_THERE && key_parse("", &key) == GIX_CONFIG_NOTHING_THERE && is_key(&key, "a", "b", "c"));
+    CHECK(key_parse("a\xff.k", &key) == GIX_CONFIG_NOT_UTF8 && key_parse("a.b.k\xff", &key) == GIX_CONFIG_NOT_UTF8 && is_key(&key, "a", "b", "c"));
+    CHECK(key_parse("core.editor", &key) == GIX_CONFIG_DONE && is_key(&key, "core", NULL, "editor"));
+    CHECK(gix_config_value(file, &key, &value) == GIX_CONFIG_DONE && is_text(value.at, value.len, "vi"));
+    CHECK(key_parse("REMOTE.or.igin.url", &key) == GIX_CONFIG_DONE && is_key(&key, "REMOTE", "or.igin", "url"));
+    CHECK(gix_config_value(file, &key, &value) == GIX_CONFIG_DONE && is_text(value.at, value.len, "d"));
+    CHECK(key_parse("a..b", &key) == GIX_CONFIG_DONE && is_key(&key, "a", "", "b"));
+    CHECK(key_parse("a.\xff.b", &key) == GIX_CONFIG_DONE && is_key(&key, "a", "\xff", "b"));
+    CHECK(key_parse(".", &key) == GIX_CONFIG_DONE && is_key(&key, "", NULL, "") && key.subsection.at != NULL);
+    gix_config_bytes_free(&value);
+}
+
+static void typed(void)
+{
+    static const char *const truths[] = { "true", "YES", "on", "1", "-7" }, *const untruths[] = { "false", "No", "OFF", "0", "" };
+    bool boolean = false;
+    int64_t integer = 7;
+    for (size_t i = 0; i < sizeof truths / sizeof *truths; i++) {
+        CHECK(boolean_parse(truths[i], &boolean) == GIX_CONFIG_DONE && boolean);
+        CHECK(boolean_parse(untruths[i], &boolean) == GIX_CONFIG_DONE && !boolean);
+    }
+    CHECK(boolean_parse("tru", &boolean) == GIX_CONFIG_BAD_VALUE && !boolean);
+    CHECK(integer_parse("", &integer) == GIX_CONFIG_BAD_VALUE && integer_parse("1 k", &integer) == GIX_CONFIG_BAD_VALUE && integer == 7);
+    CHECK(integer_parse("-3M", &integer) == GIX_CONFIG_DONE && integer == -3 * 1024 * 1024);
+    CHECK(integer_parse("9223372036854775807", &integer) == GIX_CONFIG_DONE && integer == INT64_MAX);
+    CHECK(integer_parse("9007199254740992k", &integer) == GIX_CONFIG_BAD_VALUE && integer == INT64_MAX);
+}
+
+/* A text that comes from a file of the user, and one of an untrusted place without a path. */
+static void parsed_as(void)
+{
+    gix_config_file file = { NULL };
+    gix_config_list list = { NULL };
+    gix_config_place place = { 0, 0, 0 };
+    gix_config_origin origin = { 7, 7, 7, false };
+    gix_config_bytes bytes = { NULL, 0, NULL };
+    gix_config_listed_section section;
+    gix_config_metadata user = { true, text_of("/home/ada/.gitconfig"), GIX_CONFIG_SOURCE_USER, GIX_CONFIG_TRUST_FULL };
+    gix_config_metadata option = { false, text_of("\xff"), GIX_CONFIG_SOURCE_CLI, GIX_CONFIG_TRUST_REDUCED };
+    CHECK(parse_as("# c\n[include]\n\tpath = x\n", &user, false, &file, &place) == GIX_CONFIG_DONE);
+    CHECK(gix_config_file_origin(&file, &origin, &bytes) == GIX_CONFIG_DONE && is_text(bytes.at, bytes.len, "/home/ada/.gitconfig"));
+    CHECK(origin.source == GIX_CONFIG_SOURCE_USER && origin.level == 0 && origin.trust == GIX_CONFIG_TRUST_FULL && origin.has_path);
+    CHECK(gix_config_file_text(&file, &bytes) == GIX_CONFIG_DONE && is_text(bytes.at, bytes.len, "# c\n[include]\n\tpath = x\n"));
+    CHECK(parse_as("# c\n[a]\n\tk = v\n", &option, true, &file, &place) == GIX_CONFIG_DONE);
+    CHECK(gix_config_sections(&file, &list) == GIX_CONFIG_DONE && gix_config_list_section(&list, 0, &section) == GIX_CONFIG_DONE);
+    CHECK(section.source == GIX_CONFIG_SOURCE_CLI && section.trust == GIX_CONFIG_TRUST_REDUCED && section.level == 0 && !section.has_path);
+    CHECK(gix_config_file_text(&file, &bytes) == GIX_CONFIG_DONE && bytes.len != 0 && memchr(bytes.at, '#', bytes.len) == NULL);
+    CHECK(parse_as("[a]\n\tk = \"\n", &user, false, &file, &place) == GIX_CONFIG_UNEXPECTED_TOKEN && place.line == 2);
+    CHECK(gix_config_file_origin(&file, &origin, &bytes) == GIX_CONFIG_DONE && origin.source == GIX_CONFIG_SOURCE_CLI);
+    gix_config_list_close(&list);
+    gix_config_bytes_free(&bytes);
+    gix_config_file_close(&file);
+}
+
+static void version(void)
+{
+    gix_config_text text = { NULL, 0 };
+    char parts[64];
+    gix_config_version(&text);
+    CHECK(is_text(text.at, text.len, GIX_CONFIG_VERSION));
+    snprintf(parts, sizeof parts, "%d.%d.%d", GIX_CONFIG_VERSION_MAJOR, GIX_CONFIG_VERSION_MINOR, GIX_CONFIG_VERSION_PATCH);
+    CHECK(strcmp(parts, GIX_CONFIG_VERSION) == 0);
+}
+
 static bool ends_with(const gix_config_bytes *text, const char *words)
 {
     size_t len = strlen(words);
@@ -208,27 +282,27 @@ static void edits(gix_config_file *file)
     bool had = false;
     CHECK(set(file, &editor, "emacs", &had, &old) == GIX_CONFIG_DONE && had && is_text(old.at, old.len, "vi"));
     CHECK(set(file, &name, " x", &had, &old) == GIX_CONFIG_DONE && !had);
-    CHECK(set(file, &wrong, "x", &had, &old) == 6);
+    CHECK(set(file, &wrong, "x", &had, &old) == GIX_CONFIG_INVALID_VALUE_NAME);
 
     gix_config_key url = key_of("remote", "or.igin", "url"), none = key_of("remote", "or.igin", "none"), nowhere = key_of("nope", NULL, "x");
     CHECK(push(file, &url, "e f") == GIX_CONFIG_DONE && push(file, &none, NULL) == GIX_CONFIG_DONE);
     CHECK(gix_config_file_text(file, &text) == GIX_CONFIG_DONE);
     CHECK(ends_with(&text, "\turl = d\n\turl = e f\n\tnone\n[user]\n\tname = \" x\"\n"));
-    CHECK(push(file, &nowhere, "v") == 7 && push(file, &wrong, "v") == 6);
+    CHECK(push(file, &nowhere, "v") == GIX_CONFIG_SECTION_MISSING && push(file, &wrong, "v") == GIX_CONFIG_INVALID_VALUE_NAME);
     CHECK(gix_config_remove_value(file, &url, &old) == GIX_CONFIG_DONE && is_text(old.at, old.len, "e f"));
     CHECK(gix_config_remove_value(file, &none, &old) == GIX_CONFIG_DONE && old.len == 0);
     CHECK(gix_config_remove_value(file, &none, &old) == GIX_CONFIG_NOTHING_THERE && old.len == 0);
     CHECK(gix_config_file_text(file, &text) == GIX_CONFIG_DONE && ends_with(&text, "\turl = d\n[user]\n\tname = \" x\"\n"));
-    CHECK(gix_config_remove_value(file, &nowhere, &old) == 7);
+    CHECK(gix_config_remove_value(file, &nowhere, &old) == GIX_CONFIG_SECTION_MISSING);
 
     gix_config_section remote = section_of("remote", "or.igin"), user = section_of("user", NULL), me = section_of("me", "a\"b"), bad = section_of("a b", NULL);
     CHECK(gix_config_section_remove(file, &remote) == GIX_CONFIG_DONE);
     CHECK(gix_config_section_remove(file, &remote) == GIX_CONFIG_NOTHING_THERE);
     CHECK(gix_config_section_rename(file, &user, &me) == GIX_CONFIG_DONE);
-    CHECK(gix_config_section_rename(file, &user, &me) == 7);
-    CHECK(gix_config_section_rename(file, &me, &bad) == 4);
+    CHECK(gix_config_section_rename(file, &user, &me) == GIX_CONFIG_SECTION_MISSING);
+    CHECK(gix_config_section_rename(file, &me, &bad) == GIX_CONFIG_INVALID_SECTION_NAME);
     CHECK(gix_config_section_new(file, &user) == GIX_CONFIG_DONE);
-    CHECK(gix_config_section_new(file, &bad) == 4);
+    CHECK(gix_config_section_new(file, &bad) == GIX_CONFIG_INVALID_SECTION_NAME);
 
     CHECK(gix_config_file_text(file, &text) == GIX_CONFIG_DONE);
     CHECK(is_text(text.at, text.len, "# mine\n[core]\n\teditor = emacs ; was ed\n\tbare\n\tn = 2k\n[me \"a\\\"b\"]\n\tname = \" x\"\n[user]\n"));
@@ -250,9 +324,9 @@ static void texts_alone(void)
     CHECK(gix_config_list_at(&list, 1, &text) == GIX_CONFIG_DONE && is_text(text.at, text.len, "d"));
     CHECK(text_values(TEXT, &none, &list, &place) == GIX_CONFIG_NOTHING_THERE && gix_config_list_len(&list) == 2);
     CHECK(place.line == 7 && place.column == 8 && place.offset == 9);
-    CHECK(text_value("[core]\n  = 1\n", &url, &value, &place) == 1);
+    CHECK(text_value("[core]\n  = 1\n", &url, &value, &place) == GIX_CONFIG_UNEXPECTED_TOKEN);
     CHECK(place.line == 2 && place.column == 3 && place.offset == 9);
-    CHECK(text_values("[core]\n\tk = \"\n", &url, &list, &place) == 1 && place.line == 2);
+    CHECK(text_values("[core]\n\tk = \"\n", &url, &list, &place) == GIX_CONFIG_UNEXPECTED_TOKEN && place.line == 2);
     gix_config_list_close(&list);
     gix_config_bytes_free(&value);
 }
@@ -276,7 +350,7 @@ static void refused_text(gix_config_file *file)
 {
     gix_config_place place = { 0, 0, 0 };
     gix_config_bytes text = { NULL, 0, NULL };
-    CHECK(parse("[a]\n\tk = v\n  = 1\n", false, file, &place) == 1);
+    CHECK(parse("[a]\n\tk = v\n  = 1\n", false, file, &place) == GIX_CONFIG_UNEXPECTED_TOKEN);
     CHECK(place.line == 3 && place.offset == 13 && place.column == 3);
     CHECK(gix_config_file_text(file, &text) == GIX_CONFIG_DONE && text.len != 0);
     gix_config_bytes_free(&text);
@@ -294,6 +368,7 @@ int main(void)
     entries(&file);
     sections(&file);
     filters(&file);
+    keys(&file);
     edits(&file);
     CHECK(gix_config_file_text(&other_file, &text) == GIX_CONFIG_DONE && is_text(text.at, text.len, TEXT));
     look_ups(&other_file);
@@ -306,6 +381,9 @@ int main(void)
     compared();
     layouts();
     patterns();
+    typed();
+    parsed_as();
+    version();
     gix_config_bytes_free(&text);
     gix_config_file_close(&file);
     gix_config_file_close(&other_file);

@@ -44,6 +44,26 @@ static inline uint32_t parse(const char *words, bool lossy, gix_config_file *fil
     return gix_config_file_parse((const uint8_t *)words, strlen(words), lossy, file, place);
 }
 
+static inline uint32_t parse_as(const char *words, const gix_config_metadata *meta, bool lossy, gix_config_file *file, gix_config_place *place)
+{
+    return gix_config_file_parse_as((const uint8_t *)words, strlen(words), meta, lossy, file, place);
+}
+
+static inline uint32_t key_parse(const char *words, gix_config_key *key)
+{
+    return gix_config_key_parse((const uint8_t *)words, strlen(words), key);
+}
+
+static inline uint32_t boolean_parse(const char *words, bool *value)
+{
+    return gix_config_boolean_parse((const uint8_t *)words, strlen(words), value);
+}
+
+static inline uint32_t integer_parse(const char *words, int64_t *value)
+{
+    return gix_config_integer_parse((const uint8_t *)words, strlen(words), value);
+}
+
 static inline uint32_t set(gix_config_file *file, const gix_config_key *key, const char *value, bool *had, gix_config_bytes *old)
 {
     return gix_config_set_value(file, key, (const uint8_t *)value, strlen(value), had, old);

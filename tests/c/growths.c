@@ -25,6 +25,11 @@ static int calls(bool lossy)
     bool had = false;
     gix_config_layout_default(&layout);
     int count = refused(text_value(TEXT, &url, &bytes, &place)) + refused(text_values(TEXT, &url, &list, &place));
+    bool boolean = false;
+    int64_t integer = 0;
+    gix_config_metadata user = { true, text_of("/home/ada/.gitconfig"), GIX_CONFIG_SOURCE_USER, GIX_CONFIG_TRUST_FULL };
+    count += refused(boolean_parse("yes", &boolean)) + refused(integer_parse("2k", &integer));
+    count += refused(parse_as(TEXT, &user, lossy, &other_file, &place));
     count += refused(parse(TEXT, lossy, &file, &place));
     if (file.at != NULL) {
         count += refused(gix_config_value(&file, &editor, &bytes));

@@ -27,7 +27,7 @@ static void lines(void)
     CHECK(gix_config_push_below_last_at(&file, 1, &n) == GIX_CONFIG_DONE && gix_config_push_newline_at(&file, 1) == GIX_CONFIG_DONE);
     CHECK(has_text(&file, "[a]\n\tk = 1\n\tn = \"a # b\"\n# of b\n[b]\n\tn = \"a # b\"\n# alone\n\n"));
     CHECK(gix_config_push_below_last_at(&file, 2, &n) == GIX_CONFIG_NOTHING_THERE && gix_config_push_newline_at(&file, 2) == GIX_CONFIG_NOTHING_THERE);
-    CHECK(gix_config_push_below_last_at(&file, 0, &bad) == 6 && gix_config_push_below_last_at(&file, 0, &no_text) == GIX_CONFIG_NOT_UTF8);
+    CHECK(gix_config_push_below_last_at(&file, 0, &bad) == GIX_CONFIG_INVALID_VALUE_NAME && gix_config_push_below_last_at(&file, 0, &no_text) == GIX_CONFIG_NOT_UTF8);
     CHECK(has_text(&file, "[a]\n\tk = 1\n\tn = \"a # b\"\n# of b\n[b]\n\tn = \"a # b\"\n# alone\n\n"));
     CHECK(parse("[a]\r\n", false, &file, &place) == GIX_CONFIG_DONE && gix_config_push_newline_at(&file, 0) == GIX_CONFIG_DONE);
     CHECK(has_text(&file, "[a]\r\n\r\n"));
@@ -63,11 +63,11 @@ static void existing(void)
     const uint8_t *v = (const uint8_t *)"v";
     CHECK(parse("[a]\n\tk = 1\n\tk = 2 ; two\n[a]\n", false, &file, &place) == GIX_CONFIG_DONE);
     CHECK(gix_config_set_existing_value(&file, &k, v, 1) == GIX_CONFIG_DONE && has_text(&file, "[a]\n\tk = 1\n\tk = v ; two\n[a]\n"));
-    CHECK(gix_config_set_existing_value(&file, &none, v, 1) == 9 && gix_config_set_existing_value(&file, &other, v, 1) == 7);
-    CHECK(gix_config_set_existing_value(&file, &sub, v, 1) == 8 && gix_config_set_existing_value(&file, &bad, v, 1) == 6);
+    CHECK(gix_config_set_existing_value(&file, &none, v, 1) == GIX_CONFIG_KEY_MISSING && gix_config_set_existing_value(&file, &other, v, 1) == GIX_CONFIG_SECTION_MISSING);
+    CHECK(gix_config_set_existing_value(&file, &sub, v, 1) == GIX_CONFIG_SUBSECTION_MISSING && gix_config_set_existing_value(&file, &bad, v, 1) == GIX_CONFIG_INVALID_VALUE_NAME);
     CHECK(gix_config_set_existing_value(&file, &no_text, v, 1) == GIX_CONFIG_NOT_UTF8);
-    CHECK(gix_config_set_existing_values(&file, &none, values, 3) == 9 && gix_config_set_existing_values(&file, &other, values, 3) == 7);
-    CHECK(gix_config_set_existing_values(&file, &sub, values, 3) == 8 && gix_config_set_existing_values(&file, &bad, values, 3) == 6);
+    CHECK(gix_config_set_existing_values(&file, &none, values, 3) == GIX_CONFIG_KEY_MISSING && gix_config_set_existing_values(&file, &other, values, 3) == GIX_CONFIG_SECTION_MISSING);
+    CHECK(gix_config_set_existing_values(&file, &sub, values, 3) == GIX_CONFIG_SUBSECTION_MISSING && gix_config_set_existing_values(&file, &bad, values, 3) == GIX_CONFIG_INVALID_VALUE_NAME);
     CHECK(gix_config_set_existing_values(&file, &no_text, values, 3) == GIX_CONFIG_NOT_UTF8);
     CHECK(has_text(&file, "[a]\n\tk = 1\n\tk = v ; two\n[a]\n"));
     CHECK(gix_config_set_existing_values(&file, &k, values, 3) == GIX_CONFIG_DONE && has_text(&file, "[a]\n\tk = x\n\tk = \" y\" ; two\n[a]\n"));
@@ -109,15 +109,21 @@ static void origins(void)
     CHECK(parse("[a]\n", false, &file, &place) == GIX_CONFIG_DONE && gix_config_file_origin(&file, &origin, &path) == GIX_CONFIG_DONE);
     CHECK(origin.source == GIX_CONFIG_SOURCE_API && origin.trust == GIX_CONFIG_TRUST_FULL && !origin.has_path && is_text(path.at, path.len, "/a"));
 
-    /* Where a text that was told is refused: the load leaves the path that it asked for last. */
+    /* Where a text that was told is refused: the load hands its path out. */
     CHECK(gix_config_told_new(&told) == GIX_CONFIG_DONE && tell(&told, "/a", "[include]\n\tpath = b\n") == GIX_CONFIG_DONE);
     CHECK(gix_config_load_told(&told, &load, &file, &asked) == GIX_CONFIG_NOT_TOLD && tell(&told, "/b", "[x]\n\tk = \"v\n") == GIX_CONFIG_DONE);
-    CHECK(gix_config_load_told(&told, &load, &file, &asked) == 1 && is_text(asked.at, asked.len, "/b"));
-    CHECK(gix_config_told_place(&told, asked.at, asked.len, &place) == 1 && place.line == 2 && place.column == 6 && place.offset == 9);
+    CHECK(gix_config_load_told(&told, &load, &file, &asked) == GIX_CONFIG_UNEXPECTED_TOKEN && is_text(asked.at, asked.len, "/b"));
+    CHECK(gix_config_told_place(&told, asked.at, asked.len, &place) == GIX_CONFIG_UNEXPECTED_TOKEN && place.line == 2 && place.column == 6 && place.offset == 9);
     CHECK(place_in(&told, "/a", &place) == GIX_CONFIG_DONE && place.line == 2 && place.column == 6 && place.offset == 9);
     CHECK(place_in(&told, "/c", &place) == GIX_CONFIG_NOTHING_THERE && place_in(&told, "\xff", &place) == GIX_CONFIG_NOT_UTF8);
     CHECK(gix_config_told_missing(&told, (const uint8_t *)"/b", 2) == GIX_CONFIG_DONE && place_in(&told, "/b", &place) == GIX_CONFIG_NOTHING_THERE);
     CHECK(place.line == 2 && place.column == 6 && place.offset == 9);
+
+    /* Also where another file was asked for last. */
+    CHECK(tell(&told, "/a", "[include]\n\tpath = c\n\tpath = b\n") == GIX_CONFIG_DONE && tell(&told, "/b", "[x]\n\tk = \"v\n") == GIX_CONFIG_DONE);
+    CHECK(gix_config_load_told(&told, &load, &file, &asked) == GIX_CONFIG_NOT_TOLD && is_text(asked.at, asked.len, "/c"));
+    CHECK(tell(&told, "/c", "[y]\n") == GIX_CONFIG_DONE && gix_config_load_told(&told, &load, &file, &asked) == GIX_CONFIG_UNEXPECTED_TOKEN && is_text(asked.at, asked.len, "/b"));
+    CHECK(tell(&told, "/a", "[x]\n\tk = \"v\n") == GIX_CONFIG_DONE && gix_config_load_told(&told, &load, &file, &asked) == GIX_CONFIG_UNEXPECTED_TOKEN && is_text(asked.at, asked.len, "/a"));
     gix_config_told_close(&told);
     CHECK(place_in(&told, "/a", &place) == GIX_CONFIG_WRONG_HANDLE);
     gix_config_bytes_free(&asked);

@@ -119,6 +119,12 @@ static void names_that_are_no_text(void)
     CHECK(gix_config_path(&file, &subsection, &folders, &bytes) == GIX_CONFIG_DONE && is_text(bytes.at, bytes.len, "2"));
     CHECK(text_value("[a]", &section, &bytes, &place) == GIX_CONFIG_NOT_UTF8 && bytes.len == 1);
     CHECK(text_values("[a]", &name, &list, &place) == GIX_CONFIG_NOT_UTF8 && list.at == NULL);
+    gix_config_metadata wrong_path = { true, text_of("\xff"), 3, GIX_CONFIG_TRUST_FULL }, no_source = { false, text_of(""), 3, GIX_CONFIG_TRUST_FULL };
+    gix_config_metadata no_trust = { true, text_of("/a"), GIX_CONFIG_SOURCE_API, 2 };
+    CHECK(parse_as("[b]", &wrong_path, false, &file, &place) == GIX_CONFIG_NOT_UTF8);
+    CHECK(parse_as("[b]", &no_source, false, &file, &place) == GIX_CONFIG_NO_SUCH_NUMBER);
+    CHECK(parse_as("[b]", &no_trust, false, &file, &place) == GIX_CONFIG_NO_SUCH_NUMBER);
+    CHECK(gix_config_file_text(&file, &bytes) == GIX_CONFIG_DONE && is_text(bytes.at, bytes.len, "[a]\n\tk = 1\n[a \"\xff\"]\n\tk = 2\n"));
     gix_config_bytes_free(&bytes);
     gix_config_bytes_free(&bytes);
     gix_config_file_close(&file);
@@ -132,7 +138,7 @@ static void empty_texts(void)
     gix_config_key key = key_of("", "", "");
     CHECK(parse("", false, &file, &place) == GIX_CONFIG_DONE);
     CHECK(gix_config_file_text(&file, &bytes) == GIX_CONFIG_DONE && bytes.len == 0);
-    CHECK(gix_config_value(&file, &key, &bytes) == 7);
+    CHECK(gix_config_value(&file, &key, &bytes) == GIX_CONFIG_SECTION_MISSING);
     gix_config_list list = { NULL };
     CHECK(gix_config_sections(&file, &list) == GIX_CONFIG_DONE && list.at != NULL && gix_config_list_len(&list) == 0);
     CHECK(gix_config_section_entries(&file, 0, &list) == GIX_CONFIG_NOTHING_THERE);

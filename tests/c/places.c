@@ -30,14 +30,14 @@ static void lines(gix_config_file *file)
     CHECK(gix_config_push_line_at(file, 0, &plain) == GIX_CONFIG_DONE && gix_config_push_line_at(file, 1, &said) == GIX_CONFIG_DONE);
     CHECK(gix_config_push_line_at(file, 1, &bare) == GIX_CONFIG_DONE);
     CHECK(has_text(file, "[a]\n\tk = 1\n\tn = new\n[b]\n  x = 1 ; one\n  x = 2\n  c = v # why\n  bare\n[a]\n\tk = 3\n"));
-    CHECK(gix_config_push_line_at(file, 0, &wrong) == 6 && gix_config_push_line_at(file, 0, &latin) == GIX_CONFIG_NOT_UTF8);
+    CHECK(gix_config_push_line_at(file, 0, &wrong) == GIX_CONFIG_INVALID_VALUE_NAME && gix_config_push_line_at(file, 0, &latin) == GIX_CONFIG_NOT_UTF8);
     CHECK(gix_config_push_line_at(file, 3, &plain) == GIX_CONFIG_NOTHING_THERE);
 
     gix_config_assigned first = { text_of("K"), text_of("9") }, other = { text_of("new"), text_of(" s") }, refused = { text_of("a b"), text_of("") }, no_text = { text_of("\xff"), text_of("") };
     CHECK(gix_config_set_value_at(file, 0, &first, &had, &old) == GIX_CONFIG_DONE && had && is_text(old.at, old.len, "1"));
     CHECK(gix_config_set_value_at(file, 2, &other, &had, &old) == GIX_CONFIG_DONE && !had && is_text(old.at, old.len, "1"));
     CHECK(has_text(file, "[a]\n\tk = 9\n\tn = new\n[b]\n  x = 1 ; one\n  x = 2\n  c = v # why\n  bare\n[a]\n\tk = 3\n\tnew = \" s\"\n"));
-    CHECK(gix_config_set_value_at(file, 0, &refused, &had, &old) == 6 && gix_config_set_value_at(file, 0, &no_text, &had, &old) == GIX_CONFIG_NOT_UTF8);
+    CHECK(gix_config_set_value_at(file, 0, &refused, &had, &old) == GIX_CONFIG_INVALID_VALUE_NAME && gix_config_set_value_at(file, 0, &no_text, &had, &old) == GIX_CONFIG_NOT_UTF8);
     CHECK(gix_config_set_value_at(file, 3, &first, &had, &old) == GIX_CONFIG_NOTHING_THERE && !had);
 
     CHECK(remove_at(file, 1, "X", &old) == GIX_CONFIG_DONE && is_text(old.at, old.len, "2"));
@@ -60,7 +60,7 @@ static void whole(gix_config_file *file)
     gix_config_listed_section section;
     gix_config_section other = section_of("c", "s"), bad = section_of("a b", NULL), line = section_of("c", "s\n"), latin = section_of("\xff", NULL);
     CHECK(gix_config_section_rename_at(file, 2, &other) == GIX_CONFIG_DONE && has_text(file, "[a]\n\tk = 1\n[b]\n  x = 1 ; one\n  x = 2\n[c \"s\"]\n\tk = 3\n"));
-    CHECK(gix_config_section_rename_at(file, 0, &bad) == 4 && gix_config_section_rename_at(file, 0, &line) == 5);
+    CHECK(gix_config_section_rename_at(file, 0, &bad) == GIX_CONFIG_INVALID_SECTION_NAME && gix_config_section_rename_at(file, 0, &line) == GIX_CONFIG_INVALID_SUBSECTION);
     CHECK(gix_config_section_rename_at(file, 0, &latin) == GIX_CONFIG_NOT_UTF8 && gix_config_section_rename_at(file, 3, &other) == GIX_CONFIG_NOTHING_THERE);
     CHECK(gix_config_section_set_trust_at(file, 1, GIX_CONFIG_TRUST_REDUCED) == GIX_CONFIG_DONE);
     CHECK(gix_config_section_set_trust_at(file, 1, 2) == GIX_CONFIG_NO_SUCH_NUMBER && gix_config_section_set_trust_at(file, 3, 1) == GIX_CONFIG_NOTHING_THERE);

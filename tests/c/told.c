@@ -71,16 +71,16 @@ static void refused(void)
     gix_config_load load = { text_of("/a"), GIX_CONFIG_SOURCE_USER, GIX_CONFIG_TRUST_REDUCED, in_repository() };
     CHECK(parse("[kept]\n", false, &file, &place) == GIX_CONFIG_DONE);
     CHECK(gix_config_told_new(&told) == GIX_CONFIG_DONE && tell_missing(&told, "/a") == GIX_CONFIG_DONE);
-    CHECK(gix_config_load_told(&told, &load, &file, &path) == 21 && is_text(path.at, path.len, "/a"));
+    CHECK(gix_config_load_told(&told, &load, &file, &path) == GIX_CONFIG_FILE_NOT_READ && is_text(path.at, path.len, "/a"));
     CHECK(tell(&told, "/a", "[include]\n\tpath = /b\n") == GIX_CONFIG_DONE && tell_fault(&told, "/b", false) == GIX_CONFIG_DONE);
-    CHECK(gix_config_load_told(&told, &load, &file, &path) == 19 && is_text(path.at, path.len, "/b"));
-    CHECK(tell_fault(&told, "/b", true) == GIX_CONFIG_DONE && gix_config_load_told(&told, &load, &file, &path) == 20);
-    CHECK(tell(&told, "/b", "[x\n") == GIX_CONFIG_DONE && gix_config_load_told(&told, &load, &file, &path) == 1);
-    CHECK(tell(&told, "/b", "[include]\n\tpath = a\n") == GIX_CONFIG_DONE && gix_config_load_told(&told, &load, &file, &path) == 15);
+    CHECK(gix_config_load_told(&told, &load, &file, &path) == GIX_CONFIG_INCLUDE_NOT_OPENED && is_text(path.at, path.len, "/b"));
+    CHECK(tell_fault(&told, "/b", true) == GIX_CONFIG_DONE && gix_config_load_told(&told, &load, &file, &path) == GIX_CONFIG_INCLUDE_NOT_READ && is_text(path.at, path.len, "/b"));
+    CHECK(tell(&told, "/b", "[x\n") == GIX_CONFIG_DONE && gix_config_load_told(&told, &load, &file, &path) == GIX_CONFIG_UNEXPECTED_TOKEN);
+    CHECK(tell(&told, "/b", "[include]\n\tpath = a\n") == GIX_CONFIG_DONE && gix_config_load_told(&told, &load, &file, &path) == GIX_CONFIG_INCLUDE_DEPTH_EXCEEDED);
     CHECK(tell(&told, "/b", "[include]\n\tpath = ~bob/x\n") == GIX_CONFIG_DONE && gix_config_load_told(&told, &load, &file, &path) == GIX_CONFIG_DONE);
     CHECK(parse("[kept]\n", false, &file, &place) == GIX_CONFIG_DONE);
     load.includes.strict = true;
-    CHECK(gix_config_load_told(&told, &load, &file, &path) == 12);
+    CHECK(gix_config_load_told(&told, &load, &file, &path) == GIX_CONFIG_MISSING_FOLDER);
     CHECK(tell(&told, "/b", "[c] ; said\n") == GIX_CONFIG_DONE);
     load.includes.lossy = true;
     CHECK(gix_config_load_told(&told, &load, &file, &path) == GIX_CONFIG_DONE && gix_config_file_text(&file, &text) == GIX_CONFIG_DONE);
@@ -124,7 +124,7 @@ static void resolved(void)
     CHECK(is_text(text.at, text.len, "[include]\n\tpath = /b\n\tpath = /c\n[y]\n\tk = 2 ; two\n[z]\n[x]\n\tk = 1\n"));
 
     CHECK(parse("[include]\n\tpath = b\n", false, &file, &place) == GIX_CONFIG_DONE);
-    CHECK(gix_config_resolve_includes_told(&told, &file, &includes, &path) == 16);
+    CHECK(gix_config_resolve_includes_told(&told, &file, &includes, &path) == GIX_CONFIG_MISSING_CONFIG_PATH);
     CHECK(parse("[include]\n\tpath = /b\n", false, &file, &place) == GIX_CONFIG_DONE);
     includes.branch = text_of("\xff");
     CHECK(gix_config_resolve_includes_told(&told, &file, &includes, &path) == GIX_CONFIG_NOT_UTF8);

@@ -5,11 +5,16 @@
     >>> config["remote", "origin", "url"]
     'https://example.org/a.git'
 """
-from gixcfg._config import Config, Difference, Entry, Includes, Key, Origin, Section, SectionEditor, Source
+from gixcfg._config import Config, Difference
 from gixcfg._errors import ConfigError, IncludeError, KeyNotFound, Locked, NotOfType, ParseError, Refused, VariableError
 from gixcfg._layout import normalize
+from gixcfg._names import Entry, Key, Name
+from gixcfg._section import SectionEditor, Value
+from gixcfg._sources import Includes, Origin, Section, Source
+
+__version__ = "0.1.0"
 
 __all__ = [
-    "Config", "ConfigError", "Difference", "Entry", "IncludeError", "Includes", "Key", "KeyNotFound", "Locked", "NotOfType", "Origin", "ParseError",
-    "Refused", "Section", "SectionEditor", "Source", "VariableError", "normalize",
+    "Config", "ConfigError", "Difference", "Entry", "IncludeError", "Includes", "Key", "KeyNotFound", "Locked", "Name", "NotOfType", "Origin",
+    "ParseError", "Refused", "Section", "SectionEditor", "Source", "Value", "VariableError", "normalize",
 ]

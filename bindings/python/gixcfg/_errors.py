@@ -6,9 +6,13 @@ class ConfigError(Exception):
     """Something is refused: `number` is that of docs/refusals.md, `reason` says it in words."""
 
     def __init__(self, number: int, reason: str) -> None:
-        super().__init__(reason)
+        # (all that it is made of, so that it can be pickled)
+        super().__init__(number, reason)
         self.number = number
         self.reason = reason
+
+    def __str__(self) -> str:
+        return self.reason
 
 
 class ParseError(ConfigError, ValueError):
@@ -16,6 +20,7 @@ class ParseError(ConfigError, ValueError):
 
     def __init__(self, number: int, reason: str, line: int, column: int, offset: int) -> None:
         super().__init__(number, reason)
+        self.args = (number, reason, line, column, offset)
         self.line = line
         self.column = column
         self.offset = offset
@@ -29,16 +34,13 @@ class ParseError(ConfigError, ValueError):
 class KeyNotFound(ConfigError, KeyError):
     """There is no such section, subsection or value (7, 8, 9)."""
 
-    def __str__(self) -> str:
-        return self.reason
-
 
 class NotOfType(ConfigError, ValueError):
     """The value is there, and is no boolean or no integer (11), or no path that can be made out (12, 13, 14)."""
 
 
 class Refused(ConfigError, ValueError):
-    """A name or a value can't be written into a file (3, 4, 5, 6), or a name is not UTF-8 (101)."""
+    """A name or a value can't be written into a file (3, 4, 5, 6), a name is not UTF-8 (101), or the `Config` was closed (102)."""
 
 
 class IncludeError(ConfigError):

@@ -2,31 +2,53 @@
 import os
 from typing import Callable, Optional
 
-from gixcfg import _library as c
+from gixcfg import _calls as c
+from gixcfg._library import LIBRARY, bytes_at
+
+# Tells what is at a path, and returns the answer.
+Teller = Callable[[c.Told, bytes], int]
 
 
-def _tell(told: c.Handle, path: bytes) -> int:
-    """Tells what is at a path on the disk. What is no file, as a folder, is missing. Returns the answer."""
+def tell_missing(told: c.Told, path: bytes) -> int:
+    """Tells that nothing is at a path, so that an include of it is left out."""
+    return int(LIBRARY.gix_config_told_missing(told, path, len(path)))
+
+
+def tell_text(told: c.Told, path: bytes, text: bytes) -> int:
+    return int(LIBRARY.gix_config_told_text(told, path, len(path), text, len(text)))
+
+
+def tell_from_disk(told: c.Told, path: bytes) -> int:
+    """Tells what is at a path on the disk. What is no file, as a folder, is missing."""
     if not os.path.isfile(path):
-        return int(c.LIBRARY.gix_config_told_missing(told, path, len(path)))
+        return tell_missing(told, path)
     try:
         file = open(path, "rb")
     except OSError:
-        return int(c.LIBRARY.gix_config_told_fault(told, path, len(path), False))
+        return int(LIBRARY.gix_config_told_fault(told, path, len(path), False))
     with file:
         try:
             text = file.read()
         except OSError:
-            return int(c.LIBRARY.gix_config_told_fault(told, path, len(path), True))
-    return int(c.LIBRARY.gix_config_told_text(told, path, len(path), text, len(text)))
+            return int(LIBRARY.gix_config_told_fault(told, path, len(path), True))
+    return tell_text(told, path, text)
 
 
-def _tell_variable(told: c.Handle, name: bytes) -> int:
+def alone(text: bytes) -> Teller:
+    """Tells the text of the file that is asked for first, and nothing of those that it includes."""
+    texts = [text]
+
+    def tell(told: c.Told, path: bytes) -> int:
+        return tell_text(told, path, texts.pop()) if texts else tell_missing(told, path)
+    return tell
+
+
+def tell_variable(told: c.Told, name: bytes) -> int:
     """Tells what a variable of the process is set to, if it is. Returns the answer."""
     value = os.environb.get(name)
     if value is None:
-        return int(c.LIBRARY.gix_config_told_no_variable(told, name, len(name)))
-    return int(c.LIBRARY.gix_config_told_variable(told, name, len(name), value, len(value)))
+        return int(LIBRARY.gix_config_told_no_variable(told, name, len(name)))
+    return int(LIBRARY.gix_config_told_variable(told, name, len(name), value, len(value)))
 
 
 class Asked:
@@ -34,39 +56,35 @@ class Asked:
 
     number: int
     """What the call answers at last."""
-    path: bytes
-    """The file that was asked for last."""
     place: Optional[c.Place]
     """Where its text can't be read on, if the call is refused for that."""
     about: bytes
-    """The file or the variable that the call named last."""
+    """The file or the variable that the call named last: what it asked for, or what it is refused for."""
 
-    def __init__(self, call: Callable[[c.Handle, c.Block], int]) -> None:
-        told, asked = c.Handle(), c.Block()
-        self.path, self.place, self.about = b"", None, b""
+    def __init__(self, call: Callable[[c.Told, c.Bytes], int], tell: Teller = tell_from_disk) -> None:
+        told, asked = c.Told(), c.Bytes()
+        self.place, self.about = None, b""
         try:
-            self.number = c.LIBRARY.gix_config_told_new(told)
+            self.number = LIBRARY.gix_config_told_new(told)
             while self.number == c.DONE:
                 self.number = call(told, asked)
-                self.about = c.bytes_at(asked)
+                self.about = bytes_at(asked)
                 if self.number == c.NOT_TOLD:
-                    self.path = self.about
-                    self.number = _tell(told, self.path)
+                    self.number = tell(told, self.about)
                 elif self.number == c.VARIABLE_NOT_TOLD:
-                    self.number = _tell_variable(told, self.about)
+                    self.number = tell_variable(told, self.about)
                 else:
                     break
             if self.number in (1, 2):
                 self._find_place(told)
         finally:
-            c.LIBRARY.gix_config_told_close(told)
-            c.LIBRARY.gix_config_bytes_free(asked)
+            LIBRARY.gix_config_told_close(told)
+            LIBRARY.gix_config_bytes_free(asked)
 
-    def _find_place(self, told: c.Handle) -> None:
-        """Finds where the text can't be read on: that of the file that was told last, since those before it were read before it was asked
-        for."""
+    def _find_place(self, told: c.Told) -> None:
+        """Finds where the text of the file that the call named can't be read on."""
         place = c.Place()
-        number = c.LIBRARY.gix_config_told_place(told, self.path, len(self.path), place)
+        number = LIBRARY.gix_config_told_place(told, self.about, len(self.about), place)
         if number == self.number:
             self.place = place
         elif number == c.OUT_OF_MEMORY:

@@ -1,34 +1,54 @@
 """Texts that are laid out."""
-from typing import AnyStr, Optional
+from typing import AnyStr, Optional, Tuple
 
-from gixcfg import _library as c
-from gixcfg._config import _decoded, _encoded, _refuse_text
+from gixcfg import _calls as c
+from gixcfg._library import LIBRARY
+from gixcfg._names import decoded, encoded, refuse_text, taken
 
 
 def _laid_out(text: bytes, layout: c.Layout) -> bytes:
-    block, place = c.Block(), c.Place()
-    number = c.LIBRARY.gix_config_normalize(text, len(text), layout, block, place)
+    block, place = c.Bytes(), c.Place()
+    number = LIBRARY.gix_config_normalize(text, len(text), layout, block, place)
     if number != c.DONE:
-        _refuse_text(number, place)
-    try:
-        return c.bytes_at(block)
-    finally:
-        c.LIBRARY.gix_config_bytes_free(block)
+        refuse_text(number, place)
+    return taken(block)
 
 
-def normalize(text: AnyStr, *, indent: str = "\t", newline: Optional[str] = None) -> AnyStr:
-    """The text laid out as `gixcfg fmt` does it: an indent before each name, one blank on either side of `=`, one line ending at the end; with
-    the same sections, entries and comments. The indent is of tabs alone or of spaces alone. Lines end with the newline, LF or CR LF, or as
-    the first line of the text does. Raises ParseError for a text that can't be read on at some place, and ValueError for another indent or
-    newline."""
+def _indent(indent: str) -> Tuple[bool, int]:
+    """Whether an indent is of tabs, and how many."""
     if indent.strip("\t") and indent.strip(" "):
         raise ValueError(f"{indent!r} is not of tabs alone or of spaces alone")
+    return "\t" in indent, len(indent)
+
+
+def _limit(count: Optional[int]) -> Tuple[bool, int]:
+    """Whether there is a limit, and which."""
+    if count is not None and count < 0:
+        raise ValueError(f"{count} is no number of lines")
+    return count is not None, count or 0
+
+
+def normalize(text: AnyStr, *, indent: str = "\t", newline: Optional[str] = None, root_indent: Optional[str] = "", spaces: bool = True,
+              final_newline: bool = True, max_leading_blank_lines: Optional[int] = None, max_blank_lines: Optional[int] = None) -> AnyStr:
+    """The text laid out as `gixcfg fmt` does it: an indent before each name, one blank on either side of `=`, one line ending at the end; with
+    the same sections, entries and comments. Lines end with the newline, LF or CR LF, or as the first line of the text does.
+
+    The root indent stands before comments ahead of the first header; with None the blanks stay that are there. Without `spaces` none is
+    around `=`, and without `final_newline` the end stays as it is. Blank lines are limited ahead of the first line that isn't blank, and where
+    they stand together behind it; with None all stay. An indent is of tabs alone or of spaces alone.
+
+    Raises ParseError for a text that can't be read on at some place, and ValueError for another indent, newline or limit."""
     if newline not in (None, "\n", "\r\n"):
         raise ValueError(f"{newline!r} ends no line")
     layout = c.Layout()
-    c.LIBRARY.gix_config_layout_default(layout)
-    layout.has_tabs, layout.indent = "\t" in indent, len(indent)
+    LIBRARY.gix_config_layout_default(layout)
+    layout.has_tabs, layout.indent = _indent(indent)
+    layout.keeps_root_blanks = root_indent is None
+    layout.has_root_tabs, layout.root_indent = _indent(root_indent or "")
+    layout.spaces_around_separator, layout.ensures_trailing_newline = spaces, final_newline
     layout.detects_newline, layout.is_crlf = newline is None, newline == "\r\n"
+    layout.limits_leading_blank_lines, layout.max_leading_blank_lines = _limit(max_leading_blank_lines)
+    layout.limits_blank_lines, layout.max_blank_lines = _limit(max_blank_lines)
     if isinstance(text, str):
-        return _decoded(_laid_out(_encoded(text), layout))
+        return decoded(_laid_out(encoded(text), layout))
     return _laid_out(text, layout)

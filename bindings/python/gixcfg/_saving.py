@@ -29,7 +29,8 @@ class Lock:
         return self
 
     def commit(self, text: bytes) -> None:
-        """Writes the text down to the disk, with the rights of the file that was there, and puts it in its place."""
+        """Writes the text down to the disk, with the rights of the file that was there, and puts it in its place. It raises nothing once the
+        text is in its place."""
         assert self.file is not None
         with contextlib.suppress(FileNotFoundError):
             os.fchmod(self.file, stat.S_IMODE(os.stat(self.path).st_mode))
@@ -37,17 +38,25 @@ class Lock:
             out.write(text)
         os.fsync(self.file)
         os.rename(self.name, self.path)
-        os.close(self.file)
-        self.file = None
-        # (so that the new name is on the disk too)
-        folder = os.open(os.path.dirname(self.path), os.O_RDONLY | os.O_DIRECTORY)
-        try:
-            os.fsync(folder)
-        finally:
-            os.close(folder)
+        # (from here on the name of the lock is no longer this program's)
+        file, self.file = self.file, None
+        # (the text is on the disk; the new name may follow later, where a folder can't be synced, and a crash until then leaves the old file)
+        with contextlib.suppress(OSError):
+            os.close(file)
+        with contextlib.suppress(OSError):
+            sync_folder(os.path.dirname(self.path))
 
     def __exit__(self, kind: Optional[Type[BaseException]], error: Optional[BaseException], trace: Optional[TracebackType]) -> None:
         if self.file is not None:
             os.close(self.file)
             self.file = None
             os.unlink(self.name)
+
+
+def sync_folder(path: str) -> None:
+    """Syncs a folder, so that new names are on the disk. Raises OSError for one that can't be opened to be read, and where the disk fails."""
+    folder = os.open(path, os.O_RDONLY | os.O_DIRECTORY)
+    try:
+        os.fsync(folder)
+    finally:
+        os.close(folder)

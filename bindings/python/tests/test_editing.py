@@ -45,14 +45,46 @@ class Edits(unittest.TestCase):
         self.assertRaises(KeyNotFound, config.add, "b.k", "1")
 
     def test_remove(self) -> None:
-        config = Config.parse("[a]\n\tk = 1\n\tk = 2\n")
-        del config["a.k"]
+        config = Config.parse("[a]\n\tk = 1\n\tk = \"2\"\n")
+        self.assertEqual(config.remove("a.k"), '"2"')
         self.assertEqual(config.text, "[a]\n\tk = 1\n")
-        del config["a", "k"]
-        with self.assertRaises(KeyNotFound):
-            del config["a.k"]
-        with self.assertRaises(KeyNotFound):
-            del config["b.k"]
+        self.assertEqual(config.remove(("a", "k")), "1")
+        self.assertRaises(KeyNotFound, config.remove, "a.k")
+        self.assertRaises(KeyNotFound, config.remove, "b.k")
+
+    def test_remove_all(self) -> None:
+        text = "[a]\n\tk = 1\n\tj = 2 ; two\n\tK\n[b]\n\tk = 3\n[A]\n\tk = 4\n[a \"s\"]\n\tk = 5\n"
+        config = Config.parse(text)
+        del config["a.k"]
+        self.assertEqual(config.text, "[a]\n\tj = 2 ; two\n[b]\n\tk = 3\n[A]\n[a \"s\"]\n\tk = 5\n")
+        self.assertNotIn("a.k", config)
+        for key in ("a.k", "none.k"):
+            with self.assertRaises(KeyNotFound):
+                del config[key]
+        self.assertEqual((config.remove_all("a.k"), config.remove_all("a.j"), config.remove_all("a.s.k")), (0, 1, 1))
+
+    def test_replace_all(self) -> None:
+        config = Config.parse("[a]\n\tk = 1 ; one\n[b]\n[a]\n\tk = 2\n\tk = 3\n")
+        config.replace_all("a.k", ["x", "y"])
+        self.assertEqual(config.text, "[a]\n\tk = x ; one\n[b]\n[a]\n\tk = y\n")
+        config.replace_all("a.k", ["1", 2, True])
+        self.assertEqual(config.get_all("a.k"), ["1", "2", "true"])
+        config.replace_all("a.k", [])
+        # (a comment behind an entry stays, as with each removal)
+        self.assertEqual(config.text, "[a]\n ; one\n[b]\n[a]\n")
+        config.replace_all("c.s.k", ["1", "2"])
+        self.assertEqual((config.get_all("c.s.k"), len(config.sections())), (["1", "2"], 4))
+        self.assertRaises(Refused, config.replace_all, "a.k k", ["1"])
+
+    def test_values_that_are_no_text(self) -> None:
+        config = Config()
+        config["a.yes"], config["a.no"], config["a.five"] = True, False, 5
+        self.assertEqual(config.text, "[a]\n\tyes = true\n\tno = false\n\tfive = 5\n")
+        self.assertEqual((config.get_bool("a.no"), config.get_int("a.five")), (False, 5))
+        for value in (None, 1.5, b"x"):
+            self.assertRaises(TypeError, config.set, "a.k", value)
+        config.edit("a").set("no", True)
+        self.assertEqual(config["a.no"], "true")
 
     def test_append(self) -> None:
         config = Config.parse("[a]\n\tk = 1\n")
@@ -88,6 +120,29 @@ class Places(unittest.TestCase):
         self.assertRaises(Refused, self.config.edit_section(0).rename, "a b")
         self.assertRaises(IndexError, self.config.edit_section, 2)
         self.assertRaises(IndexError, self.config.remove_section, 2)
+
+    def test_sections_by_name(self) -> None:
+        self.config.edit("A").set("k", "4")
+        self.config.edit("b").add("y", 2)
+        self.assertEqual(self.config.text, "[a]\n\tk = 1\n[b]\n  x = 1 ; one\n  y = 2\n[a]\n\tk = 4\n")
+        self.assertEqual(self.config.edit("b").section.entries, [("b", None, "x", "1"), ("b", None, "y", "2")])
+        made = self.config.new_section("c", "s")
+        made.add("flag")
+        self.assertEqual(self.config.sections("c")[0][:3], ("c", "s", [("c", "s", "flag", None)]))
+        self.config.rename_section(("a", None), ("d", "t"))
+        self.assertEqual([it.place for it in self.config.sections("d")], [0, 2])
+        for names, number in ((("none", None), 7), (("b", "x"), 8)):
+            with self.assertRaises(KeyNotFound) as caught:
+                self.config.edit(*names)
+            self.assertEqual(caught.exception.number, number)
+        self.assertRaises(KeyNotFound, self.config.rename_section, ("a", None), ("e", None))
+        self.assertRaises(Refused, self.config.new_section, "a b")
+
+    def test_last_entries_of_a_section(self) -> None:
+        config = Config.parse("[a]\n\tk = 1\n\tj = 2\n\tk = 3\n\tk = 4\n")
+        editor = config.edit_section(0)
+        self.assertEqual((editor.remove_last("K", 2), editor.remove_last("k", 0)), (2, 0))
+        self.assertEqual(config.text, "[a]\n\tk = 1\n\tj = 2\n")
 
     def test_values_that_are_there(self) -> None:
         config = Config.parse("[a]\n\tk = 1\n\tk = 2 ; two\n")

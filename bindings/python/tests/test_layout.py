@@ -21,6 +21,13 @@ class Layout(unittest.TestCase):
         for indent in ("", "\t", "\t\t", "    "):
             self.assertEqual(normalize("[a]\n \tk = v\n", indent=indent), f"[a]\n{indent}k = v\n")
 
+    def test_what_else_can_be_said(self) -> None:
+        text = "\n\n  # c\n[a]\nk=1\n\n\n\nj=2"
+        self.assertEqual(normalize(text), "\n\n# c\n[a]\n\tk = 1\n\n\n\n\tj = 2\n")
+        self.assertEqual(normalize(text, root_indent="\t", spaces=False), "\n\n\t# c\n[a]\n\tk=1\n\n\n\n\tj=2\n")
+        limited = normalize(text, root_indent=None, final_newline=False, max_leading_blank_lines=1, max_blank_lines=0)
+        self.assertEqual(limited, "\n  # c\n[a]\n\tk = 1\n\tj = 2")
+
     def test_bytes_give_bytes_and_those_that_are_no_text_are_kept(self) -> None:
         self.assertEqual(normalize(b"[a]\nk=\xff\n"), b"[a]\n\tk = \xff\n")
         self.assertEqual(normalize("[a]\nk=\udcff\n"), "[a]\n\tk = \udcff\n")
@@ -36,6 +43,8 @@ class Layout(unittest.TestCase):
         self.assertRaises(ValueError, normalize, "", indent="\t ")
         self.assertRaises(ValueError, normalize, "", indent="x")
         self.assertRaises(ValueError, normalize, "", newline="\r")
+        self.assertRaises(ValueError, normalize, "", root_indent="x")
+        self.assertRaises(ValueError, normalize, "", max_blank_lines=-1)
 
 
 if __name__ == "__main__":

@@ -1,10 +1,12 @@
 """Files that are read, and what is found in them."""
+import os
 import tempfile
+import threading
 import unittest
 from pathlib import Path
 
 import gixcfg
-from gixcfg import Config, KeyNotFound, NotOfType, ParseError, Refused
+from gixcfg import Config, KeyNotFound, NotOfType, ParseError, Refused, Source
 
 TEXT = '''# mine
 [core]
@@ -77,9 +79,25 @@ class Values(unittest.TestCase):
 
     def test_entries(self) -> None:
         self.assertEqual(
-            list(Config.parse('[A "X"]\nK = 1\nbare\n[b]\n[c]\nk =\n')),
+            Config.parse('[A "X"]\nK = 1\nbare\n[b]\n[c]\nk =\n').entries(),
             [("a", "X", "k", "1"), ("a", "X", "bare", None), ("c", None, "k", "")],
         )
+
+    def test_an_entry_without_value_is_there(self) -> None:
+        config = Config.parse("[a]\n\tk = 1\n\tk\n\tbare\n[b]\n\tk = 1\n[b]\n\tk\n")
+        for key in ("a.k", "a.bare"):
+            self.assertEqual((config[key], config.get(key), config.get(key, "d"), key in config), ("", "", "", True), key)
+        self.assertEqual((config.get_all("a.k"), config.get_bool("a.bare")), (["1", ""], True))
+        self.assertEqual(config.get("a.bare", "d", sources=[Source.API]), "")
+        self.assertEqual(config.get("a.bare", "d", sources=[Source.USER]), "d")
+        # (of one section the last entry counts, of several the last with a value: docs/lookups.md)
+        self.assertEqual(config["b.k"], "1")
+
+    def test_what_is_no_key(self) -> None:
+        for key in ("core", "", 5, None, ("core",), ("core", 5), ("a", "b", "c", "d"), ("core", None), "c\udcff.editor"):
+            self.assertNotIn(key, self.config)
+        self.assertIn(("core", None, "editor"), self.config)
+        self.assertEqual(self.config["core", None, "editor"], "vi")
 
 
     def test_sections(self) -> None:
@@ -89,8 +107,29 @@ class Values(unittest.TestCase):
         self.assertEqual(sections[0].entries, [("a", "X", "k", "1"), ("a", "X", "bare", None)])
         self.assertEqual([len(it.entries) for it in sections], [2, 0, 1, 1])
         self.assertEqual([it for section in sections for it in section.entries], config.entries())
+        self.assertEqual([it.place for it in sections], [0, 1, 2, 3])
+        self.assertEqual([it.place for it in config.sections("B")], [1, 3])
+        self.assertEqual(config.sections("none"), [])
         del config["b", "j"]
         self.assertEqual((sections[3].entries, config.sections()[3].entries), ([("b", None, "j", "2")], []))
+
+    def test_sections_while_another_thread_edits(self) -> None:
+        config, is_over = Config.parse("[a]\n\tk = 1\n[b]\n\tj = 2\n"), threading.Event()
+
+        def edit() -> None:
+            while not is_over.is_set():
+                config.add("a.k", "1")
+                config.remove("a.k")
+        thread = threading.Thread(target=edit)
+        thread.start()
+        try:
+            for _ in range(500):
+                first, second = config.sections()
+                self.assertEqual({it.name for it in first.entries}, {"k"})
+                self.assertEqual(second.entries, [("b", None, "j", "2")])
+        finally:
+            is_over.set()
+            thread.join()
 
     def test_sections_of_an_empty_file(self) -> None:
         self.assertEqual(Config().sections(), [])
@@ -128,12 +167,36 @@ class Texts(unittest.TestCase):
             path = Path(folder) / "config"
             self.assertRaises(FileNotFoundError, Config.load, path)
             path.write_text(TEXT)
-            self.assertEqual(Config.load(path)["core.editor"], "vi")
+            config = Config.load(path)
+            self.assertEqual((config["core.editor"], config.path), ("vi", str(path)))
+            self.assertEqual(config.origin, ("api", 0, True, str(path)))
+            self.assertEqual(Config.load(path, source=Source.USER).get("core.editor", sources=[Source.USER]), "vi")
             path.write_text("[a\n")
             with self.assertRaises(ParseError) as caught:
                 Config.load(path)
             self.assertEqual(caught.exception.path, str(path))
             self.assertTrue(str(caught.exception).startswith(f"{path}:1:"))
+
+    def test_load_follows_nothing_until_it_is_asked(self) -> None:
+        with tempfile.TemporaryDirectory() as folder:
+            path = Path(folder) / "config"
+            text = "# c\n[include]\n\tpath = more\n\tpath = ~/none\n[includeIf \"onbranch:x\"]\n\tpath = more\n[a]\n\tk = 1\n"
+            path.write_text(text)
+            (Path(folder) / "more").write_text("[a]\n\tj = 2\n")
+            config = Config.load(path)
+            self.assertEqual((config.text, len(config.sections())), (text, 3))
+            config.resolve_includes()
+            self.assertEqual((config["a.j"], config.path), ("2", None))
+
+    def test_names_that_are_no_text(self) -> None:
+        with tempfile.TemporaryDirectory() as folder:
+            path = os.path.join(os.fsencode(folder), b"\xff")
+            with open(path, "wb") as file:
+                file.write(b"[a]\n\tk = 1\n")
+            config = Config.load(os.fsdecode(path))
+            self.assertEqual((config["a.k"], config.path, config.origin.path), ("1", os.fsdecode(path), None))
+            (Path(folder) / "config").write_bytes(b"[include]\n\tpath = \xff\n[a]\n\tk = 1\n")
+            self.assertEqual(Config.load(Path(folder) / "config")["a.k"], "1")
 
     def test_many_files_are_freed(self) -> None:
         for _ in range(1000):

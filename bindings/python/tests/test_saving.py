@@ -84,6 +84,47 @@ class Saving(unittest.TestCase):
             config["a.k"] = "v"
         self.assertEqual(Config.load(self.folder / "new")["a.k"], "v")
 
+    def test_save_raises_nothing_once_it_has_replaced(self) -> None:
+        for call in ("sync_folder", "os.close"):
+            config = Config.load(self.path)
+            config["core.editor"] = call
+            with mock.patch(f"gixcfg._saving.{call}", side_effect=PermissionError(13, "Permission denied")):
+                config.save()
+            self.assertEqual((self.names(), Config.load(self.path)["core.editor"]), (["config"], call))
+
+    def test_a_folder_that_can_not_be_listed(self) -> None:
+        if os.geteuid() == 0:
+            self.skipTest("root may list each folder")
+        config = Config.load(self.path)
+        config["core.editor"] = "ed"
+        os.chmod(self.folder, 0o300)
+        try:
+            config.save()
+        finally:
+            os.chmod(self.folder, 0o700)
+        self.assertEqual(Config.load(self.path)["core.editor"], "ed")
+
+    def test_a_lock_that_came_since_the_rename_is_not_removed(self) -> None:
+        lock = self.folder / "config.lock"
+
+        def replace(old: str, new: str) -> None:
+            os.replace(old, new)
+            lock.write_text("theirs")
+        with mock.patch("gixcfg._saving.os.rename", side_effect=replace), mock.patch("gixcfg._saving.sync_folder", side_effect=OSError):
+            Config.parse(TEXT).save(self.path)
+        self.assertEqual(lock.read_text(), "theirs")
+
+    def test_another_working_directory(self) -> None:
+        before = os.getcwd()
+        os.chdir(self.folder)
+        try:
+            config = Config.load("config")
+        finally:
+            os.chdir(before)
+        config["core.editor"] = "ed"
+        config.save()
+        self.assertEqual((config.path, Config.load(self.path)["core.editor"]), (str(self.path), "ed"))
+
     def test_failing_disk_leaves_the_file(self) -> None:
         config = Config.load(self.path)
         config["core.editor"] = "ed"

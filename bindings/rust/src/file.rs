@@ -1,5 +1,4 @@
 //! A file of configuration.
-use std::cell::UnsafeCell;
 use std::env;
 use std::fmt;
 use std::fs;
@@ -7,35 +6,109 @@ use std::io;
 use std::path::{Path, PathBuf};
 use std::str::FromStr;
 
-use bstr::{BStr, BString, ByteSlice};
+use bstr::{BStr, BString};
 
 use crate::key::{AsKey, KeyRef};
-pub use crate::meta::Metadata;
-use crate::refusal::{out_of_memory, words, DONE, NOTHING_THERE, OUT_OF_MEMORY};
-use crate::section::{self, Listed, Section, SectionMut};
+use crate::parse::section::{header, unvalidated};
 use crate::source::{Source, Trust};
-use crate::sys;
-use crate::{includes, lookup, parse, path, value};
+use crate::sys::{self, Wanted};
+use crate::{lookup, parse, path, value};
+
+pub use crate::includes;
+pub use crate::meta::Metadata;
+pub use crate::section::{self, Section, SectionMut};
+pub use crate::text::{AsBStr, AsBStrOpt, IntoBStringOpt};
+
+/// Files that are made.
+pub mod init {
+    pub use crate::includes;
+}
 
 /// Values that are set.
 pub mod set_raw_value {
-    /// Why a value isn't set: a name can't be written, or the file would be too long.
+    use crate::parse::section::{header, value_name};
+    use crate::parse::span;
+    use crate::{lookup, section, sys};
+
+    /// Why a value isn't set.
     #[derive(Clone, Copy, Debug, PartialEq, Eq, thiserror::Error)]
-    #[error("{}", crate::refusal::words(*number))]
-    pub struct Error {
+    pub enum Error {
+        /// There is no such entry, of a call that makes none.
+        #[error(transparent)]
+        Lookup(#[from] lookup::existing::Error),
+        /// A section can't be made of the names.
+        #[error(transparent)]
+        Header(#[from] header::Error),
+        /// The name can't be a value's.
+        #[error(transparent)]
+        ValueName(#[from] value_name::Error),
+        /// The file would be too long.
+        #[error(transparent)]
+        Span(#[from] span::Error),
+    }
+
+    impl Error {
         /// The number of the refusal in docs/refusals.md.
-        pub number: u32,
+        #[must_use]
+        pub fn number(&self) -> u32 {
+            match self {
+                Error::Lookup(error) => error.number(),
+                Error::Header(error) => error.number(),
+                Error::ValueName(error) => error.number(),
+                Error::Span(error) => error.number(),
+            }
+        }
+
+        pub(crate) fn of(number: u32) -> Self {
+            match number {
+                span::Error::NUMBER => Error::Span(span::Error),
+                4 | 5 => Error::Header(header::Error::of(number)),
+                value_name::Error::NUMBER => Error::ValueName(value_name::Error),
+                7..=9 => Error::Lookup(lookup::existing::Error::of(number)),
+                number => sys::unforeseen(number),
+            }
+        }
+    }
+
+    impl From<section::value::Error> for Error {
+        fn from(error: section::value::Error) -> Self {
+            Error::of(error.number())
+        }
     }
 }
 
 /// Sections that are renamed.
 pub mod rename_section {
-    /// Why a section isn't renamed: there is none, a name can't be written, or the file would be too long.
+    use crate::lookup;
+    use crate::parse::section::header;
+
+    /// Why a section isn't renamed.
     #[derive(Clone, Copy, Debug, PartialEq, Eq, thiserror::Error)]
-    #[error("{}", crate::refusal::words(*number))]
-    pub struct Error {
+    pub enum Error {
+        /// There is none.
+        #[error(transparent)]
+        Lookup(#[from] lookup::existing::Error),
+        /// A section can't be made of the new names, or the file would be too long.
+        #[error(transparent)]
+        Section(#[from] header::Error),
+    }
+
+    impl Error {
         /// The number of the refusal in docs/refusals.md.
-        pub number: u32,
+        #[must_use]
+        pub fn number(&self) -> u32 {
+            match self {
+                Error::Lookup(error) => error.number(),
+                Error::Section(error) => error.number(),
+            }
+        }
+
+        pub(crate) fn of(number: u32) -> Self {
+            match number {
+                7..=9 => Error::Lookup(lookup::existing::Error::of(number)),
+                number => Error::Section(header::Error::of(number)),
+            }
+        }
     }
 }
 
@@ -43,8 +116,7 @@ pub mod rename_section {
 ///
 /// It stays on its thread.
 pub struct File {
-    // (a call has the handle for itself, also one that only reads)
-    handle: UnsafeCell<sys::Handle>,
+    pub(crate) sys: sys::File,
 }
 
 /// The names as the library takes them.
@@ -61,12 +133,29 @@ pub(crate) fn names<'a>(
     }
 }
 
+/// The names of a key as the library takes them.
+pub(crate) fn names_of<'a>(key: &KeyRef<'a>) -> sys::Key<'a> {
+    names(key.section_name, key.subsection_name, key.value_name)
+}
+
 pub(crate) fn section_names<'a>(name: &'a str, subsection: Option<&'a BStr>) -> sys::Section<'a> {
     sys::Section {
         name: sys::Text::of(name.as_bytes()),
         has_subsection: subsection.is_some(),
         subsection: sys::Text::of(subsection.unwrap_or_default()),
     }
+}
+
+/// The key, of a call that has to find it.
+pub(crate) fn key_of<Key: AsKey>(key: &Key) -> Result<KeyRef<'_>, lookup::existing::Error> {
+    key.try_as_key().ok_or(lookup::existing::Error::KeyMissing)
+}
+
+/// The key of a section, of a call that has to find it.
+fn section_key_of<Key: AsBStr>(
+    key: &Key,
+) -> Result<unvalidated::KeyRef<'_>, lookup::existing::Error> {
+    unvalidated::KeyRef::parse(key).ok_or(lookup::existing::Error::KeyMissing)
 }
 
 /// The user's home folder.
@@ -83,47 +172,33 @@ fn places(home: Option<&Path>) -> includes::Places<'_> {
     }
 }
 
-/// What the number of a call that sets values says.
-fn set(number: u32) -> Result<(), set_raw_value::Error> {
-    match number {
-        DONE => Ok(()),
-        OUT_OF_MEMORY => out_of_memory(),
-        number => Err(set_raw_value::Error { number }),
-    }
-}
-
-/// What the number of a lookup says.
-pub(crate) fn found(number: u32) -> Result<(), lookup::existing::Error> {
-    match number {
-        DONE => Ok(()),
-        7 => Err(lookup::existing::Error::SectionMissing),
-        8 => Err(lookup::existing::Error::SubSectionMissing),
-        9 => Err(lookup::existing::Error::KeyMissing),
-        _ => out_of_memory(),
+/// The value in a type, of what a lookup answered, if there is one. One of another type is told with its text.
+pub(crate) fn typed<T>(
+    found: Result<T, u32>,
+    message: &'static str,
+    input: impl FnOnce() -> BString,
+) -> Result<Option<T>, value::Error> {
+    match found {
+        Ok(value) => Ok(Some(value)),
+        Err(sys::NOTHING_THERE) => Ok(None),
+        Err(value::Error::NUMBER) => Err(value::Error {
+            message,
+            input: input(),
+        }),
+        Err(number) => sys::unforeseen(number),
     }
 }
 
 impl File {
-    pub(crate) fn handle(&self) -> *mut sys::Handle {
-        self.handle.get()
+    fn parsed(text: &[u8]) -> Result<File, parse::Error> {
+        let sys = sys::File::parse(text).map_err(parse::Error::of)?;
+        Ok(File { sys })
     }
 
-    fn parsed(text: &[u8]) -> Result<File, parse::Error> {
-        let file = File {
-            handle: UnsafeCell::new(sys::Handle::empty()),
-        };
-        let mut place = sys::Place::default();
-        // SAFETY: the text is as long as is said, and the handle is a new one.
-        match unsafe {
-            sys::gix_config_file_parse(text.as_ptr(), text.len(), false, file.handle(), &mut place)
-        } {
-            DONE => Ok(file),
-            OUT_OF_MEMORY => out_of_memory(),
-            number => Err(parse::Error {
-                line: place.line,
-                column: place.column,
-                reason: words(number),
-            }),
+    /// A file that is yet to be loaded.
+    fn empty() -> File {
+        File {
+            sys: sys::File::empty(),
         }
     }
 
@@ -133,9 +208,7 @@ impl File {
     ///
     /// There is no such section, subsection or value; or the key is none.
     pub fn raw_value(&self, key: impl AsKey) -> Result<BString, lookup::existing::Error> {
-        let key = key
-            .try_as_key()
-            .ok_or(lookup::existing::Error::KeyMissing)?;
+        let key = key_of(&key)?;
         self.raw_value_by(key.section_name, key.subsection_name, key.value_name)
     }
 
@@ -147,14 +220,13 @@ impl File {
     pub fn raw_value_by(
         &self,
         section_name: impl AsRef<str>,
-        subsection_name: Option<&BStr>,
+        subsection_name: impl AsBStrOpt,
         value_name: impl AsRef<str>,
     ) -> Result<BString, lookup::existing::Error> {
-        let mut block = sys::Block::empty();
+        let subsection_name = subsection_name.as_bstr_opt();
         let key = names(section_name.as_ref(), subsection_name, value_name.as_ref());
-        // SAFETY: the handle has a file, which no other call has now.
-        found(unsafe { sys::gix_config_value(self.handle(), &key, &mut block) })?;
-        Ok(block.bytes().into())
+        let value = self.sys.value(&key, None);
+        Ok(value.map_err(lookup::existing::Error::of)?.copy())
     }
 
     /// What all values of a key mean, one or more, in the file's order.
@@ -163,9 +235,7 @@ impl File {
     ///
     /// Those of [`File::raw_value`].
     pub fn raw_values(&self, key: impl AsKey) -> Result<Vec<BString>, lookup::existing::Error> {
-        let key = key
-            .try_as_key()
-            .ok_or(lookup::existing::Error::KeyMissing)?;
+        let key = key_of(&key)?;
         self.raw_values_by(key.section_name, key.subsection_name, key.value_name)
     }
 
@@ -177,14 +247,13 @@ impl File {
     pub fn raw_values_by(
         &self,
         section_name: impl AsRef<str>,
-        subsection_name: Option<&BStr>,
+        subsection_name: impl AsBStrOpt,
         value_name: impl AsRef<str>,
     ) -> Result<Vec<BString>, lookup::existing::Error> {
-        let mut list = sys::List::empty();
+        let subsection_name = subsection_name.as_bstr_opt();
         let key = names(section_name.as_ref(), subsection_name, value_name.as_ref());
-        // SAFETY: the handle has a file, which no other call has now.
-        found(unsafe { sys::gix_config_values(self.handle(), &key, list.handle()) })?;
-        Ok(list.texts())
+        let values = self.sys.values(&key, None);
+        values.map_err(lookup::existing::Error::of)
     }
 
     /// What the last value of a key means, if there is one.
@@ -198,7 +267,7 @@ impl File {
     pub fn string_by(
         &self,
         section_name: impl AsRef<str>,
-        subsection_name: Option<&BStr>,
+        subsection_name: impl AsBStrOpt,
         value_name: impl AsRef<str>,
     ) -> Option<BString> {
         self.raw_value_by(section_name, subsection_name, value_name)
@@ -216,98 +285,17 @@ impl File {
     pub fn strings_by(
         &self,
         section_name: impl AsRef<str>,
-        subsection_name: Option<&BStr>,
+        subsection_name: impl AsBStrOpt,
         value_name: impl AsRef<str>,
     ) -> Option<Vec<BString>> {
         self.raw_values_by(section_name, subsection_name, value_name)
             .ok()
     }
 
-    /// The last value of a key in a type, by a call of the library.
-    fn typed<T: Default>(
-        &self,
-        key: Option<KeyRef<'_>>,
-        message: &'static str,
-        call: unsafe extern "C" fn(*mut sys::Handle, *const sys::Key<'_>, *mut T) -> u32,
-    ) -> Result<Option<T>, value::Error> {
-        let key = match key {
-            Some(key) => key,
-            None => return Ok(None),
-        };
-        let mut found = T::default();
-        let names = names(key.section_name, key.subsection_name, key.value_name);
-        // SAFETY: the handle has a file, which no other call has now.
-        match unsafe { call(self.handle(), &names, &mut found) } {
-            DONE => Ok(Some(found)),
-            NOTHING_THERE => Ok(None),
-            OUT_OF_MEMORY => out_of_memory(),
-            _ => {
-                let input = self.string(key).unwrap_or_default();
-                Err(value::Error { message, input })
-            }
-        }
-    }
-
-    /// The last value of a key as a boolean, if there is one: true for an entry without `=`.
-    ///
-    /// # Errors
-    ///
-    /// The value is no boolean.
-    pub fn boolean(&self, key: impl AsKey) -> Result<Option<bool>, value::Error> {
-        self.typed(key.try_as_key(), "not a boolean", sys::gix_config_boolean)
-    }
-
-    /// As [`File::boolean`], by names.
-    ///
-    /// # Errors
-    ///
-    /// The value is no boolean.
-    pub fn boolean_by(
-        &self,
-        section_name: impl AsRef<str>,
-        subsection_name: Option<&BStr>,
-        value_name: impl AsRef<str>,
-    ) -> Result<Option<bool>, value::Error> {
-        let (section_name, value_name) = (section_name.as_ref(), value_name.as_ref());
-        self.boolean(KeyRef {
-            section_name,
-            subsection_name,
-            value_name,
-        })
-    }
-
-    /// The last value of a key as an integer, times its suffix, if there is one.
-    ///
-    /// # Errors
-    ///
-    /// The value is no integer of 64 bits.
-    pub fn integer(&self, key: impl AsKey) -> Result<Option<i64>, value::Error> {
-        self.typed(key.try_as_key(), "not an integer", sys::gix_config_integer)
-    }
-
-    /// As [`File::integer`], by names.
-    ///
-    /// # Errors
-    ///
-    /// The value is no integer of 64 bits.
-    pub fn integer_by(
-        &self,
-        section_name: impl AsRef<str>,
-        subsection_name: Option<&BStr>,
-        value_name: impl AsRef<str>,
-    ) -> Result<Option<i64>, value::Error> {
-        let (section_name, value_name) = (section_name.as_ref(), value_name.as_ref());
-        self.integer(KeyRef {
-            section_name,
-            subsection_name,
-            value_name,
-        })
-    }
-
     /// The last value of a key as a path, if there is one: as it is written, until its shorthand is replaced.
     #[must_use]
-    pub fn path(&self, key: impl AsKey) -> Option<path::Path<'_>> {
-        path::Path::of(self, key.try_as_key()?)
+    pub fn path(&self, key: impl AsKey) -> Option<path::Path> {
+        self.string(key).map(path::Path::from)
     }
 
     /// As [`File::path`], by names.
@@ -315,50 +303,32 @@ impl File {
     pub fn path_by(
         &self,
         section_name: impl AsRef<str>,
-        subsection_name: Option<&BStr>,
+        subsection_name: impl AsBStrOpt,
         value_name: impl AsRef<str>,
-    ) -> Option<path::Path<'_>> {
-        let (section_name, value_name) = (section_name.as_ref(), value_name.as_ref());
-        self.path(KeyRef {
-            section_name,
-            subsection_name,
-            value_name,
-        })
+    ) -> Option<path::Path> {
+        self.string_by(section_name, subsection_name, value_name)
+            .map(path::Path::from)
+    }
+
+    /// How many entries the sections have.
+    #[must_use]
+    pub fn num_values(&self) -> usize {
+        self.sys.num_entries()
     }
 
     /// Where the file comes from; its sections may come from others.
     #[must_use]
     pub fn meta(&self) -> Metadata {
-        let (mut origin, mut path) = (sys::Origin::default(), sys::Block::empty());
-        // SAFETY: the handle has a file, which no other call has now.
-        match unsafe { sys::gix_config_file_origin(self.handle(), &mut origin, &mut path) } {
-            DONE => {
-                let path = origin.has_path.then(|| path.bytes());
-                Metadata::of(path, origin.source, origin.level, origin.trust)
-            }
-            _ => out_of_memory(),
-        }
-    }
-
-    /// What is known of the sections in the file's order, besides their entries.
-    pub(crate) fn listed(&self) -> Vec<Listed> {
-        let mut list = sys::List::empty();
-        // SAFETY: the handle has a file, which no other call has now.
-        match unsafe { sys::gix_config_sections(self.handle(), list.handle()) } {
-            DONE => list.sections(),
-            _ => out_of_memory(),
-        }
+        let (origin, path) = self.sys.origin();
+        let path = origin.has_path.then(|| path.bytes());
+        Metadata::of(path, origin.source, origin.level, origin.trust)
     }
 
     /// The sections in the file's order, each as it is now.
     pub fn sections(&self) -> impl Iterator<Item = Section> {
-        let mut entries = sys::List::empty();
-        // SAFETY: the handle has a file, which no other call has now.
-        if unsafe { sys::gix_config_entries(self.handle(), entries.handle()) } != DONE {
-            out_of_memory()
-        }
-        let mut left = entries.entries().into_iter();
-        self.listed().into_iter().map(move |listed| Section {
+        let mut left = self.sys.entries().into_iter();
+        let listed = self.sys.sections(|_, _| true).into_iter();
+        listed.map(move |(_, listed)| Section {
             entries: left.by_ref().take(listed.entries).collect(),
             header: listed.header,
             meta: listed.meta,
@@ -366,23 +336,36 @@ impl File {
     }
 
     /// The section at a place, of which the rest is known.
-    fn section_of(&self, place: usize, listed: Listed) -> Section {
-        let mut entries = sys::List::empty();
-        // SAFETY: the handle has a file, which no other call has now.
-        match unsafe { sys::gix_config_section_entries(self.handle(), place, entries.handle()) } {
-            DONE => Section {
-                header: listed.header,
-                meta: listed.meta,
-                entries: entries.entries(),
-            },
-            _ => out_of_memory(),
+    fn section_of(&self, place: usize, listed: section::Listed) -> Section {
+        Section {
+            header: listed.header,
+            meta: listed.meta,
+            entries: self.sys.entries_at(place),
         }
     }
 
-    /// The section at a place, if there is one.
-    pub(crate) fn section_at(&self, place: usize) -> Option<Section> {
-        let listed = self.listed().into_iter().nth(place)?;
-        Some(self.section_of(place, listed))
+    /// The section at a place, where there is one.
+    pub(crate) fn section_at(&self, place: usize) -> Section {
+        self.section_of(place, self.sys.section_at(place))
+    }
+
+    /// What is known of the sections of the names, one or more, with their places.
+    fn named(
+        &self,
+        name: &str,
+        subsection_name: Option<&BStr>,
+    ) -> Result<Vec<(usize, section::Listed)>, lookup::existing::Error> {
+        let mut named = self
+            .sys
+            .sections(|it, _| it.eq_ignore_ascii_case(name.as_bytes()));
+        if named.is_empty() {
+            return Err(lookup::existing::Error::SectionMissing);
+        }
+        named.retain(|(_, listed)| listed.header.subsection_name() == subsection_name);
+        if named.is_empty() {
+            return Err(lookup::existing::Error::SubSectionMissing);
+        }
+        Ok(named)
     }
 
     /// The last section of the names whose metadata a filter keeps, if it keeps one, with its place. The filter is asked from the last on.
@@ -391,21 +374,9 @@ impl File {
         name: &str,
         subsection_name: Option<&BStr>,
         mut filter: impl FnMut(&Metadata) -> bool,
-    ) -> Result<Option<(usize, Listed)>, lookup::existing::Error> {
-        let mut missing = lookup::existing::Error::SectionMissing;
-        let mut named = Vec::new();
-        for (place, listed) in self.listed().into_iter().enumerate() {
-            if listed.header.is_named(name) {
-                missing = lookup::existing::Error::SubSectionMissing;
-                if listed.header.subsection_name() == subsection_name {
-                    named.push((place, listed));
-                }
-            }
-        }
-        if named.is_empty() {
-            return Err(missing);
-        }
-        Ok(named.into_iter().rev().find(|it| filter(&it.1.meta)))
+    ) -> Result<Option<(usize, section::Listed)>, lookup::existing::Error> {
+        let named = self.named(name, subsection_name)?.into_iter();
+        Ok(named.rev().find(|it| filter(&it.1.meta)))
     }
 
     /// The last section that has the name, without ASCII case, and exactly the subsection, as it is now.
@@ -422,10 +393,10 @@ impl File {
     /// assert_eq!(remote.values("url"), ["a", "b"]);
     /// # Ok::<(), Box<dyn std::error::Error>>(())
     /// ```
-    pub fn section<'b>(
+    pub fn section(
         &self,
         name: impl AsRef<str>,
-        subsection_name: impl Into<Option<&'b BStr>>,
+        subsection_name: impl AsBStrOpt,
     ) -> Result<Section, lookup::existing::Error> {
         self.section_filter(name, subsection_name, |_| true)?
             .ok_or(lookup::existing::Error::SectionMissing)
@@ -436,14 +407,41 @@ impl File {
     /// # Errors
     ///
     /// There is no section of the names, kept or not.
-    pub fn section_filter<'b>(
+    pub fn section_filter(
         &self,
         name: impl AsRef<str>,
-        subsection_name: impl Into<Option<&'b BStr>>,
+        subsection_name: impl AsBStrOpt,
         filter: impl FnMut(&Metadata) -> bool,
     ) -> Result<Option<Section>, lookup::existing::Error> {
-        let last = self.last_of(name.as_ref(), subsection_name.into(), filter)?;
+        let last = self.last_of(name.as_ref(), subsection_name.as_bstr_opt(), filter)?;
         Ok(last.map(|(place, listed)| self.section_of(place, listed)))
+    }
+
+    /// As [`File::section`], by the section's key, such as `remote.origin`.
+    ///
+    /// # Errors
+    ///
+    /// There is no such section, or the key is none.
+    pub fn section_by_key(
+        &self,
+        section_key: impl AsBStr,
+    ) -> Result<Section, lookup::existing::Error> {
+        let key = section_key_of(&section_key)?;
+        self.section(key.section_name, key.subsection_name)
+    }
+
+    /// As [`File::section_filter`], by the section's key.
+    ///
+    /// # Errors
+    ///
+    /// There is no section of the key, kept or not, or the key is none.
+    pub fn section_filter_by_key(
+        &self,
+        section_key: impl AsBStr,
+        filter: impl FnMut(&Metadata) -> bool,
+    ) -> Result<Option<Section>, lookup::existing::Error> {
+        let key = section_key_of(&section_key)?;
+        self.section_filter(key.section_name, key.subsection_name, filter)
     }
 
     /// The sections that have the name, without ASCII case, and any subsection or none, in the file's order; `None` if there are none.
@@ -473,10 +471,10 @@ impl File {
     /// # Errors
     ///
     /// There is no such section.
-    pub fn section_mut<'b>(
+    pub fn section_mut(
         &mut self,
         name: impl AsRef<str>,
-        subsection_name: impl Into<Option<&'b BStr>>,
+        subsection_name: impl AsBStrOpt,
     ) -> Result<SectionMut<'_>, lookup::existing::Error> {
         self.section_mut_filter(name, subsection_name, |_| true)?
             .ok_or(lookup::existing::Error::SectionMissing)
@@ -487,14 +485,41 @@ impl File {
     /// # Errors
     ///
     /// There is no section of the names, kept or not.
-    pub fn section_mut_filter<'b>(
+    pub fn section_mut_filter(
         &mut self,
         name: impl AsRef<str>,
-        subsection_name: impl Into<Option<&'b BStr>>,
+        subsection_name: impl AsBStrOpt,
         filter: impl FnMut(&Metadata) -> bool,
     ) -> Result<Option<SectionMut<'_>>, lookup::existing::Error> {
-        let last = self.last_of(name.as_ref(), subsection_name.into(), filter)?;
+        let last = self.last_of(name.as_ref(), subsection_name.as_bstr_opt(), filter)?;
         Ok(last.map(|(place, _)| SectionMut::at(self, place)))
+    }
+
+    /// As [`File::section_mut`], by the section's key, such as `remote.origin`.
+    ///
+    /// # Errors
+    ///
+    /// There is no such section, or the key is none.
+    pub fn section_mut_by_key(
+        &mut self,
+        key: impl AsBStr,
+    ) -> Result<SectionMut<'_>, lookup::existing::Error> {
+        let key = section_key_of(&key)?;
+        self.section_mut(key.section_name, key.subsection_name)
+    }
+
+    /// As [`File::section_mut_filter`], by the section's key.
+    ///
+    /// # Errors
+    ///
+    /// There is no section of the key, kept or not, or the key is none.
+    pub fn section_mut_filter_by_key(
+        &mut self,
+        key: impl AsBStr,
+        filter: impl FnMut(&Metadata) -> bool,
+    ) -> Result<Option<SectionMut<'_>>, lookup::existing::Error> {
+        let key = section_key_of(&key)?;
+        self.section_mut_filter(key.section_name, key.subsection_name, filter)
     }
 
     /// Makes a section after all others, and returns an editor of it.
@@ -502,47 +527,70 @@ impl File {
     /// # Errors
     ///
     /// A section can't be made of the names, or the file would be too long. The file is then as it was.
-    pub fn new_section<'b>(
+    pub fn new_section(
         &mut self,
         name: impl AsRef<str>,
-        subsection_name: impl Into<Option<&'b BStr>>,
-    ) -> Result<SectionMut<'_>, section::Error> {
-        let names = section_names(name.as_ref(), subsection_name.into());
-        // SAFETY: the handle has a file, which no other call has now.
-        match unsafe { sys::gix_config_section_new(self.handle(), &names) } {
-            DONE => {
-                let last = self.listed().len() - 1;
-                Ok(SectionMut::at(self, last))
-            }
-            OUT_OF_MEMORY => out_of_memory(),
-            number => Err(section::Error { number }),
+        subsection_name: impl IntoBStringOpt,
+    ) -> Result<SectionMut<'_>, header::Error> {
+        let subsection_name = subsection_name.into_bstring_opt();
+        let names = section_names(name.as_ref(), subsection_name.as_ref().map(AsBStr::as_bstr));
+        self.sys.new_section(&names).map_err(header::Error::of)?;
+        let last = self.sys.num_sections() - 1;
+        Ok(SectionMut::at(self, last))
+    }
+
+    /// [`File::section_mut`], or [`File::new_section`] if there is no such section.
+    ///
+    /// # Errors
+    ///
+    /// Those of [`File::new_section`].
+    pub fn section_mut_or_create_new(
+        &mut self,
+        name: impl AsRef<str>,
+        subsection_name: impl AsBStrOpt,
+    ) -> Result<SectionMut<'_>, header::Error> {
+        self.section_mut_or_create_new_filter(name, subsection_name, |_| true)
+    }
+
+    /// [`File::section_mut_filter`], or [`File::new_section`] if the filter keeps no section of the names.
+    ///
+    /// # Errors
+    ///
+    /// Those of [`File::new_section`].
+    pub fn section_mut_or_create_new_filter(
+        &mut self,
+        name: impl AsRef<str>,
+        subsection_name: impl AsBStrOpt,
+        filter: impl FnMut(&Metadata) -> bool,
+    ) -> Result<SectionMut<'_>, header::Error> {
+        let (name, subsection_name) = (name.as_ref(), subsection_name.as_bstr_opt());
+        match self.last_of(name, subsection_name, filter) {
+            Ok(Some((place, _))) => Ok(SectionMut::at(self, place)),
+            _ => self.new_section(name, subsection_name.map(BString::from)),
         }
     }
 
     /// Removes the last section that has the name, without ASCII case, and exactly the subsection. Returns it as it was, if there was one.
-    pub fn remove_section<'b>(
+    pub fn remove_section(
         &mut self,
         name: impl AsRef<str>,
-        subsection_name: impl Into<Option<&'b BStr>>,
+        subsection_name: impl AsBStrOpt,
     ) -> Option<Section> {
         self.remove_section_filter(name, subsection_name, |_| true)
     }
 
     /// As [`File::remove_section`], the last whose metadata the filter keeps, if it keeps one.
-    pub fn remove_section_filter<'b>(
+    pub fn remove_section_filter(
         &mut self,
         name: impl AsRef<str>,
-        subsection_name: impl Into<Option<&'b BStr>>,
+        subsection_name: impl AsBStrOpt,
         filter: impl FnMut(&Metadata) -> bool,
     ) -> Option<Section> {
-        let last = self.last_of(name.as_ref(), subsection_name.into(), filter);
+        let last = self.last_of(name.as_ref(), subsection_name.as_bstr_opt(), filter);
         let (place, listed) = last.ok()??;
         let removed = self.section_of(place, listed);
-        // SAFETY: the handle has a file, which no other call has now.
-        match unsafe { sys::gix_config_section_remove_at(self.handle(), place) } {
-            DONE => Some(removed),
-            _ => out_of_memory(),
-        }
+        self.sys.remove_section_at(place);
+        Some(removed)
     }
 
     /// The file at a path, with the sections of the files that it includes, each where it is included.
@@ -567,7 +615,7 @@ impl File {
         options: includes::Options<'_>,
         files: &mut impl includes::Files,
     ) -> Result<File, includes::Error> {
-        let file = File::empty_handle();
+        let file = File::empty();
         let real = options.real_git_dir();
         let load = sys::Load {
             path: sys::Text::of(includes::bytes(path)),
@@ -575,22 +623,10 @@ impl File {
             trust: Trust::Full.number(),
             includes: options.given(real.as_bstr()),
         };
-        // SAFETY: what is told is another handle than the file's.
-        let host = includes::Host {
-            files,
-            variables: &mut includes::Process,
-        };
-        includes::ask(host, |told, asked| unsafe {
-            sys::gix_config_load_told(told, &load, file.handle(), asked)
-        })?;
+        let mut files = includes::Followed::of(files, 1, &options);
+        includes::Host::new(&mut files, &mut includes::Process)
+            .load(&file.sys, Wanted::File(&load))?;
         Ok(file)
-    }
-
-    /// A file whose handle is empty as yet.
-    fn empty_handle() -> File {
-        File {
-            handle: UnsafeCell::new(sys::Handle::empty()),
-        }
     }
 
     /// The configuration of the machine and of the user, by the variables of the process (`GIT_CONFIG_NOSYSTEM`, `GIT_CONFIG_SYSTEM`,
@@ -619,12 +655,8 @@ impl File {
         files: &mut impl includes::Files,
         variables: &mut impl includes::Variables,
     ) -> Result<File, includes::Error> {
-        let file = File::empty_handle();
-        let given = places.given();
-        // SAFETY: what is told is another handle than the file's.
-        includes::ask(includes::Host { files, variables }, |told, asked| unsafe {
-            sys::gix_config_load_globals_told(told, &given, file.handle(), asked)
-        })?;
+        let (file, given) = (File::empty(), places.given());
+        includes::Host::new(files, variables).load(&file.sys, Wanted::Globals(&given))?;
         Ok(file)
     }
 
@@ -649,18 +681,12 @@ impl File {
         files: &mut impl includes::Files,
         variables: &mut impl includes::Variables,
     ) -> Result<Option<File>, includes::Error> {
-        let file = File::empty_handle();
-        let real = options.real_git_dir();
+        let (file, real) = (File::empty(), options.real_git_dir());
         let given = options.given(real.as_bstr());
-        // SAFETY: what is told is another handle than the file's.
-        let made = includes::ask(includes::Host { files, variables }, |told, asked| unsafe {
-            sys::gix_config_load_env_told(told, &given, file.handle(), asked)
-        });
-        match made {
-            Ok(()) => Ok(Some(file)),
-            Err(refusal) if refusal.number == NOTHING_THERE => Ok(None),
-            Err(refusal) => Err(refusal),
-        }
+        let mut files = includes::Followed::of(files, 0, &options);
+        let host = includes::Host::new(&mut files, variables);
+        let is_set = host.load(&file.sys, Wanted::Variables(&given))?;
+        Ok(is_set.then_some(file))
     }
 
     /// [`File::from_env`], whose includes know the user's home folder; an empty file if that is `None`.
@@ -701,17 +727,14 @@ impl File {
         files: &mut impl includes::Files,
         variables: &mut impl includes::Variables,
     ) -> Result<File, includes::Error> {
-        let file = File::empty_handle();
+        let file = File::empty();
         let real = fs::canonicalize(dir).unwrap_or_else(|_| dir.to_owned());
         let repository = sys::Repository {
             git_folder: sys::Text::of(includes::bytes(dir)),
             real_git_folder: sys::Text::of(includes::bytes(&real)),
             places: places.given(),
         };
-        // SAFETY: what is told is another handle than the file's.
-        includes::ask(includes::Host { files, variables }, |told, asked| unsafe {
-            sys::gix_config_load_repository_told(told, &repository, file.handle(), asked)
-        })?;
+        includes::Host::new(files, variables).load(&file.sys, Wanted::Repository(&repository))?;
         Ok(file)
     }
 
@@ -737,16 +760,14 @@ impl File {
         options: includes::Options<'_>,
         files: &mut impl includes::Files,
     ) -> Result<(), includes::Error> {
+        if !options.is_followed() {
+            return Ok(());
+        }
         let real = options.real_git_dir();
         let given = options.given(real.as_bstr());
-        // SAFETY: what is told is another handle than the file's, which no other call has now.
-        let host = includes::Host {
-            files,
-            variables: &mut includes::Process,
-        };
-        includes::ask(host, |told, asked| unsafe {
-            sys::gix_config_resolve_includes_told(told, self.handle(), &given, asked)
-        })
+        includes::Host::new(files, &mut includes::Process)
+            .load(&self.sys, Wanted::Included(&given))?;
+        Ok(())
     }
 
     /// Gives a key a value: in the last section of its names, whose last entry of the name gets it; entry and section are made if there are
@@ -755,30 +776,88 @@ impl File {
     /// # Errors
     ///
     /// A name can't be written, or the file would be too long. The file is then as it was.
-    pub fn set_raw_value_by<'b>(
+    ///
+    /// # Panics
+    ///
+    /// If the key is none.
+    pub fn set_raw_value(
+        &mut self,
+        key: impl AsKey,
+        new_value: impl AsBStr,
+    ) -> Result<Option<BString>, set_raw_value::Error> {
+        let key = key.as_key();
+        let set = self.sys.set_value(&names_of(&key), new_value.as_bstr());
+        set.map_err(set_raw_value::Error::of)
+    }
+
+    /// As [`File::set_raw_value`], by names.
+    ///
+    /// # Errors
+    ///
+    /// Those of [`File::set_raw_value`].
+    pub fn set_raw_value_by(
         &mut self,
         section_name: impl AsRef<str>,
-        subsection_name: Option<&BStr>,
+        subsection_name: impl AsBStrOpt,
         value_name: impl AsRef<str>,
-        new_value: impl Into<&'b BStr>,
+        new_value: impl AsBStr,
     ) -> Result<Option<BString>, set_raw_value::Error> {
-        let (mut had, mut old, new_value) = (false, sys::Block::empty(), new_value.into());
-        let key = names(section_name.as_ref(), subsection_name, value_name.as_ref());
-        // SAFETY: the handle has a file, and the value is as long as is said.
-        match unsafe {
-            sys::gix_config_set_value(
-                self.handle(),
-                &key,
-                new_value.as_ptr(),
-                new_value.len(),
-                &mut had,
-                &mut old,
-            )
-        } {
-            DONE => Ok(had.then(|| old.bytes().into())),
-            OUT_OF_MEMORY => out_of_memory(),
-            number => Err(set_raw_value::Error { number }),
+        let key = KeyRef {
+            section_name: section_name.as_ref(),
+            subsection_name: subsection_name.as_bstr_opt(),
+            value_name: value_name.as_ref(),
+        };
+        self.set_raw_value(key, new_value)
+    }
+
+    /// As [`File::set_raw_value`], in the last section of the key's names whose metadata the filter keeps; one is made if it keeps none.
+    ///
+    /// # Errors
+    ///
+    /// Those of [`File::set_raw_value`].
+    ///
+    /// # Panics
+    ///
+    /// If the key is none.
+    pub fn set_raw_value_filter(
+        &mut self,
+        key: impl AsKey,
+        new_value: impl AsBStr,
+        filter: impl FnMut(&Metadata) -> bool,
+    ) -> Result<Option<BString>, set_raw_value::Error> {
+        let key = key.as_key();
+        // (a name that can't be a value's is refused before a section is made)
+        File::default().set_raw_value_by("a", None, key.value_name, "")?;
+        let (name, subsection_name) = (key.section_name, key.subsection_name);
+        if let Ok(Some((place, _))) = self.last_of(name, subsection_name, filter) {
+            return Ok(SectionMut::at(self, place).set(key.value_name, new_value)?);
         }
+        let mut made = self.clone();
+        made.new_section(name, subsection_name.map(BString::from))?
+            .set(key.value_name, new_value)?;
+        *self = made;
+        Ok(None)
+    }
+
+    /// As [`File::set_raw_value_filter`], by names.
+    ///
+    /// # Errors
+    ///
+    /// Those of [`File::set_raw_value`].
+    pub fn set_raw_value_filter_by(
+        &mut self,
+        section_name: impl AsRef<str>,
+        subsection_name: impl AsBStrOpt,
+        value_name: impl AsRef<str>,
+        new_value: impl AsBStr,
+        filter: impl FnMut(&Metadata) -> bool,
+    ) -> Result<Option<BString>, set_raw_value::Error> {
+        let key = KeyRef {
+            section_name: section_name.as_ref(),
+            subsection_name: subsection_name.as_bstr_opt(),
+            value_name: value_name.as_ref(),
+        };
+        self.set_raw_value_filter(key, new_value, filter)
     }
 
     /// Gives the last entry of a key another value; no entry is made.
@@ -786,18 +865,38 @@ impl File {
     /// # Errors
     ///
     /// There is no such entry, the name can't be written, or the file would be too long. The file is then as it was.
-    pub fn set_existing_raw_value_by<'b>(
+    ///
+    /// # Panics
+    ///
+    /// If the key is none.
+    pub fn set_existing_raw_value(
+        &mut self,
+        key: impl AsKey,
+        new_value: impl AsBStr,
+    ) -> Result<(), set_raw_value::Error> {
+        let (key, new_value) = (key.as_key(), new_value.as_bstr());
+        let set = self.sys.set_existing_value(&names_of(&key), new_value);
+        set.map_err(set_raw_value::Error::of)
+    }
+
+    /// As [`File::set_existing_raw_value`], by names.
+    ///
+    /// # Errors
+    ///
+    /// Those of [`File::set_existing_raw_value`].
+    pub fn set_existing_raw_value_by(
         &mut self,
         section_name: impl AsRef<str>,
-        subsection_name: Option<&BStr>,
+        subsection_name: impl AsBStrOpt,
         value_name: impl AsRef<str>,
-        new_value: impl Into<&'b BStr>,
+        new_value: impl AsBStr,
     ) -> Result<(), set_raw_value::Error> {
-        let new_value = new_value.into();
-        let key = names(section_name.as_ref(), subsection_name, value_name.as_ref());
-        let (at, len) = (new_value.as_ptr(), new_value.len());
-        // SAFETY: the handle has a file, and the value is as long as is said.
-        set(unsafe { sys::gix_config_set_existing_value(self.handle(), &key, at, len) })
+        let key = KeyRef {
+            section_name: section_name.as_ref(),
+            subsection_name: subsection_name.as_bstr_opt(),
+            value_name: value_name.as_ref(),
+        };
+        self.set_existing_raw_value(key, new_value)
     }
 
     /// Gives the entries of a key other values, the first entry the first value and so on, up to the end of the shorter list; no entry is
@@ -807,23 +906,47 @@ impl File {
     ///
     /// There is no such entry, or the name can't be written: the file is then as it was. The file would be too long: the entries before the
     /// one that was refused then have their values.
+    ///
+    /// # Panics
+    ///
+    /// If the key is none.
+    pub fn set_existing_raw_multi_value<Iter, Item>(
+        &mut self,
+        key: impl AsKey,
+        new_values: Iter,
+    ) -> Result<(), set_raw_value::Error>
+    where
+        Iter: IntoIterator<Item = Item>,
+        Item: AsBStr,
+    {
+        let (key, kept) = (key.as_key(), new_values.into_iter().collect::<Vec<Item>>());
+        let values: Vec<_> = kept.iter().map(|it| sys::Text::of(it.as_bstr())).collect();
+        let set = self.sys.set_existing_values(&names_of(&key), &values);
+        set.map_err(set_raw_value::Error::of)
+    }
+
+    /// As [`File::set_existing_raw_multi_value`], by names.
+    ///
+    /// # Errors
+    ///
+    /// Those of [`File::set_existing_raw_multi_value`].
     pub fn set_existing_raw_multi_value_by<Iter, Item>(
         &mut self,
         section_name: impl AsRef<str>,
-        subsection_name: Option<&BStr>,
+        subsection_name: impl AsBStrOpt,
         value_name: impl AsRef<str>,
         new_values: Iter,
     ) -> Result<(), set_raw_value::Error>
     where
         Iter: IntoIterator<Item = Item>,
-        Item: AsRef<[u8]>,
+        Item: AsBStr,
     {
-        let kept: Vec<Item> = new_values.into_iter().collect();
-        let values: Vec<_> = kept.iter().map(|it| sys::Text::of(it.as_ref())).collect();
-        let key = names(section_name.as_ref(), subsection_name, value_name.as_ref());
-        let (at, len) = (values.as_ptr(), values.len());
-        // SAFETY: the handle has a file, and there are as many values as is said, which lie there until the call is done.
-        set(unsafe { sys::gix_config_set_existing_values(self.handle(), &key, at, len) })
+        let key = KeyRef {
+            section_name: section_name.as_ref(),
+            subsection_name: subsection_name.as_bstr_opt(),
+            value_name: value_name.as_ref(),
+        };
+        self.set_existing_raw_multi_value(key, new_values)
     }
 
     /// Gives all sections that have the name and the subsection another name and subsection.
@@ -831,21 +954,47 @@ impl File {
     /// # Errors
     ///
     /// There is no such section, a name can't be written, or the file would be too long. The file is then as it was.
-    pub fn rename_section<'a>(
+    pub fn rename_section(
         &mut self,
         name: impl AsRef<str>,
-        subsection_name: impl Into<Option<&'a BStr>>,
+        subsection_name: impl AsBStrOpt,
         new_name: impl AsRef<str>,
-        new_subsection_name: impl Into<Option<&'a BStr>>,
+        new_subsection_name: impl IntoBStringOpt,
     ) -> Result<(), rename_section::Error> {
-        let section = section_names(name.as_ref(), subsection_name.into());
-        let new_section = section_names(new_name.as_ref(), new_subsection_name.into());
-        // SAFETY: the handle has a file.
-        match unsafe { sys::gix_config_section_rename(self.handle(), &section, &new_section) } {
-            DONE => Ok(()),
-            OUT_OF_MEMORY => out_of_memory(),
-            number => Err(rename_section::Error { number }),
+        let new_subsection = new_subsection_name.into_bstring_opt();
+        let section = section_names(name.as_ref(), subsection_name.as_bstr_opt());
+        let new_subsection = new_subsection.as_ref().map(AsBStr::as_bstr);
+        let new_section = section_names(new_name.as_ref(), new_subsection);
+        let renamed = self.sys.rename_section(&section, &new_section);
+        renamed.map_err(rename_section::Error::of)
+    }
+
+    /// As [`File::rename_section`], the sections whose metadata the filter keeps.
+    ///
+    /// # Errors
+    ///
+    /// Those of [`File::rename_section`]; and the filter keeps none.
+    pub fn rename_section_filter(
+        &mut self,
+        name: impl AsRef<str>,
+        subsection_name: impl AsBStrOpt,
+        new_name: impl AsRef<str>,
+        new_subsection_name: impl IntoBStringOpt,
+        mut filter: impl FnMut(&Metadata) -> bool,
+    ) -> Result<(), rename_section::Error> {
+        let mut places = Vec::new();
+        let named = self.named(name.as_ref(), subsection_name.as_bstr_opt())?;
+        places.extend(named.iter().filter(|it| filter(&it.1.meta)).map(|it| it.0));
+        if places.is_empty() {
+            return Err(lookup::existing::Error::KeyMissing.into());
         }
+        let new_subsection = new_subsection_name.into_bstring_opt();
+        let mut renamed = self.clone();
+        for place in places {
+            SectionMut::at(&mut renamed, place).rename(&new_name, new_subsection.clone())?;
+        }
+        *self = renamed;
+        Ok(())
     }
 
     /// Adds the sections of another file after all others.
@@ -854,28 +1003,17 @@ impl File {
     ///
     /// The file would have more than 4294967295 bytes, or as many sections. It is then as it was.
     pub fn append(&mut self, other: File) -> Result<&mut File, parse::span::Error> {
-        // SAFETY: both handles have files, and they are two.
-        match unsafe { sys::gix_config_file_append(self.handle(), other.handle()) } {
-            DONE => Ok(self),
-            OUT_OF_MEMORY => out_of_memory(),
-            number => Err(parse::span::Error { number }),
-        }
-    }
-
-    /// The text as it was read, but for what was edited: without a byte order mark, and with missing line endings put in.
-    fn text(&self) -> sys::Block {
-        let mut block = sys::Block::empty();
-        // SAFETY: the handle has a file, which no other call has now.
-        match unsafe { sys::gix_config_file_text(self.handle(), &mut block) } {
-            DONE => block,
-            _ => out_of_memory(),
+        match self.sys.append(&other.sys) {
+            Ok(()) => Ok(self),
+            Err(parse::span::Error::NUMBER) => Err(parse::span::Error),
+            Err(number) => sys::unforeseen(number),
         }
     }
 
     /// The text of the file as it was read, but for what was edited: without a byte order mark, and with missing line endings put in.
     #[must_use]
     pub fn to_bstring(&self) -> BString {
-        self.text().bytes().into()
+        self.sys.text(None).copy()
     }
 
     /// Writes the text of the file.
@@ -884,33 +1022,21 @@ impl File {
     ///
     /// Those of the writer.
     pub fn write_to(&self, mut out: impl io::Write) -> io::Result<()> {
-        out.write_all(self.text().bytes())
+        out.write_all(self.sys.text(None).bytes())
     }
 }
 
 impl Default for File {
     /// An empty file.
     fn default() -> File {
-        File::try_from("").unwrap_or_else(|_| out_of_memory())
-    }
-}
-
-impl Drop for File {
-    fn drop(&mut self) {
-        // SAFETY: the handle is empty or has a file.
-        unsafe { sys::gix_config_file_close(self.handle()) }
+        File::try_from("").expect("an empty text is one of configuration")
     }
 }
 
 /// Whether both have the same sections in order, with the same keys that mean the same; names are compared without ASCII case.
 impl PartialEq for File {
     fn eq(&self, other: &File) -> bool {
-        let mut equal = true;
-        if !std::ptr::eq(self, other) {
-            // SAFETY: both handles have files, and they are two.
-            unsafe { sys::gix_config_file_equal(self.handle(), other.handle(), &mut equal) };
-        }
-        equal
+        self.sys.is_equal(&other.sys)
     }
 }
 
@@ -918,27 +1044,29 @@ impl Eq for File {}
 
 impl Clone for File {
     fn clone(&self) -> File {
-        let copy = File {
-            handle: UnsafeCell::new(sys::Handle::empty()),
-        };
-        // SAFETY: the handle has a file, and the other is a new one.
-        match unsafe { sys::gix_config_file_clone(self.handle(), copy.handle()) } {
-            DONE => copy,
-            _ => out_of_memory(),
+        File {
+            sys: self.sys.copy(),
         }
+    }
+}
+
+/// The file's text.
+impl From<File> for BString {
+    fn from(file: File) -> BString {
+        file.to_bstring()
     }
 }
 
 impl fmt::Display for File {
     fn fmt(&self, f: &mut fmt::Formatter<'_>) -> fmt::Result {
-        fmt::Display::fmt(self.text().bytes().as_bstr(), f)
+        fmt::Display::fmt(self.sys.text(None).bytes().as_bstr(), f)
     }
 }
 
 impl fmt::Debug for File {
     fn fmt(&self, f: &mut fmt::Formatter<'_>) -> fmt::Result {
         f.debug_tuple("File")
-            .field(&self.text().bytes().as_bstr())
+            .field(&self.sys.text(None).bytes().as_bstr())
             .finish()
     }
 }

@@ -2,22 +2,22 @@
 use std::borrow::Cow;
 use std::io;
 
-use bstr::{BStr, BString};
+use bstr::BString;
 
-use crate::file::{found, names, File};
+use crate::file::{key_of, names, typed, File};
 use crate::key::AsKey;
 use crate::meta::Metadata;
-use crate::refusal::{out_of_memory, DONE, NOTHING_THERE, OUT_OF_MEMORY};
-use crate::section::{Section, SectionMut};
-use crate::source::{Source, Trust};
+use crate::section::Section;
+use crate::source::Trust;
+use crate::text::AsBStrOpt;
 use crate::{lookup, sys, value};
 
-/// What a program's filter says of each section of a file, in order: where it comes from, and whether it is kept.
-type Answers = Vec<(Metadata, bool)>;
+/// What a program's filter says of a section: its place, where it comes from, and whether it is kept.
+type Answer = (usize, Metadata, bool);
 
 /// The library's filter that says the same, if there is one.
-fn same(answers: &Answers) -> Option<sys::Filter> {
-    let kept = answers.iter().filter(|it| it.1).map(|it| &it.0);
+fn same(answers: &[Answer]) -> Option<sys::Filter> {
+    let kept = answers.iter().filter(|it| it.2).map(|it| &it.1);
     // (no filter that keeps these keeps fewer others)
     let filter = sys::Filter {
         sources: kept.clone().fold(0, |sum, meta| sum | meta.source.number()),
@@ -30,7 +30,7 @@ fn same(answers: &Answers) -> Option<sys::Filter> {
     let keeps = |meta: &Metadata| {
         filter.sources & meta.source.number() != 0 && meta.trust.number() >= filter.least_trust
     };
-    let is_same = answers.iter().all(|(meta, kept)| keeps(meta) == *kept);
+    let is_same = answers.iter().all(|(_, meta, kept)| keeps(meta) == *kept);
     is_same.then_some(filter)
 }
 
@@ -41,94 +41,50 @@ struct Kept<'a> {
 }
 
 impl<'a> Kept<'a> {
-    /// Those of the answers: in the file itself if a filter of the library says the same, else in a copy where they alone are trusted.
-    fn of(file: &'a File, answers: &Answers) -> Self {
+    /// Those of the answers: in the file itself if a filter of the library says the same, else in a copy where of these sections they alone
+    /// are trusted.
+    fn of(file: &'a File, answers: &[Answer]) -> Self {
         if let Some(filter) = same(answers) {
             let file = Cow::Borrowed(file);
             return Kept { file, filter };
         }
         let mut copy = file.clone();
-        for (place, (meta, kept)) in answers.iter().enumerate() {
+        for (place, meta, kept) in answers {
             let trust = if *kept { Trust::Full } else { Trust::Reduced };
             if meta.trust != trust {
-                SectionMut::at(&mut copy, place).set_trust(trust);
+                copy.sys.set_trust_at(*place, trust.number());
             }
         }
         let filter = sys::Filter {
-            sources: Source::SUM,
+            sources: sys::SOURCES_ALL,
             least_trust: Trust::Full.number(),
         };
         let file = Cow::Owned(copy);
         Kept { file, filter }
     }
 
-    /// Those whose metadata a filter keeps.
-    fn by_meta(file: &'a File, mut filter: impl FnMut(&Metadata) -> bool) -> Self {
-        let listed = file.listed().into_iter();
-        let answers = listed.map(|it| {
-            let kept = filter(&it.meta);
-            (it.meta, kept)
+    /// Those of a key's section and subsection whose metadata a filter keeps: a lookup of the key asks no others.
+    fn of_key(
+        file: &'a File,
+        key: &sys::Key<'_>,
+        mut filter: impl FnMut(&Metadata) -> bool,
+    ) -> Self {
+        let named = file.sys.sections_of(key).into_iter();
+        let answers = named.map(|(place, listed)| {
+            let kept = filter(&listed.meta);
+            (place, listed.meta, kept)
         });
-        Kept::of(file, &answers.collect())
+        Kept::of(file, &answers.collect::<Vec<_>>())
     }
 
     fn value(&self, key: &sys::Key<'_>) -> Result<BString, lookup::existing::Error> {
-        let mut block = sys::Block::empty();
-        // SAFETY: the handle has a file, which no other call has now.
-        found(unsafe {
-            sys::gix_config_value_filter(self.file.handle(), key, &self.filter, &mut block)
-        })?;
-        Ok(block.bytes().into())
-    }
-
-    fn values(&self, key: &sys::Key<'_>) -> Result<Vec<BString>, lookup::existing::Error> {
-        let mut list = sys::List::empty();
-        // SAFETY: the handle has a file, which no other call has now.
-        found(unsafe {
-            sys::gix_config_values_filter(self.file.handle(), key, &self.filter, list.handle())
-        })?;
-        Ok(list.texts())
-    }
-
-    /// The last value of a key in a type, by a call of the library.
-    fn typed<T: Default>(
-        &self,
-        key: &sys::Key<'_>,
-        message: &'static str,
-        call: unsafe extern "C" fn(
-            *mut sys::Handle,
-            *const sys::Key<'_>,
-            *const sys::Filter,
-            *mut T,
-        ) -> u32,
-    ) -> Result<Option<T>, value::Error> {
-        let mut found = T::default();
-        // SAFETY: the handle has a file, which no other call has now.
-        match unsafe { call(self.file.handle(), key, &self.filter, &mut found) } {
-            DONE => Ok(Some(found)),
-            NOTHING_THERE => Ok(None),
-            OUT_OF_MEMORY => out_of_memory(),
-            _ => {
-                let input = self.value(key).unwrap_or_default();
-                Err(value::Error { message, input })
-            }
-        }
-    }
-
-    fn text(&self) -> sys::Block {
-        let mut block = sys::Block::empty();
-        // SAFETY: the handle has a file, which no other call has now.
-        match unsafe {
-            sys::gix_config_file_text_filter(self.file.handle(), &self.filter, &mut block)
-        } {
-            DONE => block,
-            _ => out_of_memory(),
-        }
+        let value = self.file.sys.value(key, Some(&self.filter));
+        Ok(value.map_err(lookup::existing::Error::of)?.copy())
     }
 }
 
-/// Lookups in the sections whose metadata a filter keeps. It is asked of each section of the file once, in order, before the lookup; one
-/// that goes by more than sources and trust takes a copy of the file.
+/// Lookups in the sections whose metadata a filter keeps. It is asked of each section of the key's names once, in order, before the lookup;
+/// one that goes by more than sources and trust takes a copy of the file.
 impl File {
     /// As [`File::raw_value`], in the sections whose metadata the filter keeps.
     ///
@@ -140,9 +96,7 @@ impl File {
         key: impl AsKey,
         filter: impl FnMut(&Metadata) -> bool,
     ) -> Result<BString, lookup::existing::Error> {
-        let key = key
-            .try_as_key()
-            .ok_or(lookup::existing::Error::KeyMissing)?;
+        let key = key_of(&key)?;
         self.raw_value_filter_by(
             key.section_name,
             key.subsection_name,
@@ -159,12 +113,13 @@ impl File {
     pub fn raw_value_filter_by(
         &self,
         section_name: impl AsRef<str>,
-        subsection_name: Option<&BStr>,
+        subsection_name: impl AsBStrOpt,
         value_name: impl AsRef<str>,
         filter: impl FnMut(&Metadata) -> bool,
     ) -> Result<BString, lookup::existing::Error> {
+        let subsection_name = subsection_name.as_bstr_opt();
         let key = names(section_name.as_ref(), subsection_name, value_name.as_ref());
-        Kept::by_meta(self, filter).value(&key)
+        Kept::of_key(self, &key, filter).value(&key)
     }
 
     /// As [`File::raw_values`], in the sections whose metadata the filter keeps.
@@ -177,9 +132,7 @@ impl File {
         key: impl AsKey,
         filter: impl FnMut(&Metadata) -> bool,
     ) -> Result<Vec<BString>, lookup::existing::Error> {
-        let key = key
-            .try_as_key()
-            .ok_or(lookup::existing::Error::KeyMissing)?;
+        let key = key_of(&key)?;
         self.raw_values_filter_by(
             key.section_name,
             key.subsection_name,
@@ -196,12 +149,15 @@ impl File {
     pub fn raw_values_filter_by(
         &self,
         section_name: impl AsRef<str>,
-        subsection_name: Option<&BStr>,
+        subsection_name: impl AsBStrOpt,
         value_name: impl AsRef<str>,
         filter: impl FnMut(&Metadata) -> bool,
     ) -> Result<Vec<BString>, lookup::existing::Error> {
+        let subsection_name = subsection_name.as_bstr_opt();
         let key = names(section_name.as_ref(), subsection_name, value_name.as_ref());
-        Kept::by_meta(self, filter).values(&key)
+        let kept = Kept::of_key(self, &key, filter);
+        let values = kept.file.sys.values(&key, Some(&kept.filter));
+        values.map_err(lookup::existing::Error::of)
     }
 
     /// As [`File::string`], in the sections whose metadata the filter keeps.
@@ -230,7 +186,7 @@ impl File {
     pub fn string_filter_by(
         &self,
         section_name: impl AsRef<str>,
-        subsection_name: Option<&BStr>,
+        subsection_name: impl AsBStrOpt,
         value_name: impl AsRef<str>,
         filter: impl FnMut(&Metadata) -> bool,
     ) -> Option<BString> {
@@ -253,7 +209,7 @@ impl File {
     pub fn strings_filter_by(
         &self,
         section_name: impl AsRef<str>,
-        subsection_name: Option<&BStr>,
+        subsection_name: impl AsBStrOpt,
         value_name: impl AsRef<str>,
         filter: impl FnMut(&Metadata) -> bool,
     ) -> Option<Vec<BString>> {
@@ -290,13 +246,17 @@ impl File {
     pub fn boolean_filter_by(
         &self,
         section_name: impl AsRef<str>,
-        subsection_name: Option<&BStr>,
+        subsection_name: impl AsBStrOpt,
         value_name: impl AsRef<str>,
         filter: impl FnMut(&Metadata) -> bool,
     ) -> Result<Option<bool>, value::Error> {
+        let subsection_name = subsection_name.as_bstr_opt();
         let key = names(section_name.as_ref(), subsection_name, value_name.as_ref());
-        let kept = Kept::by_meta(self, filter);
-        kept.typed(&key, "not a boolean", sys::gix_config_boolean_filter)
+        let kept = Kept::of_key(self, &key, filter);
+        let found = kept.file.sys.boolean(&key, Some(&kept.filter));
+        typed(found, "not a boolean", || {
+            kept.value(&key).unwrap_or_default()
+        })
     }
 
     /// As [`File::integer`], in the sections whose metadata the filter keeps.
@@ -328,13 +288,17 @@ impl File {
     pub fn integer_filter_by(
         &self,
         section_name: impl AsRef<str>,
-        subsection_name: Option<&BStr>,
+        subsection_name: impl AsBStrOpt,
         value_name: impl AsRef<str>,
         filter: impl FnMut(&Metadata) -> bool,
     ) -> Result<Option<i64>, value::Error> {
+        let subsection_name = subsection_name.as_bstr_opt();
         let key = names(section_name.as_ref(), subsection_name, value_name.as_ref());
-        let kept = Kept::by_meta(self, filter);
-        kept.typed(&key, "not an integer", sys::gix_config_integer_filter)
+        let kept = Kept::of_key(self, &key, filter);
+        let found = kept.file.sys.integer(&key, Some(&kept.filter));
+        typed(found, "not an integer", || {
+            kept.value(&key).unwrap_or_default()
+        })
     }
 
     /// Writes the text of what comes before the first section, and of the sections that the filter keeps, which is asked of each once, in
@@ -348,11 +312,11 @@ impl File {
         mut out: impl io::Write,
         mut filter: impl FnMut(&Section) -> bool,
     ) -> io::Result<()> {
-        let answers = self.sections().map(|section| {
+        let answers = self.sections().enumerate().map(|(place, section)| {
             let kept = filter(&section);
-            (section.meta, kept)
+            (place, section.meta, kept)
         });
-        let kept = Kept::of(self, &answers.collect());
-        out.write_all(kept.text().bytes())
+        let kept = Kept::of(self, &answers.collect::<Vec<_>>());
+        out.write_all(kept.file.sys.text(Some(&kept.filter)).bytes())
     }
 }

@@ -1,12 +1,14 @@
 //! Which includes are followed, and where files come from.
 use std::fs;
 use std::io;
-use std::path::Path;
+use std::path::{Path, PathBuf};
 
 use bstr::{BStr, BString, ByteSlice};
 
-use crate::refusal::{out_of_memory, DONE, NOT_TOLD, OUT_OF_MEMORY, VARIABLE_NOT_TOLD};
-use crate::sys;
+use crate::parse::section::{header, value_name};
+use crate::parse::span;
+use crate::sys::{self, Wanted};
+use crate::{parse, path};
 
 /// What the conditions of `includeIf` are about.
 pub mod conditional {
@@ -25,15 +27,23 @@ pub mod conditional {
 
 pub use crate::path::interpolate;
 
-/// How includes are followed: ten files deep; deeper ones are refused, and so is a path relative to the folder of a file that has no path.
+/// How includes are followed: not at all, as the default has it, or ten files deep; deeper ones are then refused, and so is a path relative
+/// to the folder of a file that has no path.
 #[derive(Clone, Copy, Debug, Default)]
 pub struct Options<'a> {
+    follow: bool,
     interpolate: interpolate::Context<'a>,
     conditional: conditional::Context<'a>,
     strict: bool,
 }
 
 impl<'a> Options<'a> {
+    /// No include is followed.
+    #[must_use]
+    pub fn no_follow() -> Self {
+        Options::default()
+    }
+
     /// Includes are followed; one whose path has a shorthand that stands for nothing is left out.
     #[must_use]
     pub fn follow(
@@ -41,6 +51,7 @@ impl<'a> Options<'a> {
         conditional: conditional::Context<'a>,
     ) -> Self {
         Options {
+            follow: true,
             interpolate,
             conditional,
             strict: false,
@@ -63,6 +74,17 @@ impl<'a> Options<'a> {
     pub fn strict(mut self) -> Self {
         self.strict = true;
         self
+    }
+
+    /// The same with other folders for the shorthands of paths.
+    #[must_use]
+    pub fn interpolate_with(mut self, context: interpolate::Context<'a>) -> Self {
+        self.interpolate = context;
+        self
+    }
+
+    pub(crate) fn is_followed(&self) -> bool {
+        self.follow
     }
 
     /// The git folder with its symbolic links resolved, or as it is given where that fails.
@@ -103,26 +125,107 @@ pub(crate) fn known(path: Option<&Path>) -> (sys::Text<'_>, bool) {
 }
 
 /// Why a load is refused: for a file, an include or an entry that variables set.
-#[derive(Clone, Debug, PartialEq, Eq, thiserror::Error)]
-#[error("{}", crate::refusal::words(*number))]
-pub struct Error {
+#[derive(Debug, thiserror::Error)]
+pub enum Error {
+    /// A file that is included can't be opened.
+    #[error("{}: '{}'", sys::words(19), path.display())]
+    Open {
+        /// Its path.
+        path: PathBuf,
+        /// Why it can't.
+        source: io::Error,
+    },
+    /// A file that is included can't be read.
+    #[error("{}: '{}'", sys::words(20), path.display())]
+    Read {
+        /// Its path.
+        path: PathBuf,
+        /// Why it can't.
+        source: io::Error,
+    },
+    /// Another file is missing, or can't be opened or read.
+    #[error("{}: '{}'", sys::words(21), path.display())]
+    Io {
+        /// Its path.
+        path: PathBuf,
+        /// Why it can't.
+        source: io::Error,
+    },
+    /// The text of a file can't be read on at some place.
+    #[error("'{}': {source}", path.display())]
+    Parse {
+        /// Its path.
+        path: PathBuf,
+        /// The place, and the reason.
+        source: parse::Error,
+    },
+    /// An include's path stands for none.
+    #[error(transparent)]
+    Interpolate(#[from] path::interpolate::Error),
+    /// Includes are deeper than they are followed.
+    #[error("{}: {max_depth}", sys::words(15))]
+    IncludeDepthExceeded {
+        /// How many files deep includes are followed.
+        max_depth: u8,
+    },
+    /// An include's path is relative, and the file that names it has no path.
+    #[error("{}", sys::words(16))]
+    MissingConfigPath,
+    /// A condition is about the git folder, and there is none.
+    #[error("{}", sys::words(17))]
+    MissingGitDir,
+    /// The git folder can't be resolved.
+    #[error("{}", sys::words(18))]
+    Realpath,
+    /// A variable that sets an entry is refused.
+    #[error("{name}: {}", sys::words(*number))]
+    Variable {
+        /// The variable's name.
+        name: BString,
+        /// The number of the refusal in docs/refusals.md: its count (23), a key or a value that isn't set (24, 26) or isn't UTF-8 (22), or a
+        /// key without a dot (25).
+        number: u32,
+    },
+    /// A section can't be made of the names of a key that a variable sets, or a file would be too long.
+    #[error(transparent)]
+    Header(#[from] header::Error),
+    /// The name of such a key can't be a value's.
+    #[error(transparent)]
+    ValueName(#[from] value_name::Error),
+}
+
+impl Error {
     /// The number of the refusal in docs/refusals.md.
-    pub number: u32,
-    /// The path of the file, or the name of the variable, that was asked for last, if one was.
-    pub path: Option<BString>,
+    #[must_use]
+    pub fn number(&self) -> u32 {
+        match self {
+            Error::Open { .. } => 19,
+            Error::Read { .. } => 20,
+            Error::Io { .. } => 21,
+            Error::Parse { source, .. } => source.number(),
+            Error::Interpolate(error) => error.number(),
+            Error::IncludeDepthExceeded { .. } => 15,
+            Error::MissingConfigPath => 16,
+            Error::MissingGitDir => 17,
+            Error::Realpath => 18,
+            Error::Variable { number, .. } => *number,
+            Error::Header(error) => error.number(),
+            Error::ValueName(error) => error.number(),
+        }
+    }
 }
 
 /// What is at a path.
-#[derive(Clone, Debug, PartialEq, Eq)]
+#[derive(Debug)]
 pub enum Found {
     /// No file: an include of it is left out.
     Missing,
     /// A file of these bytes.
     Text(Vec<u8>),
     /// A file that can't be opened.
-    Unopened,
+    Unopened(io::Error),
     /// A file that can be opened but not read.
-    Unread,
+    Unread(io::Error),
 }
 
 /// Where files come from.
@@ -142,12 +245,12 @@ impl Files for Disk {
         }
         let mut file = match fs::File::open(path) {
             Ok(file) => file,
-            Err(_) => return Found::Unopened,
+            Err(error) => return Found::Unopened(error),
         };
         let mut text = Vec::new();
         match io::Read::read_to_end(&mut file, &mut text) {
             Ok(_) => Found::Text(text),
-            Err(_) => Found::Unread,
+            Err(error) => Found::Unread(error),
         }
     }
 }
@@ -168,10 +271,33 @@ impl Variables for Process {
     }
 }
 
-/// What a call asks for besides what it is given.
-pub(crate) struct Host<'a> {
-    pub(crate) files: &'a mut dyn Files,
-    pub(crate) variables: &'a mut dyn Variables,
+/// What a program has of files: of those that are included none, if they aren't followed.
+pub(crate) struct Followed<'a> {
+    files: &'a mut dyn Files,
+    /// How many files are found whatever they are.
+    first: usize,
+    is_followed: bool,
+}
+
+impl<'a> Followed<'a> {
+    /// So many files, and those that they include if the options follow these.
+    pub(crate) fn of(files: &'a mut dyn Files, first: usize, options: &Options<'_>) -> Self {
+        Followed {
+            files,
+            first,
+            is_followed: options.is_followed(),
+        }
+    }
+}
+
+impl Files for Followed<'_> {
+    fn find(&mut self, path: &Path) -> Found {
+        if self.first == 0 && !self.is_followed {
+            return Found::Missing;
+        }
+        self.first = self.first.saturating_sub(1);
+        self.files.find(path)
+    }
 }
 
 /// The places of configuration that a program knows.
@@ -200,33 +326,99 @@ impl<'a> Places<'a> {
     }
 }
 
-/// Makes a call again and again, each time with one file or variable more, until it asks for none.
-pub(crate) fn ask(
-    host: Host<'_>,
-    mut call: impl FnMut(*mut sys::Handle, &mut sys::Block) -> u32,
-) -> Result<(), Error> {
-    let mut told = sys::Told::new();
-    let mut last = None;
-    loop {
-        let mut asked = sys::Block::empty();
-        let number = call(told.handle(), &mut asked);
-        let about = asked.bytes();
-        if !about.is_empty() {
-            last = Some(about.into());
+/// What a load asks for besides what it is given.
+pub(crate) struct Host<'a> {
+    files: &'a mut dyn Files,
+    variables: &'a mut dyn Variables,
+    told: sys::Told,
+    /// Why the file that was told last can't be opened or read, if it was said to be so.
+    fault: Option<io::Error>,
+}
+
+impl<'a> Host<'a> {
+    pub(crate) fn new(files: &'a mut dyn Files, variables: &'a mut dyn Variables) -> Self {
+        Host {
+            files,
+            variables,
+            told: sys::Told::new(),
+            fault: None,
         }
-        match number {
-            DONE => return Ok(()),
-            NOT_TOLD => told.tell(about, &host.files.find(&path_of(about))),
-            VARIABLE_NOT_TOLD => {
-                told.tell_variable(about, host.variables.get(&about.to_str_lossy()).as_deref());
+    }
+
+    /// Loads again and again, each time with one file or variable more, until none is asked for. Returns whether there is what was wanted.
+    pub(crate) fn load(mut self, file: &sys::File, wanted: Wanted<'_>) -> Result<bool, Error> {
+        loop {
+            let (answer, asked) = file.load(&mut self.told, wanted);
+            let about = asked.bytes();
+            let told = match answer {
+                Ok(()) => return Ok(true),
+                Err(sys::NOTHING_THERE) => return Ok(false),
+                Err(sys::NOT_TOLD) => self.tell_file(about),
+                Err(sys::VARIABLE_NOT_TOLD) => {
+                    let value = self.variables.get(&about.to_str_lossy());
+                    self.told.tell_variable(about, value.as_deref())
+                }
+                Err(number) => Err(number),
+            };
+            if let Err(number) = told {
+                return Err(self.refused(number, about));
             }
-            OUT_OF_MEMORY => out_of_memory(),
-            number => return Err(Error { number, path: last }),
+        }
+    }
+
+    fn tell_file(&mut self, path: &[u8]) -> Result<(), u32> {
+        let found = self.files.find(&path_of(path));
+        let told = self.told.tell(path, &found);
+        self.fault = match found {
+            Found::Unopened(error) | Found::Unread(error) => Some(error),
+            Found::Missing | Found::Text(_) => None,
+        };
+        told
+    }
+
+    /// What a refusal comes to, with what the call named.
+    fn refused(mut self, number: u32, about: &[u8]) -> Error {
+        let fault = |host: Self| {
+            let missing = || io::Error::from(io::ErrorKind::NotFound);
+            (path_of(about), host.fault.unwrap_or_else(missing))
+        };
+        match number {
+            1 | 2 => match self.told.place(about) {
+                Some(refused) => Error::Parse {
+                    path: path_of(about),
+                    source: parse::Error::of(refused),
+                },
+                None => sys::unforeseen(number),
+            },
+            span::Error::NUMBER | 4 | 5 => Error::Header(header::Error::of(number)),
+            value_name::Error::NUMBER => Error::ValueName(value_name::Error),
+            12..=14 | sys::NOT_UTF8 => Error::Interpolate(path::interpolate::Error::of(number)),
+            15 => Error::IncludeDepthExceeded { max_depth: 10 },
+            16 => Error::MissingConfigPath,
+            17 => Error::MissingGitDir,
+            18 => Error::Realpath,
+            19 => {
+                let (path, source) = fault(self);
+                Error::Open { path, source }
+            }
+            20 => {
+                let (path, source) = fault(self);
+                Error::Read { path, source }
+            }
+            21 => {
+                let (path, source) = fault(self);
+                Error::Io { path, source }
+            }
+            22..=26 => Error::Variable {
+                name: about.into(),
+                number,
+            },
+            number => sys::unforeseen(number),
         }
     }
 }
 
 /// The path of bytes.
-pub(crate) fn path_of(bytes: &[u8]) -> std::path::PathBuf {
+pub(crate) fn path_of(bytes: &[u8]) -> PathBuf {
     bytes.to_path_lossy().into_owned()
 }

@@ -58,10 +58,21 @@ macro_rules! text_as_key {
             }
 
             fn try_as_key(&self) -> Option<KeyRef<'_>> {
-                KeyRef::parse_unvalidated(self.as_bytes().as_bstr())
+                let text: &[u8] = self.as_ref();
+                KeyRef::parse_unvalidated(text.as_bstr())
             }
         }
     )*};
 }
 
-text_as_key!(&str, String, &String, &BStr, BString, &BString);
+text_as_key!(str, String, BStr, BString);
+
+impl<T: AsKey + ?Sized> AsKey for &T {
+    fn as_key(&self) -> KeyRef<'_> {
+        (**self).as_key()
+    }
+
+    fn try_as_key(&self) -> Option<KeyRef<'_>> {
+        (**self).try_as_key()
+    }
+}

@@ -4,30 +4,34 @@
 //! gix-config's signature has no such error, [`std::alloc::handle_alloc_error`] is called, as Rust's own collections do.
 //!
 //! ```
-//! use bstr::ByteSlice;
 //! let mut file = gix_config::File::try_from("[core]\n\teditor = vi ; was ed\n")?;
 //! assert_eq!(file.string("core.editor"), Some("vi".into()));
-//! file.set_raw_value_by("core", None, "editor", "emacs")?;
+//! file.set_raw_value("core.editor", "emacs")?;
 //! assert_eq!(file.to_string(), "[core]\n\teditor = emacs ; was ed\n");
 //! # Ok::<(), Box<dyn std::error::Error>>(())
 //! ```
+#![deny(unsafe_code)]
 #![warn(missing_docs)]
 
 pub mod file;
 mod filter;
+pub mod format;
 pub mod includes;
 mod key;
 pub mod lookup;
 mod meta;
 pub mod parse;
 pub mod path;
-mod refusal;
 pub mod section;
-mod source;
+pub mod source;
 mod sys;
+mod text;
+mod typed;
 pub mod value;
 
 pub use file::File;
 pub use key::{AsKey, KeyRef};
 pub use path::Path;
 pub use source::{Source, Trust};
+pub use text::{AsBStr, AsBStrOpt};
+pub use value::Boolean;

@@ -17,7 +17,45 @@ pub struct Metadata {
     pub trust: Trust,
 }
 
+/// That of what comes from a place, but from no file: it is trusted.
+impl From<Source> for Metadata {
+    fn from(source: Source) -> Self {
+        Metadata {
+            path: None,
+            source,
+            level: 0,
+            trust: Trust::Full,
+        }
+    }
+}
+
+impl Default for Metadata {
+    fn default() -> Self {
+        Metadata::api()
+    }
+}
+
 impl Metadata {
+    /// That of what the program makes itself.
+    #[must_use]
+    pub fn api() -> Self {
+        Metadata::from(Source::Api)
+    }
+
+    /// The same with another trust.
+    #[must_use]
+    pub fn with(mut self, trust: Trust) -> Self {
+        self.trust = trust;
+        self
+    }
+
+    /// The same with a path.
+    #[must_use]
+    pub fn at(mut self, path: impl Into<PathBuf>) -> Self {
+        self.path = Some(path.into());
+        self
+    }
+
     /// The same as the library tells it.
     pub(crate) fn of(path: Option<&[u8]>, source: u32, level: u32, trust: u32) -> Self {
         Metadata {

@@ -1,15 +1,11 @@
 //! Paths that values write.
-use std::fmt;
 use std::ops::Deref;
 use std::path::PathBuf;
 
 use bstr::{BStr, BString, ByteSlice};
 
-use crate::file::{names, File};
 use crate::includes::path_of;
-use crate::key::KeyRef;
-use crate::refusal::{out_of_memory, DONE, OUT_OF_MEMORY};
-use crate::sys;
+use crate::value::file_of;
 
 /// What the shorthands of paths stand for.
 pub mod interpolate {
@@ -41,36 +37,55 @@ pub mod interpolate {
         }
     }
 
-    /// Why a path stands for none: it is empty, needs a folder that is not known, or is not UTF-8.
+    /// Why a path stands for none.
     #[derive(Clone, Copy, Debug, PartialEq, Eq, thiserror::Error)]
-    #[error("{}", crate::refusal::words(*number))]
-    pub struct Error {
+    pub enum Error {
+        /// It is empty, or needs a folder that is not known, as those of other users.
+        #[error("{}", sys::words(12))]
+        Missing,
+        /// It is not UTF-8.
+        #[error("{}", sys::words(13))]
+        Utf8Conversion,
+        /// The name of a user in it is not UTF-8.
+        #[error("{}", sys::words(14))]
+        UsernameConversion,
+        /// A folder that is known, or the path of a file, is not UTF-8.
+        #[error("{}", sys::words(sys::NOT_UTF8))]
+        FolderConversion,
+    }
+
+    impl Error {
         /// The number of the refusal in docs/refusals.md; 101 for a folder that is not UTF-8.
-        pub number: u32,
+        #[must_use]
+        pub fn number(&self) -> u32 {
+            match self {
+                Error::Missing => 12,
+                Error::Utf8Conversion => 13,
+                Error::UsernameConversion => 14,
+                Error::FolderConversion => sys::NOT_UTF8,
+            }
+        }
+
+        pub(crate) fn of(number: u32) -> Self {
+            match number {
+                12 => Error::Missing,
+                13 => Error::Utf8Conversion,
+                14 => Error::UsernameConversion,
+                sys::NOT_UTF8 => Error::FolderConversion,
+                number => sys::unforeseen(number),
+            }
+        }
     }
 }
 
-/// A value as a path: its bytes as the file has them. [`Path::interpolate`] replaces the shorthand at its front.
-pub struct Path<'a> {
-    file: &'a File,
-    section_name: String,
-    subsection_name: Option<BString>,
-    value_name: String,
-    value: BString,
+/// A value as a path: its bytes as they are written. [`Path::interpolate`] replaces the shorthand at its front.
+#[derive(Clone, Debug, PartialEq, Eq, PartialOrd, Ord, Hash)]
+pub struct Path {
+    /// The bytes.
+    pub value: BString,
 }
 
-impl<'a> Path<'a> {
-    /// The path that the last value of a key writes, if there is one.
-    pub(crate) fn of(file: &'a File, key: KeyRef<'_>) -> Option<Self> {
-        Some(Path {
-            file,
-            section_name: key.section_name.into(),
-            subsection_name: key.subsection_name.map(BString::from),
-            value_name: key.value_name.into(),
-            value: file.string(key)?,
-        })
-    }
-
+impl Path {
     /// The path with the shorthand at its front replaced: `%(prefix)/` by the folder where git is installed, `~/` by the user's home
     /// folder.
     ///
@@ -94,29 +109,22 @@ impl<'a> Path<'a> {
         self,
         context: interpolate::Context<'_>,
     ) -> Result<PathBuf, interpolate::Error> {
-        let mut path = sys::Block::empty();
-        let subsection_name = self.subsection_name.as_ref().map(|name| name.as_bstr());
-        let key = names(&self.section_name, subsection_name, &self.value_name);
-        // SAFETY: the handle has a file, which no other call has now.
-        match unsafe { sys::gix_config_path(self.file.handle(), &key, &context.given(), &mut path) }
-        {
-            DONE => Ok(path_of(path.bytes())),
-            OUT_OF_MEMORY => out_of_memory(),
-            number => Err(interpolate::Error { number }),
-        }
+        let (file, key) = file_of(self.value.as_bstr());
+        let path = file.sys.path(&key, &context.given());
+        Ok(path_of(path.map_err(interpolate::Error::of)?.bytes()))
     }
 }
 
-impl Deref for Path<'_> {
+impl From<BString> for Path {
+    fn from(value: BString) -> Self {
+        Path { value }
+    }
+}
+
+impl Deref for Path {
     type Target = BStr;
 
     fn deref(&self) -> &BStr {
         self.value.as_bstr()
-    }
-}
-
-impl fmt::Debug for Path<'_> {
-    fn fmt(&self, f: &mut fmt::Formatter<'_>) -> fmt::Result {
-        f.debug_tuple("Path").field(&self.value).finish()
     }
 }

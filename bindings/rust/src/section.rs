@@ -1,11 +1,15 @@
 //! The sections of a file.
-use bstr::{BStr, BString, ByteSlice};
+use std::fmt;
+
+use bstr::{BStr, BString};
 
 use crate::file::{section_names, File};
 use crate::meta::Metadata;
-use crate::refusal::{out_of_memory, DONE, NOTHING_THERE, OUT_OF_MEMORY};
+use crate::parse::section::header;
+use crate::parse::span;
 use crate::source::Trust;
 use crate::sys;
+use crate::text::{AsBStr, AsBStrOpt, IntoBStringOpt};
 
 /// The header of a section.
 #[derive(Clone, Debug, PartialEq, Eq)]
@@ -111,20 +115,40 @@ impl Section {
     }
 }
 
-/// Why an edit of a section isn't done: a name can't be written, or the file would be too long. The file is then as it was.
-#[derive(Clone, Copy, Debug, PartialEq, Eq, thiserror::Error)]
-#[error("{}", crate::refusal::words(*number))]
-pub struct Error {
-    /// The number of the refusal in docs/refusals.md.
-    pub number: u32,
-}
+/// Values of a section.
+pub mod value {
+    use crate::parse::section::value_name;
+    use crate::parse::span;
+    use crate::sys;
 
-/// What the number of an edit says.
-fn done(number: u32) -> Result<(), Error> {
-    match number {
-        DONE => Ok(()),
-        OUT_OF_MEMORY => out_of_memory(),
-        number => Err(Error { number }),
+    /// Why a section doesn't get a value. The file is then as it was.
+    #[derive(Clone, Copy, Debug, PartialEq, Eq, thiserror::Error)]
+    pub enum Error {
+        /// The name can't be a value's.
+        #[error(transparent)]
+        ValueName(#[from] value_name::Error),
+        /// The file would be too long.
+        #[error(transparent)]
+        Span(#[from] span::Error),
+    }
+
+    impl Error {
+        /// The number of the refusal in docs/refusals.md.
+        #[must_use]
+        pub fn number(&self) -> u32 {
+            match self {
+                Error::ValueName(error) => error.number(),
+                Error::Span(error) => error.number(),
+            }
+        }
+
+        pub(crate) fn of(number: u32) -> Self {
+            match number {
+                span::Error::NUMBER => Error::Span(span::Error),
+                value_name::Error::NUMBER => Error::ValueName(value_name::Error),
+                number => sys::unforeseen(number),
+            }
+        }
     }
 }
 
@@ -132,6 +156,12 @@ fn done(number: u32) -> Result<(), Error> {
 pub struct SectionMut<'a> {
     file: &'a mut File,
     place: usize,
+}
+
+impl fmt::Debug for SectionMut<'_> {
+    fn fmt(&self, f: &mut fmt::Formatter<'_>) -> fmt::Result {
+        f.debug_tuple("SectionMut").field(&self.section()).finish()
+    }
 }
 
 impl<'a> SectionMut<'a> {
@@ -143,19 +173,43 @@ impl<'a> SectionMut<'a> {
     /// The section as it is now.
     #[must_use]
     pub fn section(&self) -> Section {
-        let section = self.file.section_at(self.place);
-        section.expect("an editor is of a section that is there")
+        self.file.section_at(self.place)
+    }
+
+    /// [`Section::value`] of the section as it is now.
+    #[must_use]
+    pub fn value(&self, value_name: impl AsRef<str>) -> Option<BString> {
+        self.section().value(value_name)
+    }
+
+    /// [`Section::value_implicit`] of the section as it is now.
+    #[must_use]
+    pub fn value_implicit(&self, value_name: &str) -> Option<Option<BString>> {
+        self.section().value_implicit(value_name)
+    }
+
+    /// [`Section::values`] of the section as it is now.
+    #[must_use]
+    pub fn values(&self, value_name: &str) -> Vec<BString> {
+        self.section().values(value_name)
+    }
+
+    /// [`Section::contains_value_name`] of the section as it is now.
+    #[must_use]
+    pub fn contains_value_name(&self, value_name: &str) -> bool {
+        self.section().contains_value_name(value_name)
+    }
+
+    /// [`Section::num_values`] of the section as it is now.
+    #[must_use]
+    pub fn num_values(&self) -> usize {
+        self.section().num_values()
     }
 
     /// Sets how far the section is trusted.
     pub fn set_trust(&mut self, trust: Trust) -> &mut Self {
-        // SAFETY: the handle has a file, which no other call has now.
-        match unsafe {
-            sys::gix_config_section_set_trust_at(self.file.handle(), self.place, trust.number())
-        } {
-            DONE => self,
-            _ => out_of_memory(),
-        }
+        self.file.sys.set_trust_at(self.place, trust.number());
+        self
     }
 
     fn push_line(
@@ -163,7 +217,7 @@ impl<'a> SectionMut<'a> {
         value_name: &str,
         value: Option<&BStr>,
         comment: Option<&BStr>,
-    ) -> Result<(), Error> {
+    ) -> Result<&mut Self, value::Error> {
         let line = sys::Line {
             name: sys::Text::of(value_name.as_bytes()),
             has_value: value.is_some(),
@@ -171,8 +225,9 @@ impl<'a> SectionMut<'a> {
             has_comment: comment.is_some(),
             comment: sys::Text::of(comment.unwrap_or_default()),
         };
-        // SAFETY: the handle has a file, which no other call has now.
-        done(unsafe { sys::gix_config_push_line_at(self.file.handle(), self.place, &line) })
+        let pushed = self.file.sys.push_line_at(self.place, &line);
+        pushed.map_err(value::Error::of)?;
+        Ok(self)
     }
 
     /// Adds an entry after all others, with the blanks that the section uses; without a value it is the name alone.
@@ -180,8 +235,12 @@ impl<'a> SectionMut<'a> {
     /// # Errors
     ///
     /// The name can't be a value's, or the file would be too long.
-    pub fn push(&mut self, value_name: impl AsRef<str>, value: Option<&BStr>) -> Result<(), Error> {
-        self.push_line(value_name.as_ref(), value, None)
+    pub fn push(
+        &mut self,
+        value_name: impl AsRef<str>,
+        value: impl AsBStrOpt,
+    ) -> Result<&mut Self, value::Error> {
+        self.push_line(value_name.as_ref(), value.as_bstr_opt(), None)
     }
 
     /// Adds an entry below the last one, or below the header if there is none: comments and blank lines behind it stay behind the new one.
@@ -195,23 +254,19 @@ impl<'a> SectionMut<'a> {
     ///
     /// ```
     /// let mut file = gix_config::File::try_from("[a]\n\tk = 1\n\n# of b\n[b]\n")?;
-    /// file.section_mut("a", None)?.push_after_last("j", "2".into())?;
+    /// file.section_mut("a", None)?.push_after_last("j", "2")?;
     /// assert_eq!(file.to_string(), "[a]\n\tk = 1\n\tj = 2\n\n# of b\n[b]\n");
     /// # Ok::<(), Box<dyn std::error::Error>>(())
     /// ```
     pub fn push_after_last(
         &mut self,
         value_name: impl AsRef<str>,
-        value: &BStr,
-    ) -> Result<(), Error> {
-        let assigned = sys::Assigned {
-            name: sys::Text::of(value_name.as_ref().as_bytes()),
-            value: sys::Text::of(value),
-        };
-        // SAFETY: the handle has a file, which no other call has now.
-        done(unsafe {
-            sys::gix_config_push_below_last_at(self.file.handle(), self.place, &assigned)
-        })
+        value: impl AsBStr,
+    ) -> Result<&mut Self, value::Error> {
+        let assigned = assigned(value_name.as_ref(), value.as_bstr());
+        let pushed = self.file.sys.push_below_last_at(self.place, &assigned);
+        pushed.map_err(value::Error::of)?;
+        Ok(self)
     }
 
     /// Adds a line ending after all that the section has.
@@ -219,9 +274,12 @@ impl<'a> SectionMut<'a> {
     /// # Errors
     ///
     /// The file would be too long.
-    pub fn push_newline(&mut self) -> Result<(), Error> {
-        // SAFETY: the handle has a file, which no other call has now.
-        done(unsafe { sys::gix_config_push_newline_at(self.file.handle(), self.place) })
+    pub fn push_newline(&mut self) -> Result<&mut Self, span::Error> {
+        match self.file.sys.push_newline_at(self.place) {
+            Ok(()) => Ok(self),
+            Err(span::Error::NUMBER) => Err(span::Error),
+            Err(number) => sys::unforeseen(number),
+        }
     }
 
     /// As [`SectionMut::push`], with a comment behind it.
@@ -232,10 +290,11 @@ impl<'a> SectionMut<'a> {
     pub fn push_with_comment(
         &mut self,
         value_name: impl AsRef<str>,
-        value: Option<&BStr>,
-        comment: impl AsRef<str>,
-    ) -> Result<(), Error> {
-        self.push_line(value_name.as_ref(), value, Some(comment.as_ref().into()))
+        value: impl AsBStrOpt,
+        comment: impl AsBStr,
+    ) -> Result<&mut Self, value::Error> {
+        let comment = Some(comment.as_bstr());
+        self.push_line(value_name.as_ref(), value.as_bstr_opt(), comment)
     }
 
     /// Gives the last entry of the name a value, or adds one. Returns the raw text of the value that was there, if there was an entry.
@@ -246,54 +305,23 @@ impl<'a> SectionMut<'a> {
     pub fn set(
         &mut self,
         value_name: impl AsRef<str>,
-        value: &BStr,
-    ) -> Result<Option<BString>, Error> {
-        let (mut had, mut old) = (false, sys::Block::empty());
-        let assigned = sys::Assigned {
-            name: sys::Text::of(value_name.as_ref().as_bytes()),
-            value: sys::Text::of(value),
-        };
-        // SAFETY: the handle has a file, which no other call has now.
-        done(unsafe {
-            sys::gix_config_set_value_at(
-                self.file.handle(),
-                self.place,
-                &assigned,
-                &mut had,
-                &mut old,
-            )
-        })?;
-        Ok(had.then(|| old.bytes().into()))
+        value: impl AsBStr,
+    ) -> Result<Option<BString>, value::Error> {
+        let assigned = assigned(value_name.as_ref(), value.as_bstr());
+        let set = self.file.sys.set_value_at(self.place, &assigned);
+        set.map_err(value::Error::of)
     }
 
     /// Removes the last entry of the name. Returns the raw text of its value, if there was one.
     pub fn remove(&mut self, value_name: &str) -> Option<BString> {
-        let mut old = sys::Block::empty();
-        let (name, len) = (value_name.as_ptr(), value_name.len());
-        // SAFETY: the handle has a file, which no other call has now, and the name is as long as is said.
-        match unsafe {
-            sys::gix_config_remove_value_at(self.file.handle(), self.place, name, len, &mut old)
-        } {
-            DONE => Some(old.bytes().into()),
-            NOTHING_THERE => None,
-            _ => out_of_memory(),
-        }
+        found(self.file.sys.remove_value_at(self.place, value_name))
     }
 
     /// Removes the marked entries of the name: the first of its entries goes if the first mark is true, and so on; those behind the last
     /// mark stay. Returns how many went.
     pub fn remove_marked(&mut self, value_name: &str, marks: &[bool]) -> usize {
-        let mut count = 0;
-        let (name, name_len) = (value_name.as_ptr(), value_name.len());
-        let (at, len) = (marks.as_ptr(), marks.len());
-        let file = self.file.handle();
-        // SAFETY: the handle has a file, which no other call has now, and name and marks are as long as is said.
-        match unsafe {
-            sys::gix_config_remove_marked_at(file, self.place, name, name_len, at, len, &mut count)
-        } {
-            DONE => count,
-            _ => out_of_memory(),
-        }
+        let file = &mut self.file.sys;
+        file.remove_marked_at(self.place, value_name, marks)
     }
 
     /// Removes all entries of the name. Returns how many went.
@@ -312,16 +340,9 @@ impl<'a> SectionMut<'a> {
     }
 
     /// Removes the last entry, with all that is after it. Returns its name as it is spelled, and what its value means.
-    pub fn pop(&mut self) -> Option<(BString, BString)> {
-        let (mut name, mut value) = (sys::Block::empty(), sys::Block::empty());
-        // SAFETY: the handle has a file, which no other call has now.
-        match unsafe {
-            sys::gix_config_pop_value_at(self.file.handle(), self.place, &mut name, &mut value)
-        } {
-            DONE => Some((name.bytes().into(), value.bytes().into())),
-            NOTHING_THERE => None,
-            _ => out_of_memory(),
-        }
+    pub fn pop(&mut self) -> Option<(String, BString)> {
+        let (name, value) = found(self.file.sys.pop_value_at(self.place))?;
+        Some((name.to_string(), value))
     }
 
     /// Gives the section another name and subsection.
@@ -329,13 +350,32 @@ impl<'a> SectionMut<'a> {
     /// # Errors
     ///
     /// A section can't be made of the names, or the file would be too long.
-    pub fn rename<'b>(
+    pub fn rename(
         &mut self,
         name: impl AsRef<str>,
-        subsection_name: impl Into<Option<&'b BStr>>,
-    ) -> Result<(), Error> {
-        let names = section_names(name.as_ref(), subsection_name.into());
-        // SAFETY: the handle has a file, which no other call has now.
-        done(unsafe { sys::gix_config_section_rename_at(self.file.handle(), self.place, &names) })
+        subsection_name: impl IntoBStringOpt,
+    ) -> Result<&mut Self, header::Error> {
+        let subsection_name = subsection_name.into_bstring_opt();
+        let names = section_names(name.as_ref(), subsection_name.as_ref().map(AsBStr::as_bstr));
+        let renamed = self.file.sys.rename_section_at(self.place, &names);
+        renamed.map_err(header::Error::of)?;
+        Ok(self)
+    }
+}
+
+/// A name with its value, as the library takes them.
+fn assigned<'a>(name: &'a str, value: &'a BStr) -> sys::Assigned<'a> {
+    sys::Assigned {
+        name: sys::Text::of(name.as_bytes()),
+        value: sys::Text::of(value),
+    }
+}
+
+/// What a call found that may find nothing.
+fn found<T>(answer: Result<T, u32>) -> Option<T> {
+    match answer {
+        Ok(found) => Some(found),
+        Err(sys::NOTHING_THERE) => None,
+        Err(number) => sys::unforeseen(number),
     }
 }

@@ -25,7 +25,48 @@ pub enum Source {
     EnvOverride = 512,
 }
 
+/// Places that configuration is read from, by what they are for; of two the later one counts.
+#[derive(Clone, Copy, Debug, PartialEq, Eq, PartialOrd, Ord, Hash)]
+pub enum Kind {
+    /// What was installed with git.
+    GitInstallation,
+    /// The whole machine.
+    System,
+    /// The user.
+    Global,
+    /// A repository and its worktrees.
+    Repository,
+    /// What counts before all files.
+    Override,
+}
+
+impl Kind {
+    /// The places of the kind that files or programs stand for, in order.
+    #[must_use]
+    pub fn sources(self) -> &'static [Source] {
+        match self {
+            Kind::GitInstallation => &[Source::GitInstallation],
+            Kind::System => &[Source::System],
+            Kind::Global => &[Source::Git, Source::User],
+            Kind::Repository => &[Source::Local, Source::Worktree],
+            Kind::Override => &[Source::Env, Source::Cli, Source::Api],
+        }
+    }
+}
+
 impl Source {
+    /// What the place is for.
+    #[must_use]
+    pub const fn kind(self) -> Kind {
+        match self {
+            Source::GitInstallation => Kind::GitInstallation,
+            Source::System => Kind::System,
+            Source::Git | Source::User => Kind::Global,
+            Source::Local | Source::Worktree => Kind::Repository,
+            Source::Env | Source::Cli | Source::Api | Source::EnvOverride => Kind::Override,
+        }
+    }
+
     const ALL: [Source; 10] = [
         Source::GitInstallation,
         Source::System,
@@ -38,9 +79,6 @@ impl Source {
         Source::Api,
         Source::EnvOverride,
     ];
-
-    /// The numbers of all of them, added up.
-    pub(crate) const SUM: u32 = 1023;
 
     /// The number of the library. Those of several add up.
     pub(crate) const fn number(self) -> u32 {

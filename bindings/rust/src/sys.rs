@@ -1,21 +1,58 @@
-//! The calls of the library, as include/gix_config.h has them.
-use std::ffi::c_void;
+//! The library's calls, as safe functions: no other file has `unsafe`.
+//!
+//! Each returns the number of a refusal that its caller is to tell. Out of memory ends the program, as in Rust's own collections, and a number
+//! that a call doesn't answer is a panic that names it.
+#![allow(unsafe_code)]
+
+use std::cell::UnsafeCell;
 use std::marker::PhantomData;
+use std::mem::MaybeUninit;
 
 use bstr::BString;
 
 use crate::includes::Found;
 use crate::meta::Metadata;
-use crate::refusal::{out_of_memory, DONE};
 use crate::section;
 
-/// Bytes that lie somewhere.
-#[repr(C)]
-#[derive(Clone, Copy)]
-pub(crate) struct Text<'a> {
-    at: *const u8,
-    len: usize,
-    bytes: PhantomData<&'a [u8]>,
+// (as tools/c_header writes it)
+#[rustfmt::skip]
+mod raw;
+
+pub(crate) use raw::{
+    Assigned, Filter, Folders, Includes, Key, Layout, Line, Load, Origin, Place, Places,
+    Repository, Section, Text, NOTHING_THERE, NOT_TOLD, NOT_UTF8, SOURCES_ALL, VARIABLE_NOT_TOLD,
+};
+
+/// The number of a refusal.
+pub(crate) type Number = u32;
+
+/// What the answer of a call says.
+fn done(number: Number) -> Result<(), Number> {
+    match number {
+        raw::DONE => Ok(()),
+        raw::OUT_OF_MEMORY => std::alloc::handle_alloc_error(std::alloc::Layout::new::<u8>()),
+        number => Err(number),
+    }
+}
+
+/// Ends the program by a number that the call doesn't answer.
+pub(crate) fn unforeseen(number: Number) -> ! {
+    panic!("libgix_config answered {number}: {}", words(number))
+}
+
+/// Of a call that is only refused for want of memory.
+fn surely(number: Number) {
+    done(number).unwrap_or_else(|number| unforeseen(number));
+}
+
+/// What a number says.
+pub(crate) fn words(number: Number) -> &'static str {
+    let mut text = Text::of(b"");
+    // SAFETY: the text is written alone, and what it then points to stays for good.
+    unsafe {
+        raw::gix_config_refusal_text(number, &mut text);
+        std::str::from_utf8(text.bytes()).unwrap_or_default()
+    }
 }
 
 impl<'a> Text<'a> {
@@ -23,7 +60,7 @@ impl<'a> Text<'a> {
         Text {
             at: bytes.as_ptr(),
             len: bytes.len(),
-            bytes: PhantomData,
+            lent: PhantomData,
         }
     }
 
@@ -31,8 +68,8 @@ impl<'a> Text<'a> {
     ///
     /// # Safety
     ///
-    /// They lie there, for as long as `'a` says.
-    pub(crate) unsafe fn bytes(&self) -> &'a [u8] {
+    /// They lie there, for as long as `'a` says, or the length is 0.
+    unsafe fn bytes(&self) -> &'a [u8] {
         if self.len == 0 {
             return &[];
         }
@@ -40,337 +77,120 @@ impl<'a> Text<'a> {
     }
 }
 
-/// The names of a value.
-#[repr(C)]
-pub(crate) struct Key<'a> {
-    pub(crate) section: Text<'a>,
-    pub(crate) has_subsection: bool,
-    pub(crate) subsection: Text<'a>,
-    pub(crate) name: Text<'a>,
-}
-
-/// The names of a section.
-#[repr(C)]
-pub(crate) struct Section<'a> {
-    pub(crate) name: Text<'a>,
-    pub(crate) has_subsection: bool,
-    pub(crate) subsection: Text<'a>,
-}
-
-/// A line of a section.
-#[repr(C)]
-pub(crate) struct Line<'a> {
-    pub(crate) name: Text<'a>,
-    pub(crate) has_value: bool,
-    pub(crate) value: Text<'a>,
-    pub(crate) has_comment: bool,
-    pub(crate) comment: Text<'a>,
-}
-
-/// A name with its value.
-#[repr(C)]
-pub(crate) struct Assigned<'a> {
-    pub(crate) name: Text<'a>,
-    pub(crate) value: Text<'a>,
-}
-
-/// The folders that the shorthands of paths stand for.
-#[repr(C)]
-pub(crate) struct Folders<'a> {
-    pub(crate) has_installation: bool,
-    pub(crate) installation: Text<'a>,
-    pub(crate) has_home: bool,
-    pub(crate) home: Text<'a>,
-}
-
-/// How includes are followed.
-#[repr(C)]
-pub(crate) struct Includes<'a> {
-    pub(crate) strict: bool,
-    pub(crate) lossy: bool,
-    pub(crate) folders: Folders<'a>,
-    pub(crate) has_git_folder: bool,
-    pub(crate) git_folder: Text<'a>,
-    pub(crate) real_git_folder: Text<'a>,
-    pub(crate) has_branch: bool,
-    pub(crate) branch: Text<'a>,
-}
-
-/// Which file is loaded, and how includes are followed.
-#[repr(C)]
-pub(crate) struct Load<'a> {
-    pub(crate) path: Text<'a>,
-    pub(crate) source: u32,
-    pub(crate) trust: u32,
-    pub(crate) includes: Includes<'a>,
-}
-
-/// The places of configuration that a program knows.
-#[repr(C)]
-pub(crate) struct Places<'a> {
-    pub(crate) has_installation: bool,
-    pub(crate) installation: Text<'a>,
-    pub(crate) system_prefix: Text<'a>,
-    pub(crate) has_home: bool,
-    pub(crate) home: Text<'a>,
-}
-
-/// A repository.
-#[repr(C)]
-pub(crate) struct Repository<'a> {
-    pub(crate) git_folder: Text<'a>,
-    pub(crate) real_git_folder: Text<'a>,
-    pub(crate) places: Places<'a>,
-}
-
-/// Which sections are asked: those of some sources that are trusted enough.
-#[repr(C)]
-#[derive(Clone, Copy)]
-pub(crate) struct Filter {
-    pub(crate) sources: u32,
-    pub(crate) least_trust: u32,
-}
-
-/// Where a whole file comes from.
-#[repr(C)]
-#[derive(Default)]
-pub(crate) struct Origin {
-    pub(crate) source: u32,
-    pub(crate) level: u32,
-    pub(crate) trust: u32,
-    pub(crate) has_path: bool,
-}
-
-/// What is told of files and of variables, which is freed with this.
-pub(crate) struct Told(Handle);
-
-impl Told {
-    /// Nothing is told as yet.
-    pub(crate) fn new() -> Self {
-        let mut told = Told(Handle::empty());
-        // SAFETY: the handle is a new one.
-        if unsafe { gix_config_told_new(told.handle()) } != DONE {
-            out_of_memory()
-        }
-        told
-    }
-
-    pub(crate) fn handle(&mut self) -> &mut Handle {
-        &mut self.0
-    }
-
-    /// Tells what is at a path, which is UTF-8.
-    pub(crate) fn tell(&mut self, path: &[u8], found: &Found) {
-        let (at, len) = (path.as_ptr(), path.len());
-        // SAFETY: the handle has what is told, and path and text are as long as is said.
-        let answer = unsafe {
-            match found {
-                Found::Missing => gix_config_told_missing(&mut self.0, at, len),
-                Found::Text(text) => {
-                    gix_config_told_text(&mut self.0, at, len, text.as_ptr(), text.len())
-                }
-                Found::Unopened => gix_config_told_fault(&mut self.0, at, len, false),
-                Found::Unread => gix_config_told_fault(&mut self.0, at, len, true),
-            }
-        };
-        if answer != DONE {
-            out_of_memory()
-        }
-    }
-
-    /// Tells what a variable is set to, whose name is UTF-8; that it isn't set for `None`.
-    pub(crate) fn tell_variable(&mut self, name: &[u8], value: Option<&[u8]>) {
-        let (at, len) = (name.as_ptr(), name.len());
-        // SAFETY: the handle has what is told, and name and value are as long as is said.
-        let answer = unsafe {
-            match value {
-                Some(value) => {
-                    gix_config_told_variable(&mut self.0, at, len, value.as_ptr(), value.len())
-                }
-                None => gix_config_told_no_variable(&mut self.0, at, len),
-            }
-        };
-        if answer != DONE {
-            out_of_memory()
-        }
-    }
-}
-
-impl Drop for Told {
-    fn drop(&mut self) {
-        // SAFETY: the handle is empty, or was filled by a call.
-        unsafe { gix_config_told_close(&mut self.0) }
-    }
-}
-
-/// Where a text is refused.
-#[repr(C)]
-#[derive(Default)]
-pub(crate) struct Place {
-    pub(crate) line: usize,
-    pub(crate) column: usize,
-    pub(crate) offset: usize,
-}
-
-/// Null, or the one owner of an object.
-#[repr(C)]
-pub(crate) struct Handle(*mut c_void);
-
-impl Handle {
-    pub(crate) const fn empty() -> Self {
-        Handle(std::ptr::null_mut())
-    }
-}
-
 /// Bytes that a call hands out, which are freed with this.
-#[repr(C)]
-pub(crate) struct Block {
-    at: *const u8,
-    len: usize,
-    owner: Handle,
-}
+pub(crate) struct Bytes(raw::Bytes);
 
-impl Block {
-    pub(crate) const fn empty() -> Self {
-        Block {
+impl Bytes {
+    fn empty() -> Self {
+        Bytes(raw::Bytes {
             at: std::ptr::null(),
             len: 0,
-            owner: Handle::empty(),
-        }
+            owner: std::ptr::null_mut(),
+        })
     }
 
     pub(crate) fn bytes(&self) -> &[u8] {
+        let text = Text {
+            at: self.0.at,
+            len: self.0.len,
+            lent: PhantomData,
+        };
         // SAFETY: the block owns these bytes, or has none.
-        unsafe {
-            Text {
-                at: self.at,
-                len: self.len,
-                bytes: PhantomData,
-            }
-            .bytes()
-        }
+        unsafe { text.bytes() }
+    }
+
+    /// A copy of the bytes.
+    pub(crate) fn copy(&self) -> BString {
+        self.bytes().into()
     }
 }
 
-impl Drop for Block {
+impl Drop for Bytes {
     fn drop(&mut self) {
         // SAFETY: the block is empty, or was filled by a call.
-        unsafe { gix_config_bytes_free(self) }
+        unsafe { raw::gix_config_bytes_free(&mut self.0) }
     }
 }
 
-/// Texts that a call hands out, which are freed with this.
-pub(crate) struct List(Handle);
+/// What a call lists, which is freed with this.
+struct List(raw::List);
 
 impl List {
-    pub(crate) const fn empty() -> Self {
-        List(Handle::empty())
+    fn empty() -> Self {
+        List(raw::List {
+            at: std::ptr::null_mut(),
+        })
     }
 
-    pub(crate) fn handle(&mut self) -> &mut Handle {
-        &mut self.0
+    fn len(&mut self) -> usize {
+        // SAFETY: the handle is empty, or was filled by a call.
+        unsafe { raw::gix_config_list_len(&mut self.0) }
+    }
+
+    /// What is made of a thing of the list.
+    ///
+    /// # Safety
+    ///
+    /// A thing may be all zeros, and the call fills it. It lies in the list, so that what is made of it is a copy.
+    unsafe fn one<T, Made>(
+        &mut self,
+        index: usize,
+        call: unsafe extern "C" fn(*mut raw::List, usize, *mut T) -> u32,
+        make: impl Fn(&T) -> Made,
+    ) -> Made {
+        let mut thing = MaybeUninit::<T>::zeroed();
+        surely(call(&mut self.0, index, thing.as_mut_ptr()));
+        make(&thing.assume_init())
     }
 
     /// Copies of the texts.
-    pub(crate) fn texts(&mut self) -> Vec<BString> {
-        // SAFETY: the handle is empty or has a list, and a text lies in it until it is closed.
-        unsafe {
-            let count = gix_config_list_len(&mut self.0);
-            let mut texts = Vec::with_capacity(count);
-            for index in 0..count {
-                let mut text = Text::of(b"");
-                gix_config_list_at(&mut self.0, index, &mut text);
-                texts.push(text.bytes().into());
-            }
-            texts
-        }
-    }
-}
-
-/// Where the parts of an entry lie.
-#[repr(C)]
-pub(crate) struct Entry<'a> {
-    section: Text<'a>,
-    has_subsection: bool,
-    subsection: Text<'a>,
-    name: Text<'a>,
-    has_value: bool,
-    value: Text<'a>,
-}
-
-/// Where the names of a section lie, and where it comes from.
-#[repr(C)]
-pub(crate) struct ListedSection<'a> {
-    name: Text<'a>,
-    has_subsection: bool,
-    subsection: Text<'a>,
-    has_path: bool,
-    path: Text<'a>,
-    source: u32,
-    level: u32,
-    trust: u32,
-    entries: usize,
-}
-
-impl List {
-    /// Copies of the names and values of a list of entries.
-    pub(crate) fn entries(&mut self) -> Vec<section::Entry> {
-        let nothing = Text::of(b"");
-        // SAFETY: the handle is empty or has a list of entries, whose parts lie in it until it is closed.
-        unsafe {
-            let count = gix_config_list_len(&mut self.0);
-            let mut entries = Vec::with_capacity(count);
-            for index in 0..count {
-                let mut entry = Entry {
-                    section: nothing,
-                    has_subsection: false,
-                    subsection: nothing,
-                    name: nothing,
-                    has_value: false,
-                    value: nothing,
-                };
-                gix_config_list_entry(&mut self.0, index, &mut entry);
-                let value = entry.has_value.then(|| entry.value.bytes().into());
-                entries.push((entry.name.bytes().into(), value));
-            }
-            entries
-        }
+    fn texts(mut self) -> Vec<BString> {
+        let text = |list: &mut List, index| {
+            // SAFETY: a text may be all zeros, and lies in the list.
+            unsafe { list.one(index, raw::gix_config_list_at, |text| text.bytes().into()) }
+        };
+        (0..self.len())
+            .map(|index| text(&mut self, index))
+            .collect()
     }
 
-    /// Copies of what a list of sections says of each.
-    pub(crate) fn sections(&mut self) -> Vec<section::Listed> {
-        let nothing = Text::of(b"");
-        // SAFETY: the handle is empty or has a list of sections, whose parts lie in it until it is closed.
+    /// Copies of the names and values of entries.
+    fn entries(mut self) -> Vec<section::Entry> {
+        let entry = |list: &mut List, index| {
+            // SAFETY: an entry may be all zeros, and its parts lie in the list.
+            unsafe {
+                list.one(index, raw::gix_config_list_entry, |entry| {
+                    let value = entry.has_value.then(|| entry.value.bytes().into());
+                    (entry.name.bytes().into(), value)
+                })
+            }
+        };
+        (0..self.len())
+            .map(|index| entry(&mut self, index))
+            .collect()
+    }
+
+    /// A copy of what is said of the section at a place, if its name and its subsection are wanted.
+    fn section(
+        &mut self,
+        place: usize,
+        is_wanted: impl Fn(&[u8], Option<&[u8]>) -> bool,
+    ) -> Option<section::Listed> {
+        // SAFETY: a section may be all zeros, and its parts lie in the list.
         unsafe {
-            let count = gix_config_list_len(&mut self.0);
-            let mut sections = Vec::with_capacity(count);
-            for index in 0..count {
-                let mut found = ListedSection {
-                    name: nothing,
-                    has_subsection: false,
-                    subsection: nothing,
-                    has_path: false,
-                    path: nothing,
-                    source: 0,
-                    level: 0,
-                    trust: 0,
-                    entries: 0,
-                };
-                gix_config_list_section(&mut self.0, index, &mut found);
-                let header = section::Header {
-                    name: found.name.bytes().into(),
-                    subsection_name: found
-                        .has_subsection
-                        .then(|| found.subsection.bytes().into()),
-                };
+            self.one(place, raw::gix_config_list_section, |found| {
+                let name = found.name.bytes();
+                let subsection = found.has_subsection.then(|| found.subsection.bytes());
                 let path = found.has_path.then(|| found.path.bytes());
-                sections.push(section::Listed {
-                    header,
+                is_wanted(name, subsection).then(|| section::Listed {
+                    header: section::Header {
+                        name: name.into(),
+                        subsection_name: subsection.map(BString::from),
+                    },
                     meta: Metadata::of(path, found.source, found.level, found.trust),
                     entries: found.entries,
-                });
-            }
-            sections
+                })
+            })
         }
     }
 }
@@ -378,230 +198,486 @@ impl List {
 impl Drop for List {
     fn drop(&mut self) {
         // SAFETY: the handle is empty, or was filled by a call.
-        unsafe { gix_config_list_close(&mut self.0) }
+        unsafe { raw::gix_config_list_close(&mut self.0) }
     }
 }
 
-extern "C" {
-    pub(crate) fn gix_config_refusal_text(number: u32, text: *mut Text<'static>);
-    fn gix_config_bytes_free(bytes: *mut Block);
-    fn gix_config_list_len(list: *mut Handle) -> usize;
-    fn gix_config_list_at(list: *mut Handle, index: usize, text: *mut Text<'_>) -> u32;
-    fn gix_config_list_entry(list: *mut Handle, index: usize, entry: *mut Entry<'_>) -> u32;
-    fn gix_config_list_section(
-        list: *mut Handle,
-        index: usize,
-        section: *mut ListedSection<'_>,
-    ) -> u32;
-    fn gix_config_list_close(list: *mut Handle);
+/// A text that is laid out; else the number, and where the text is refused.
+pub(crate) fn normalize(text: &[u8], layout: &Layout) -> Result<Bytes, (Number, Place)> {
+    let (mut laid_out, mut place) = (Bytes::empty(), Place::default());
+    let (at, len) = (text.as_ptr(), text.len());
+    // SAFETY: the text is as long as is said.
+    let answer = unsafe { raw::gix_config_normalize(at, len, layout, &mut laid_out.0, &mut place) };
+    match done(answer) {
+        Ok(()) => Ok(laid_out),
+        Err(number @ (1 | 2)) => Err((number, place)),
+        Err(number) => unforeseen(number),
+    }
+}
 
-    pub(crate) fn gix_config_file_parse(
-        text: *const u8,
-        len: usize,
-        lossy: bool,
-        file: *mut Handle,
-        place: *mut Place,
-    ) -> u32;
-    pub(crate) fn gix_config_file_close(file: *mut Handle);
-    pub(crate) fn gix_config_file_clone(file: *mut Handle, other_file: *mut Handle) -> u32;
-    pub(crate) fn gix_config_file_append(file: *mut Handle, other_file: *mut Handle) -> u32;
-    pub(crate) fn gix_config_file_text(file: *mut Handle, text: *mut Block) -> u32;
-    pub(crate) fn gix_config_file_text_filter(
-        file: *mut Handle,
-        filter: *const Filter,
-        text: *mut Block,
-    ) -> u32;
-    pub(crate) fn gix_config_file_origin(
-        file: *mut Handle,
-        origin: *mut Origin,
-        path: *mut Block,
-    ) -> u32;
-    pub(crate) fn gix_config_value(
-        file: *mut Handle,
-        key: *const Key<'_>,
-        value: *mut Block,
-    ) -> u32;
-    pub(crate) fn gix_config_values(
-        file: *mut Handle,
-        key: *const Key<'_>,
-        list: *mut Handle,
-    ) -> u32;
-    pub(crate) fn gix_config_boolean(
-        file: *mut Handle,
-        key: *const Key<'_>,
-        value: *mut bool,
-    ) -> u32;
-    pub(crate) fn gix_config_integer(
-        file: *mut Handle,
-        key: *const Key<'_>,
-        value: *mut i64,
-    ) -> u32;
-    pub(crate) fn gix_config_path(
-        file: *mut Handle,
-        key: *const Key<'_>,
-        folders: *const Folders<'_>,
-        path: *mut Block,
-    ) -> u32;
-    pub(crate) fn gix_config_value_filter(
-        file: *mut Handle,
-        key: *const Key<'_>,
-        filter: *const Filter,
-        value: *mut Block,
-    ) -> u32;
-    pub(crate) fn gix_config_values_filter(
-        file: *mut Handle,
-        key: *const Key<'_>,
-        filter: *const Filter,
-        list: *mut Handle,
-    ) -> u32;
-    pub(crate) fn gix_config_boolean_filter(
-        file: *mut Handle,
-        key: *const Key<'_>,
-        filter: *const Filter,
-        value: *mut bool,
-    ) -> u32;
-    pub(crate) fn gix_config_integer_filter(
-        file: *mut Handle,
-        key: *const Key<'_>,
-        filter: *const Filter,
-        value: *mut i64,
-    ) -> u32;
-    pub(crate) fn gix_config_set_value(
-        file: *mut Handle,
-        key: *const Key<'_>,
-        value: *const u8,
-        len: usize,
-        had: *mut bool,
-        old: *mut Block,
-    ) -> u32;
-    pub(crate) fn gix_config_set_existing_value(
-        file: *mut Handle,
-        key: *const Key<'_>,
-        value: *const u8,
-        len: usize,
-    ) -> u32;
-    pub(crate) fn gix_config_set_existing_values(
-        file: *mut Handle,
-        key: *const Key<'_>,
-        values: *const Text<'_>,
-        len: usize,
-    ) -> u32;
-    pub(crate) fn gix_config_push_newline_at(file: *mut Handle, place: usize) -> u32;
-    pub(crate) fn gix_config_push_below_last_at(
-        file: *mut Handle,
+/// What is told of files and of variables, which is freed with this.
+pub(crate) struct Told(raw::Told);
+
+impl Told {
+    /// Nothing is told as yet.
+    pub(crate) fn new() -> Self {
+        let mut told = Told(raw::Told {
+            at: std::ptr::null_mut(),
+        });
+        // SAFETY: the handle is a new one.
+        surely(unsafe { raw::gix_config_told_new(&mut told.0) });
+        told
+    }
+
+    /// Tells what is at a path.
+    pub(crate) fn tell(&mut self, path: &[u8], found: &Found) -> Result<(), Number> {
+        let (told, at, len) = (&mut self.0, path.as_ptr(), path.len());
+        // SAFETY: the handle has what is told, and path and text are as long as is said.
+        done(unsafe {
+            match found {
+                Found::Missing => raw::gix_config_told_missing(told, at, len),
+                Found::Text(text) => {
+                    raw::gix_config_told_text(told, at, len, text.as_ptr(), text.len())
+                }
+                Found::Unopened(_) => raw::gix_config_told_fault(told, at, len, false),
+                Found::Unread(_) => raw::gix_config_told_fault(told, at, len, true),
+            }
+        })
+    }
+
+    /// Tells what a variable is set to; that it isn't set for `None`.
+    pub(crate) fn tell_variable(
+        &mut self,
+        name: &[u8],
+        value: Option<&[u8]>,
+    ) -> Result<(), Number> {
+        let (told, at, len) = (&mut self.0, name.as_ptr(), name.len());
+        // SAFETY: the handle has what is told, and name and value are as long as is said.
+        done(unsafe {
+            match value {
+                Some(value) => {
+                    raw::gix_config_told_variable(told, at, len, value.as_ptr(), value.len())
+                }
+                None => raw::gix_config_told_no_variable(told, at, len),
+            }
+        })
+    }
+
+    /// Where the text that was told of a path is refused, if it is.
+    pub(crate) fn place(&mut self, path: &[u8]) -> Option<(Number, Place)> {
+        let mut place = Place::default();
+        let (at, len) = (path.as_ptr(), path.len());
+        // SAFETY: the handle has what is told, and the path is as long as is said.
+        let answer = unsafe { raw::gix_config_told_place(&mut self.0, at, len, &mut place) };
+        match done(answer) {
+            Err(number @ (1 | 2)) => Some((number, place)),
+            _ => None,
+        }
+    }
+}
+
+impl Drop for Told {
+    fn drop(&mut self) {
+        // SAFETY: the handle is empty, or was filled by a call.
+        unsafe { raw::gix_config_told_close(&mut self.0) }
+    }
+}
+
+/// What is loaded, of what was told.
+#[derive(Clone, Copy)]
+pub(crate) enum Wanted<'a> {
+    /// A file, with what it includes.
+    File(&'a Load<'a>),
+    /// The configuration of the machine and of the user.
+    Globals(&'a Places<'a>),
+    /// The entries that variables set.
+    Variables(&'a Includes<'a>),
+    /// The configuration of a repository.
+    Repository(&'a Repository<'a>),
+    /// What the sections of the file itself include.
+    Included(&'a Includes<'a>),
+}
+
+/// A file, which is freed with this. It stays on its thread.
+pub(crate) struct File {
+    // (a call has the handle for itself, also one that only reads)
+    handle: UnsafeCell<raw::File>,
+}
+
+impl File {
+    /// A handle without a file, to be loaded.
+    pub(crate) fn empty() -> Self {
+        File {
+            handle: UnsafeCell::new(raw::File {
+                at: std::ptr::null_mut(),
+            }),
+        }
+    }
+
+    fn at(&self) -> *mut raw::File {
+        self.handle.get()
+    }
+
+    /// The file of a text; else the number, and where the text is refused.
+    pub(crate) fn parse(text: &[u8]) -> Result<Self, (Number, Place)> {
+        let (file, mut place) = (File::empty(), Place::default());
+        let (at, len) = (text.as_ptr(), text.len());
+        // SAFETY: the text is as long as is said, and the handle is a new one.
+        let answer = unsafe { raw::gix_config_file_parse(at, len, false, file.at(), &mut place) };
+        match done(answer) {
+            Ok(()) => Ok(file),
+            Err(number @ (1 | 2)) => Err((number, place)),
+            Err(number) => unforeseen(number),
+        }
+    }
+
+    /// Loads into the file, of what was told. Returns the path or the name that the call hands out, too.
+    pub(crate) fn load(&self, told: &mut Told, wanted: Wanted<'_>) -> (Result<(), Number>, Bytes) {
+        let (told, file, mut asked) = (&mut told.0, self.at(), Bytes::empty());
+        let about = &mut asked.0;
+        // SAFETY: what is told is another handle than the file's, which no other call has now.
+        let answer = unsafe {
+            match wanted {
+                Wanted::File(load) => raw::gix_config_load_told(told, load, file, about),
+                Wanted::Globals(places) => {
+                    raw::gix_config_load_globals_told(told, places, file, about)
+                }
+                Wanted::Variables(includes) => {
+                    raw::gix_config_load_env_told(told, includes, file, about)
+                }
+                Wanted::Repository(repository) => {
+                    raw::gix_config_load_repository_told(told, repository, file, about)
+                }
+                Wanted::Included(includes) => {
+                    raw::gix_config_resolve_includes_told(told, file, includes, about)
+                }
+            }
+        };
+        (done(answer), asked)
+    }
+
+    /// A copy.
+    pub(crate) fn copy(&self) -> Self {
+        let copy = File::empty();
+        // SAFETY: the handle has a file, and the other is a new one.
+        surely(unsafe { raw::gix_config_file_clone(self.at(), copy.at()) });
+        copy
+    }
+
+    /// Appends a copy of another file.
+    pub(crate) fn append(&mut self, other: &File) -> Result<(), Number> {
+        // SAFETY: both handles have files, and they are two, since this one is borrowed alone.
+        done(unsafe { raw::gix_config_file_append(self.at(), other.at()) })
+    }
+
+    pub(crate) fn is_equal(&self, other: &File) -> bool {
+        let mut equal = true;
+        if !std::ptr::eq(self, other) {
+            // SAFETY: both handles have files, and they are two.
+            surely(unsafe { raw::gix_config_file_equal(self.at(), other.at(), &mut equal) });
+        }
+        equal
+    }
+
+    /// The text; with a filter that of the sections that it keeps.
+    pub(crate) fn text(&self, filter: Option<&Filter>) -> Bytes {
+        let mut text = Bytes::empty();
+        // SAFETY: the handle has a file, which no other call has now.
+        surely(unsafe {
+            match filter {
+                None => raw::gix_config_file_text(self.at(), &mut text.0),
+                Some(filter) => raw::gix_config_file_text_filter(self.at(), filter, &mut text.0),
+            }
+        });
+        text
+    }
+
+    /// Where the file comes from, and its path.
+    pub(crate) fn origin(&self) -> (Origin, Bytes) {
+        let (mut origin, mut path) = (Origin::default(), Bytes::empty());
+        // SAFETY: the handle has a file, which no other call has now.
+        surely(unsafe { raw::gix_config_file_origin(self.at(), &mut origin, &mut path.0) });
+        (origin, path)
+    }
+
+    /// The last value of a key; with a filter in the sections that it keeps.
+    pub(crate) fn value(&self, key: &Key<'_>, filter: Option<&Filter>) -> Result<Bytes, Number> {
+        let mut value = Bytes::empty();
+        // SAFETY: the handle has a file, which no other call has now.
+        done(unsafe {
+            match filter {
+                None => raw::gix_config_value(self.at(), key, &mut value.0),
+                Some(filter) => raw::gix_config_value_filter(self.at(), key, filter, &mut value.0),
+            }
+        })?;
+        Ok(value)
+    }
+
+    /// All values of a key; with a filter in the sections that it keeps.
+    pub(crate) fn values(
+        &self,
+        key: &Key<'_>,
+        filter: Option<&Filter>,
+    ) -> Result<Vec<BString>, Number> {
+        let mut list = List::empty();
+        // SAFETY: the handle has a file, which no other call has now.
+        done(unsafe {
+            match filter {
+                None => raw::gix_config_values(self.at(), key, &mut list.0),
+                Some(filter) => raw::gix_config_values_filter(self.at(), key, filter, &mut list.0),
+            }
+        })?;
+        Ok(list.texts())
+    }
+
+    /// The last value of a key as a boolean; with a filter in the sections that it keeps.
+    pub(crate) fn boolean(&self, key: &Key<'_>, filter: Option<&Filter>) -> Result<bool, Number> {
+        let mut value = false;
+        // SAFETY: the handle has a file, which no other call has now.
+        done(unsafe {
+            match filter {
+                None => raw::gix_config_boolean(self.at(), key, &mut value),
+                Some(filter) => raw::gix_config_boolean_filter(self.at(), key, filter, &mut value),
+            }
+        })?;
+        Ok(value)
+    }
+
+    /// The last value of a key as an integer; with a filter in the sections that it keeps.
+    pub(crate) fn integer(&self, key: &Key<'_>, filter: Option<&Filter>) -> Result<i64, Number> {
+        let mut value = 0;
+        // SAFETY: the handle has a file, which no other call has now.
+        done(unsafe {
+            match filter {
+                None => raw::gix_config_integer(self.at(), key, &mut value),
+                Some(filter) => raw::gix_config_integer_filter(self.at(), key, filter, &mut value),
+            }
+        })?;
+        Ok(value)
+    }
+
+    /// The last value of a key as a path, with its shorthand replaced.
+    pub(crate) fn path(&self, key: &Key<'_>, folders: &Folders<'_>) -> Result<Bytes, Number> {
+        let mut path = Bytes::empty();
+        // SAFETY: the handle has a file, which no other call has now.
+        done(unsafe { raw::gix_config_path(self.at(), key, folders, &mut path.0) })?;
+        Ok(path)
+    }
+
+    fn listed(&self) -> List {
+        let mut list = List::empty();
+        // SAFETY: the handle has a file, which no other call has now.
+        surely(unsafe { raw::gix_config_sections(self.at(), &mut list.0) });
+        list
+    }
+
+    /// How many sections there are.
+    pub(crate) fn num_sections(&self) -> usize {
+        self.listed().len()
+    }
+
+    /// What is known of the section at a place, where there is one.
+    pub(crate) fn section_at(&self, place: usize) -> section::Listed {
+        let found = self.listed().section(place, |_, _| true);
+        found.expect("each section is wanted")
+    }
+
+    /// What is known of the sections whose name and subsection are wanted, in order, with their places.
+    pub(crate) fn sections(
+        &self,
+        is_wanted: impl Fn(&[u8], Option<&[u8]>) -> bool,
+    ) -> Vec<(usize, section::Listed)> {
+        let mut list = self.listed();
+        (0..list.len())
+            .filter_map(|place| Some((place, list.section(place, &is_wanted)?)))
+            .collect()
+    }
+
+    /// What is known of the sections of a key's section and subsection, in order, with their places.
+    pub(crate) fn sections_of(&self, key: &Key<'_>) -> Vec<(usize, section::Listed)> {
+        // SAFETY: the key borrows the bytes of its names.
+        let (name, subsection) = unsafe { (key.section.bytes(), key.subsection.bytes()) };
+        let wanted = key.has_subsection.then_some(subsection);
+        self.sections(|it, subsection| it.eq_ignore_ascii_case(name) && subsection == wanted)
+    }
+
+    fn listed_entries(&self) -> List {
+        let mut list = List::empty();
+        // SAFETY: the handle has a file, which no other call has now.
+        surely(unsafe { raw::gix_config_entries(self.at(), &mut list.0) });
+        list
+    }
+
+    /// How many entries all sections have.
+    pub(crate) fn num_entries(&self) -> usize {
+        self.listed_entries().len()
+    }
+
+    /// The entries of all sections, in order.
+    pub(crate) fn entries(&self) -> Vec<section::Entry> {
+        self.listed_entries().entries()
+    }
+
+    /// The entries of the section at a place, in order.
+    pub(crate) fn entries_at(&self, place: usize) -> Vec<section::Entry> {
+        let mut list = List::empty();
+        // SAFETY: the handle has a file, which no other call has now.
+        surely(unsafe { raw::gix_config_section_entries(self.at(), place, &mut list.0) });
+        list.entries()
+    }
+
+    /// Sets a value, and returns the raw text of the one that was there, if there was an entry.
+    pub(crate) fn set_value(
+        &mut self,
+        key: &Key<'_>,
+        value: &[u8],
+    ) -> Result<Option<BString>, Number> {
+        let (mut had, mut old) = (false, Bytes::empty());
+        let (at, len) = (value.as_ptr(), value.len());
+        // SAFETY: the handle has a file, and the value is as long as is said.
+        let answer =
+            unsafe { raw::gix_config_set_value(self.at(), key, at, len, &mut had, &mut old.0) };
+        done(answer)?;
+        Ok(had.then(|| old.copy()))
+    }
+
+    pub(crate) fn set_existing_value(&mut self, key: &Key<'_>, value: &[u8]) -> Result<(), Number> {
+        let (at, len) = (value.as_ptr(), value.len());
+        // SAFETY: the handle has a file, and the value is as long as is said.
+        done(unsafe { raw::gix_config_set_existing_value(self.at(), key, at, len) })
+    }
+
+    pub(crate) fn set_existing_values(
+        &mut self,
+        key: &Key<'_>,
+        values: &[Text<'_>],
+    ) -> Result<(), Number> {
+        let (at, len) = (values.as_ptr(), values.len());
+        // SAFETY: the handle has a file, and there are as many values as is said, which lie there until the call is done.
+        done(unsafe { raw::gix_config_set_existing_values(self.at(), key, at, len) })
+    }
+
+    pub(crate) fn new_section(&mut self, names: &Section<'_>) -> Result<(), Number> {
+        // SAFETY: the handle has a file.
+        done(unsafe { raw::gix_config_section_new(self.at(), names) })
+    }
+
+    pub(crate) fn rename_section(
+        &mut self,
+        names: &Section<'_>,
+        new_names: &Section<'_>,
+    ) -> Result<(), Number> {
+        // SAFETY: the handle has a file.
+        done(unsafe { raw::gix_config_section_rename(self.at(), names, new_names) })
+    }
+
+    /// Removes the section at a place, where there is one.
+    pub(crate) fn remove_section_at(&mut self, place: usize) {
+        // SAFETY: the handle has a file.
+        surely(unsafe { raw::gix_config_section_remove_at(self.at(), place) });
+    }
+
+    pub(crate) fn rename_section_at(
+        &mut self,
         place: usize,
-        assigned: *const Assigned<'_>,
-    ) -> u32;
-    pub(crate) fn gix_config_remove_marked_at(
-        file: *mut Handle,
+        names: &Section<'_>,
+    ) -> Result<(), Number> {
+        // SAFETY: the handle has a file.
+        done(unsafe { raw::gix_config_section_rename_at(self.at(), place, names) })
+    }
+
+    /// Sets the trust of the section at a place, where there is one.
+    pub(crate) fn set_trust_at(&mut self, place: usize, trust: u32) {
+        // SAFETY: the handle has a file.
+        surely(unsafe { raw::gix_config_section_set_trust_at(self.at(), place, trust) });
+    }
+
+    pub(crate) fn push_line_at(&mut self, place: usize, line: &Line<'_>) -> Result<(), Number> {
+        // SAFETY: the handle has a file.
+        done(unsafe { raw::gix_config_push_line_at(self.at(), place, line) })
+    }
+
+    pub(crate) fn push_below_last_at(
+        &mut self,
         place: usize,
-        name: *const u8,
-        name_len: usize,
-        marks: *const bool,
-        marks_len: usize,
-        count: *mut usize,
-    ) -> u32;
-    pub(crate) fn gix_config_section_set_trust_at(
-        file: *mut Handle,
+        assigned: &Assigned<'_>,
+    ) -> Result<(), Number> {
+        // SAFETY: the handle has a file.
+        done(unsafe { raw::gix_config_push_below_last_at(self.at(), place, assigned) })
+    }
+
+    pub(crate) fn push_newline_at(&mut self, place: usize) -> Result<(), Number> {
+        // SAFETY: the handle has a file.
+        done(unsafe { raw::gix_config_push_newline_at(self.at(), place) })
+    }
+
+    /// Sets a value in the section at a place, and returns the raw text of the one that was there, if there was an entry.
+    pub(crate) fn set_value_at(
+        &mut self,
         place: usize,
-        trust: u32,
-    ) -> u32;
-    pub(crate) fn gix_config_entries(file: *mut Handle, list: *mut Handle) -> u32;
-    pub(crate) fn gix_config_sections(file: *mut Handle, list: *mut Handle) -> u32;
-    pub(crate) fn gix_config_section_entries(
-        file: *mut Handle,
-        index: usize,
-        list: *mut Handle,
-    ) -> u32;
-    pub(crate) fn gix_config_file_equal(
-        file: *mut Handle,
-        other_file: *mut Handle,
-        equal: *mut bool,
-    ) -> u32;
-    pub(crate) fn gix_config_section_new(file: *mut Handle, section: *const Section<'_>) -> u32;
-    pub(crate) fn gix_config_section_remove_at(file: *mut Handle, place: usize) -> u32;
-    pub(crate) fn gix_config_section_rename_at(
-        file: *mut Handle,
-        place: usize,
-        new_section: *const Section<'_>,
-    ) -> u32;
-    pub(crate) fn gix_config_push_line_at(
-        file: *mut Handle,
-        place: usize,
-        line: *const Line<'_>,
-    ) -> u32;
-    pub(crate) fn gix_config_set_value_at(
-        file: *mut Handle,
-        place: usize,
-        assigned: *const Assigned<'_>,
-        had: *mut bool,
-        old: *mut Block,
-    ) -> u32;
-    pub(crate) fn gix_config_remove_value_at(
-        file: *mut Handle,
-        place: usize,
-        name: *const u8,
-        len: usize,
-        old: *mut Block,
-    ) -> u32;
-    pub(crate) fn gix_config_pop_value_at(
-        file: *mut Handle,
-        place: usize,
-        name: *mut Block,
-        value: *mut Block,
-    ) -> u32;
-    fn gix_config_told_new(told: *mut Handle) -> u32;
-    fn gix_config_told_text(
-        told: *mut Handle,
-        path: *const u8,
-        path_len: usize,
-        text: *const u8,
-        len: usize,
-    ) -> u32;
-    fn gix_config_told_missing(told: *mut Handle, path: *const u8, len: usize) -> u32;
-    fn gix_config_told_fault(told: *mut Handle, path: *const u8, len: usize, opens: bool) -> u32;
-    fn gix_config_told_close(told: *mut Handle);
-    fn gix_config_told_variable(
-        told: *mut Handle,
-        name: *const u8,
-        name_len: usize,
-        value: *const u8,
-        value_len: usize,
-    ) -> u32;
-    fn gix_config_told_no_variable(told: *mut Handle, name: *const u8, name_len: usize) -> u32;
-    pub(crate) fn gix_config_load_globals_told(
-        told: *mut Handle,
-        places: *const Places<'_>,
-        file: *mut Handle,
-        asked: *mut Block,
-    ) -> u32;
-    pub(crate) fn gix_config_load_env_told(
-        told: *mut Handle,
-        includes: *const Includes<'_>,
-        file: *mut Handle,
-        asked: *mut Block,
-    ) -> u32;
-    pub(crate) fn gix_config_load_repository_told(
-        told: *mut Handle,
-        repository: *const Repository<'_>,
-        file: *mut Handle,
-        asked: *mut Block,
-    ) -> u32;
-    pub(crate) fn gix_config_load_told(
-        told: *mut Handle,
-        load: *const Load<'_>,
-        file: *mut Handle,
-        path: *mut Block,
-    ) -> u32;
-    pub(crate) fn gix_config_resolve_includes_told(
-        told: *mut Handle,
-        file: *mut Handle,
-        includes: *const Includes<'_>,
-        path: *mut Block,
-    ) -> u32;
-    pub(crate) fn gix_config_section_rename(
-        file: *mut Handle,
-        section: *const Section<'_>,
-        new_section: *const Section<'_>,
-    ) -> u32;
+        assigned: &Assigned<'_>,
+    ) -> Result<Option<BString>, Number> {
+        let (mut had, mut old) = (false, Bytes::empty());
+        // SAFETY: the handle has a file.
+        let answer = unsafe {
+            raw::gix_config_set_value_at(self.at(), place, assigned, &mut had, &mut old.0)
+        };
+        done(answer)?;
+        Ok(had.then(|| old.copy()))
+    }
+
+    /// Removes the last entry of a name from the section at a place, and returns the raw text of its value.
+    pub(crate) fn remove_value_at(&mut self, place: usize, name: &str) -> Result<BString, Number> {
+        let mut old = Bytes::empty();
+        let (at, len) = (name.as_ptr(), name.len());
+        // SAFETY: the handle has a file, and the name is as long as is said.
+        done(unsafe { raw::gix_config_remove_value_at(self.at(), place, at, len, &mut old.0) })?;
+        Ok(old.copy())
+    }
+
+    /// Removes the marked entries of a name from the section at a place, where there is one, and returns how many went.
+    pub(crate) fn remove_marked_at(&mut self, place: usize, name: &str, marks: &[bool]) -> usize {
+        let mut count = 0;
+        let (at, len) = (name.as_ptr(), name.len());
+        let (marks, marks_len) = (marks.as_ptr(), marks.len());
+        let file = self.at();
+        // SAFETY: the handle has a file, and name and marks are as long as is said.
+        surely(unsafe {
+            raw::gix_config_remove_marked_at(file, place, at, len, marks, marks_len, &mut count)
+        });
+        count
+    }
+
+    /// Removes the last entry from the section at a place, and returns its name and value.
+    pub(crate) fn pop_value_at(&mut self, place: usize) -> Result<(BString, BString), Number> {
+        let (mut name, mut value) = (Bytes::empty(), Bytes::empty());
+        let file = self.at();
+        // SAFETY: the handle has a file.
+        done(unsafe { raw::gix_config_pop_value_at(file, place, &mut name.0, &mut value.0) })?;
+        Ok((name.copy(), value.copy()))
+    }
+}
+
+impl Drop for File {
+    fn drop(&mut self) {
+        // SAFETY: the handle is empty or has a file.
+        unsafe { raw::gix_config_file_close(self.at()) }
+    }
+}
+
+#[cfg(test)]
+mod tests {
+    use super::File;
+
+    #[test]
+    #[should_panic(expected = "libgix_config answered 102: ")]
+    fn a_number_that_is_not_answered_is_named() {
+        File::empty().text(None);
+    }
+
+    #[test]
+    #[should_panic(expected = "libgix_config answered 102: ")]
+    fn files_are_not_equal_by_such_a_number() {
+        File::empty().is_equal(&File::empty());
+    }
 }

@@ -1,10 +1,13 @@
 //! The calls, as they are meant to be called.
 use bstr::{BStr, BString, ByteSlice};
 use gix_config::file::Metadata;
-use gix_config::includes::{Files, Found, Options, Places, Variables};
+use gix_config::includes::{Error, Files, Found, Options, Places, Variables};
+use gix_config::parse::section::header;
 use gix_config::path::interpolate::Context;
 use gix_config::section::Section;
-use gix_config::{lookup, File, KeyRef, Source, Trust};
+use gix_config::source::Kind;
+use gix_config::{lookup, AsKey, Boolean, File, KeyRef, Source, Trust};
+use std::io;
 use std::os::unix::ffi::OsStrExt;
 use std::path::Path;
 
@@ -89,16 +92,13 @@ fn edits() {
     assert_eq!(file.set_raw_value_by("user", None, "name", " x"), Ok(None));
     assert_eq!(
         file.set_raw_value_by("user", None, "na_me", "x")
-            .map_err(|it| it.number),
+            .map_err(|it| it.number()),
         Err(6)
     );
-    assert_eq!(
-        file.rename_section("user", None, "me", Some("a\"b".as_bytes().as_bstr())),
-        Ok(())
-    );
+    assert_eq!(file.rename_section("user", None, "me", "a\"b"), Ok(()));
     assert_eq!(
         file.rename_section("user", None, "me", None)
-            .map_err(|it| it.number),
+            .map_err(|it| it.number()),
         Err(7)
     );
     assert_eq!(
@@ -175,15 +175,15 @@ fn editors_of_sections() {
     let mut core = file.section_mut("Core", None).expect("a section");
     core.push_with_comment("depth", Some("3".into()), "levels")
         .expect("a name");
-    assert_eq!(core.set("editor", "emacs".into()), Ok(Some("vi".into())));
-    assert_eq!(core.set("none", "x".into()), Ok(None));
+    assert_eq!(core.set("editor", "emacs"), Ok(Some("vi".into())));
+    assert_eq!(core.set("none", "x"), Ok(None));
     assert_eq!(core.remove("bare"), Some("".into()));
     assert_eq!(core.remove("bare"), None);
     assert_eq!(core.pop(), Some(("none".into(), "x".into())));
     assert_eq!(
         core.push("a b", None)
             .expect_err("no name of a value")
-            .number,
+            .number(),
         6
     );
     let mut remote = file
@@ -210,6 +210,22 @@ fn editors_of_sections() {
     assert!(file.remove_section("core", None).is_none());
 }
 
+/// What was found, found again.
+fn again(found: &Found) -> Found {
+    let fault = |error: &io::Error| io::Error::from_raw_os_error(error.raw_os_error().unwrap_or(5));
+    match found {
+        Found::Missing => Found::Missing,
+        Found::Text(text) => Found::Text(text.clone()),
+        Found::Unopened(error) => Found::Unopened(fault(error)),
+        Found::Unread(error) => Found::Unread(fault(error)),
+    }
+}
+
+/// A file that can't be opened: permission is denied.
+fn unopened() -> Found {
+    Found::Unopened(io::Error::from_raw_os_error(13))
+}
+
 /// Files in memory, which count how often they are asked for.
 struct Kept(Vec<(&'static str, Found)>, usize);
 
@@ -217,7 +233,7 @@ impl Files for Kept {
     fn find(&mut self, path: &Path) -> Found {
         self.1 += 1;
         let found = self.0.iter().find(|(at, _)| Path::new(at) == path);
-        found.map_or(Found::Missing, |(_, text)| text.clone())
+        found.map_or(Found::Missing, |(_, found)| again(found))
     }
 }
 
@@ -230,7 +246,7 @@ fn includes_are_put_where_they_stand() {
                 Found::Text(b"[include]\n\tpath = b\n\tpath = none\n[x]\n\tk = 1\n".to_vec()),
             ),
             ("/b", Found::Text(b"[y]\n\tk = 2\n".to_vec())),
-            ("/c", Found::Unopened),
+            ("/c", unopened()),
         ],
         0,
     );
@@ -244,16 +260,25 @@ fn includes_are_put_where_they_stand() {
     assert_eq!(files.1, 3);
 
     let mut other = File::try_from("[include]\n\tpath = /b\n[x]\n").expect("a text");
-    assert_eq!(other.resolve_includes_of(options, &mut files), Ok(()));
+    other
+        .resolve_includes_of(options, &mut files)
+        .expect("files");
     assert_eq!(
         other.to_string(),
         "[include]\n\tpath = /b\n[y]\n\tk = 2\n[x]\n"
     );
 
-    files.0[1].1 = Found::Unopened;
+    files.0[1].1 = unopened();
     let refused = File::from_files(Path::new("/a"), options, &mut files)
         .expect_err("a file that doesn't open");
-    assert_eq!((refused.number, refused.path), (19, Some("/b".into())));
+    assert_eq!(refused.number(), 19);
+    match refused {
+        Error::Open { path, source } => {
+            assert_eq!(path, Path::new("/b"));
+            assert_eq!(source.kind(), io::ErrorKind::PermissionDenied);
+        }
+        other => panic!("{other}"),
+    }
 }
 
 fn is_send<T: Send>() {}
@@ -319,8 +344,14 @@ fn machine_user_and_repository() {
     files.0[3].1 = Found::Missing;
     let refused = File::from_git_dir_of(git, &of_ada(), &mut files, &mut variables)
         .expect_err("no repository");
-    let path = Some("/repo/.git/config".into());
-    assert_eq!((refused.number, refused.path), (21, path));
+    assert_eq!(refused.number(), 21);
+    match refused {
+        Error::Io { path, source } => {
+            assert_eq!(path, Path::new("/repo/.git/config"));
+            assert_eq!(source.kind(), io::ErrorKind::NotFound);
+        }
+        other => panic!("{other}"),
+    }
 }
 
 #[test]
@@ -332,11 +363,15 @@ fn entries_of_variables() {
     assert!(none.is_none());
     variables.0 = vec![("GIT_CONFIG_COUNT", b"1"), ("GIT_CONFIG_KEY_0", b"ab")];
     let refused = File::from_env_of(options, &mut files, &mut variables).expect_err("no value");
-    let name = Some("GIT_CONFIG_VALUE_0".into());
-    assert_eq!((refused.number, refused.path), (26, name));
+    match refused {
+        Error::Variable { name, number } => {
+            assert_eq!((name, number), ("GIT_CONFIG_VALUE_0".into(), 26));
+        }
+        other => panic!("{other}"),
+    }
     variables.0.push(("GIT_CONFIG_VALUE_0", b"1"));
     let refused = File::from_env_of(options, &mut files, &mut variables).expect_err("no dot");
-    assert_eq!(refused.number, 25);
+    assert_eq!(refused.number(), 25);
     variables.0[1].1 = b"a.b";
     let made = File::from_env_of(options, &mut files, &mut variables).expect("an entry");
     assert_eq!(made.and_then(|it| it.string("a.b")), Some("1".into()));
@@ -347,13 +382,13 @@ fn values_that_are_there() {
     let mut file = File::try_from("[a]\n\tk = 1\n\tk = 2 ; two\n[a]\n").expect("a text");
     assert_eq!(file.set_existing_raw_value_by("a", None, "k", "3"), Ok(()));
     let refused = file.set_existing_raw_value_by("a", None, "j", "3");
-    assert_eq!(refused.map_err(|it| it.number), Err(9));
+    assert_eq!(refused.map_err(|it| it.number()), Err(9));
     assert_eq!(all_of(&file), texts(&["1", "3"]));
     let several = file.set_existing_raw_multi_value_by("a", None, "k", ["x", " y", "z"]);
     assert_eq!(several, Ok(()));
     assert_eq!(all_of(&file), texts(&["x", " y"]));
     let mut last = file.section_mut("a", None).expect("a section");
-    assert_eq!(last.push_newline(), Ok(()));
+    assert!(last.push_newline().is_ok());
     assert!(file.to_string().ends_with("; two\n[a]\n\n"));
 }
 
@@ -374,7 +409,7 @@ fn paths() {
     assert_eq!(path.interpolate(folders), Ok("/home/ada/x".into()));
     let interpolated = |name: &str, folders: Context<'_>| {
         let path = file.path_by("p", None, name).expect("a path");
-        path.interpolate(folders).map_err(|it| it.number)
+        path.interpolate(folders).map_err(|it| it.number())
     };
     assert_eq!(interpolated("git", folders), Ok("/git/etc".into()));
     assert_eq!(interpolated("plain", Context::default()), Ok("/y".into()));
@@ -593,7 +628,7 @@ fn sections_by_their_names() {
 
     let editor = file.section_mut_filter("core", None, trusted);
     let mut editor = editor.expect("a section").expect("a trusted one");
-    assert_eq!(editor.set("k", "new".into()), Ok(Some("0".into())));
+    assert_eq!(editor.set("k", "new"), Ok(Some("0".into())));
     let none = file.section_mut_filter("core", None, |_| false);
     assert!(none.expect("a section").is_none());
     let refused = file.section_mut_filter("core", b"y".as_bstr(), trusted);
@@ -611,12 +646,12 @@ fn sections_by_their_names() {
 fn entries_below_the_last_one() {
     let mut file = File::try_from("[a]\n\tk = 1\n\n# of b\n[b] # b\n").expect("a text");
     let mut a = file.section_mut("a", None).expect("a section");
-    assert_eq!(a.push_after_last("j", " 2".into()), Ok(()));
+    assert!(a.push_after_last("j", " 2").is_ok());
     assert_eq!(a.section().value("j"), Some(" 2".into()));
-    let refused = a.push_after_last("a b", "2".into());
-    assert_eq!(refused.map_err(|it| it.number), Err(6));
+    let refused = a.push_after_last("a b", "2");
+    assert_eq!(refused.expect_err("no name of a value").number(), 6);
     let mut b = file.section_mut("b", None).expect("a section");
-    assert_eq!(b.push_after_last("j", "3".into()), Ok(()));
+    assert!(b.push_after_last("j", "3").is_ok());
     assert_eq!(
         file.to_string(),
         "[a]\n\tk = 1\n\tj = \" 2\"\n\n# of b\n[b] # b\n\tj = 3\n"
@@ -643,4 +678,385 @@ fn entries_are_removed_together() {
     assert_eq!(section.remove_all("K"), 4);
     assert_eq!(section.remove_all("k"), 0);
     assert_eq!(file.to_string(), "[a]\n\tj = 3\n[a \"x\"]\n\tk = 6\n");
+}
+
+fn string_of<Key: AsKey>(file: &File, key: &Key) -> Option<BString> {
+    file.string(key)
+}
+
+#[test]
+fn arguments_of_many_types() {
+    let mut file = file();
+    let key = String::from("remote.or.igin.url");
+    assert_eq!(string_of(&file, &key), string_of(&file, &key.as_str()));
+    assert_eq!(file.string_by("remote", "or.igin", "url"), Some("d".into()));
+    assert_eq!(
+        file.string_by("remote", String::from("or.igin"), String::from("url")),
+        file.string_by("remote", BString::from("or.igin"), "url")
+    );
+    assert_eq!(file.string_by("core", None, "editor"), Some("vi".into()));
+    assert_eq!(
+        file.set_raw_value(&key, String::from("e")),
+        Ok(Some("d".into()))
+    );
+    assert_eq!(
+        file.set_raw_value("core.editor", b"ed"),
+        Ok(Some("vi".into()))
+    );
+    assert_eq!(file.set_existing_raw_value("core.editor", &key), Ok(()));
+    assert_eq!(
+        file.set_existing_raw_multi_value("remote.or.igin.url", ["1", "2", "3"]),
+        Ok(())
+    );
+    assert_eq!(file.strings(key), Some(texts(&["1", "2"])));
+    assert_eq!(
+        file.string("core.editor"),
+        Some("remote.or.igin.url".into())
+    );
+    assert!(file.section("remote", "or.igin").is_ok() && file.section("core", None).is_ok());
+}
+
+#[test]
+fn sections_that_are_there_or_made() {
+    let mut file = File::try_from("[a \"b\"]\n\tk = 1\n[a]\n").expect("a text");
+    let mut there = file.section_mut_or_create_new("A", "b").expect("a section");
+    there
+        .push("j", None)
+        .expect("a name")
+        .push("k", "2")
+        .expect("a name")
+        .push_newline()
+        .expect("room");
+    assert_eq!(there.pop(), Some((String::from("k"), "2".into())));
+    let made = file.section_mut_or_create_new("c", "d").map(|_| ());
+    assert_eq!(made, Ok(()));
+    let refused = file.section_mut_or_create_new("a b", None).map(|_| ());
+    assert_eq!(refused, Err(header::Error::InvalidName));
+    assert_eq!(
+        file.to_string(),
+        "[a \"b\"]\n\tk = 1\n\tj\n[a]\n[c \"d\"]\n"
+    );
+}
+
+#[test]
+fn errors_have_their_kinds() {
+    use gix_config::file::{rename_section, set_raw_value};
+    let mut file = file();
+    let refused = [
+        (file.set_raw_value("a.b c", "x").map(|_| ()), 6),
+        (file.set_raw_value("a b.c", "x").map(|_| ()), 4),
+        (file.set_raw_value("a.b\nc.d", "x").map(|_| ()), 5),
+        (file.set_existing_raw_value("none.k", "x"), 7),
+        (file.set_existing_raw_value("remote.x.url", "x"), 8),
+        (file.set_existing_raw_value("core.x", "x"), 9),
+    ];
+    for (answer, number) in refused {
+        let error = answer.expect_err("a key that isn't set");
+        let kind = match error {
+            set_raw_value::Error::ValueName(_) => 6,
+            set_raw_value::Error::Header(error) => error.number(),
+            set_raw_value::Error::Lookup(error) => error.number(),
+            set_raw_value::Error::Span(_) => 3,
+        };
+        assert_eq!((kind, error.number()), (number, number));
+        assert!(!error.to_string().is_empty());
+    }
+    assert_eq!(
+        file.rename_section("core", None, "a b", None),
+        Err(rename_section::Error::Section(header::Error::InvalidName))
+    );
+    assert_eq!(
+        file.rename_section("none", None, "a", None),
+        Err(rename_section::Error::Lookup(
+            lookup::existing::Error::SectionMissing
+        ))
+    );
+}
+
+#[test]
+fn a_text_that_is_refused_in_a_load_has_its_path_and_place() {
+    let mut files = Kept(
+        vec![
+            ("/a", Found::Text(b"[include]\n\tpath = b\n".to_vec())),
+            ("/b", Found::Text(b"[x]\n\tk = v\n= 1\n".to_vec())),
+        ],
+        0,
+    );
+    let options = Options::follow_without_conditional(None);
+    let refused = File::from_files(Path::new("/a"), options, &mut files)
+        .expect_err("a text that can't be read on");
+    let said = refused.to_string();
+    assert!(said.starts_with("'/b': line 3, column 1: "), "{said}");
+    match refused {
+        Error::Parse { path, source } => {
+            assert_eq!(path, Path::new("/b"));
+            assert_eq!((source.line_number(), source.number()), (3, 1));
+        }
+        other => panic!("{other}"),
+    }
+}
+
+#[test]
+fn the_default_follows_nothing() {
+    let mut files = Kept(
+        vec![
+            (
+                "/a",
+                Found::Text(b"[include]\n\tpath = b\n[x]\n\tk = 1\n".to_vec()),
+            ),
+            ("/b", Found::Text(b"[x]\n\tk = 2\n".to_vec())),
+        ],
+        0,
+    );
+    let mut file =
+        File::from_files(Path::new("/a"), Options::default(), &mut files).expect("files");
+    assert_eq!((file.strings("x.k"), files.1), (Some(texts(&["1"])), 1));
+    assert_eq!(file.meta().path.as_deref(), Some(Path::new("/a")));
+    file.resolve_includes_of(Options::no_follow(), &mut files)
+        .expect("nothing");
+    assert_eq!((file.sections().count(), files.1), (2, 1));
+    let follow = Options::follow_without_conditional(None);
+    file.resolve_includes_of(follow, &mut files).expect("files");
+    assert_eq!(file.strings("x.k"), Some(texts(&["2", "1"])));
+
+    let mut variables = Set(vec![
+        ("GIT_CONFIG_COUNT", b"1"),
+        ("GIT_CONFIG_KEY_0", b"include.path"),
+        ("GIT_CONFIG_VALUE_0", b"/b"),
+    ]);
+    let made = File::from_env_of(Options::default(), &mut files, &mut variables);
+    let made = made.expect("an entry").expect("an entry");
+    assert_eq!(made.sections().count(), 1);
+    let made = File::from_env_of(follow, &mut files, &mut variables);
+    assert_eq!(made.expect("files").expect("files").sections().count(), 2);
+}
+
+#[test]
+fn a_filter_is_asked_of_the_sections_of_its_key() {
+    let file = File::try_from("[a]\n\tk = 1\n[b]\n\tk = 2\n[A]\n\tk = 3\n[a \"s\"]\n\tk = 4\n")
+        .expect("a text");
+    let mut asked = 0;
+    let mut every_other = |_: &Metadata| {
+        asked += 1;
+        asked % 2 == 1
+    };
+    assert_eq!(
+        file.string_filter("a.k", &mut every_other),
+        Some("1".into())
+    );
+    assert_eq!(asked, 2);
+    assert_eq!(
+        file.raw_value_filter("a.k", |_| false),
+        Err(lookup::existing::Error::KeyMissing)
+    );
+    assert_eq!(
+        file.raw_value_filter("a.x.k", |_| false),
+        Err(lookup::existing::Error::SubSectionMissing)
+    );
+}
+
+#[test]
+fn values_in_a_type() {
+    let file = file();
+    let url: Result<Vec<u8>, _> = file.value("remote.or.igin.url");
+    assert_eq!(url.expect("a value"), b"d");
+    let urls: Result<Vec<Vec<u8>>, _> = file.values_by("remote", "or.igin", "url");
+    assert_eq!(urls.expect("values"), [b"a b c".to_vec(), b"d".to_vec()]);
+    assert_eq!(file.try_value("core.none"), Ok(None::<Vec<u8>>));
+    assert_eq!(
+        file.value::<Vec<u8>>("core.none"),
+        Err(lookup::Error::ValueMissing(
+            lookup::existing::Error::KeyMissing
+        ))
+    );
+    #[derive(Debug, PartialEq)]
+    struct Word(String);
+    impl TryFrom<BString> for Word {
+        type Error = usize;
+        fn try_from(value: BString) -> Result<Self, usize> {
+            match value.find_byte(b' ') {
+                Some(at) => Err(at),
+                None => Ok(Word(value.to_string())),
+            }
+        }
+    }
+    assert_eq!(
+        file.try_value_by("core", None, "editor"),
+        Ok(Some(Word("vi".into())))
+    );
+    assert_eq!(
+        file.values::<Word>("remote.or.igin.url"),
+        Err(lookup::Error::FailedConversion(1))
+    );
+    assert_eq!(
+        file.value_by::<Word>("remote", "or.igin", "url"),
+        Ok(Word("d".into()))
+    );
+}
+
+#[test]
+fn sections_by_their_keys() {
+    let mut file = File::try_from("[a]\n\tk = 1\n[a \"b.c\"]\n\tk = 2\n").expect("a text");
+    let value = |key: &str| file.section_by_key(key).map(|it| it.value("k"));
+    assert_eq!(value("a"), Ok(Some("1".into())));
+    assert_eq!(value("A.b.c"), Ok(Some("2".into())));
+    assert_eq!(
+        value("a.x"),
+        Err(lookup::existing::Error::SubSectionMissing)
+    );
+    assert_eq!(
+        file.section_filter_by_key("a", |meta| meta.source == Source::Local),
+        Ok(None)
+    );
+    let mut editor = file.section_mut_by_key("a.b.c").expect("a section");
+    editor.push("j", "3").expect("a name");
+    assert_eq!(
+        (editor.value("j"), editor.values("k"), editor.num_values()),
+        (Some("3".into()), texts(&["2"]), 2)
+    );
+    assert!(editor.contains_value_name("J") && editor.value_implicit("x").is_none());
+    let kept = file.section_mut_filter_by_key("a", |_| true);
+    assert!(kept.expect("a section").is_some());
+}
+
+#[test]
+fn kinds_of_sources_and_metadata_that_is_made() {
+    for kind in [
+        Kind::GitInstallation,
+        Kind::System,
+        Kind::Global,
+        Kind::Repository,
+        Kind::Override,
+    ] {
+        assert!(kind.sources().iter().all(|it| it.kind() == kind));
+    }
+    let made = Metadata::from(Source::Local).at("/x").with(Trust::Reduced);
+    assert_eq!(
+        (made.path.as_deref(), made.source, made.level, made.trust),
+        (Some(Path::new("/x")), Source::Local, 0, Trust::Reduced)
+    );
+    assert_eq!(Metadata::default(), file().meta());
+}
+
+#[test]
+fn integers_booleans_and_paths_of_any_text() {
+    let file =
+        File::try_from("[a]\n\tn = 1k\n\tn = -2\n[a]\n\tn = x\n\tp = ~/p\n").expect("a text");
+    let refused = file.integers("a.n").expect_err("x is no integer");
+    assert_eq!(
+        refused,
+        gix_config::value::Error::new("not an integer", "x")
+    );
+    let mut asked = 0;
+    let first = file.integers_filter("a.n", |_| {
+        asked += 1;
+        asked == 1
+    });
+    assert_eq!(first, Ok(Some(vec![1024, -2])));
+    assert_eq!(file.integers_by("a", None, "none"), Ok(None));
+    assert_eq!(file.num_values(), 4);
+    assert_eq!(BString::from(file.clone()), file.to_bstring());
+
+    for (text, is_so) in [
+        ("yes", true),
+        ("ON", true),
+        ("0", false),
+        ("", false),
+        ("-7", true),
+    ] {
+        assert_eq!(
+            Boolean::try_from(BString::from(text)),
+            Ok(Boolean(is_so)),
+            "{text}"
+        );
+    }
+    assert!(Boolean::try_from(b"maybe".as_bstr()).is_err());
+    assert_eq!(
+        file.value_by::<Boolean>("a", None, "n"),
+        Err(lookup::Error::FailedConversion(
+            gix_config::value::Error::new("not a boolean", "x")
+        ))
+    );
+
+    let path = file.path_filter("a.p", |_| true).expect("a path");
+    assert_eq!(path, gix_config::Path::from(BString::from("~/p")));
+    let context = Context {
+        home_dir: Some(Path::new("/home/ada")),
+        ..Context::default()
+    };
+    for (text, wanted) in [
+        ("~/p", "/home/ada/p"),
+        (" a;b \"c\" \\\n", " a;b \"c\" \\\n"),
+        ("x", "x"),
+    ] {
+        let path = gix_config::Path::from(BString::from(text));
+        assert_eq!(
+            path.interpolate(context).expect("a path"),
+            Path::new(wanted)
+        );
+    }
+}
+
+#[test]
+fn texts_that_are_laid_out() {
+    use gix_config::format::{normalize, Indent, Newline, Options};
+    let text = b"  # c\n\n\n[a]\nk=1\n\n\n\nj";
+    assert_eq!(
+        normalize(text, Options::default()).expect("a text"),
+        "# c\n\n\n[a]\n\tk = 1\n\n\n\n\tj\n"
+    );
+    let options = Options {
+        root_comment_indent: None,
+        key_value_indent: Indent::Spaces(2),
+        spaces_around_separator: false,
+        newline: Newline::CrLf,
+        max_leading_blank_lines: Some(0),
+        max_consecutive_blank_lines: Some(1),
+        ..Options::default()
+    };
+    assert_eq!(
+        normalize(text, options).expect("a text"),
+        "  # c\r\n\r\n[a]\r\n  k=1\r\n\r\n  j\r\n"
+    );
+    let refused = normalize(b"[a]\n= 1\n", Options::default()).expect_err("no text");
+    assert_eq!(refused.line_number(), 2);
+}
+
+#[test]
+fn edits_of_the_sections_that_a_filter_keeps() {
+    let text = "[a]\n\tk = 1\n[a]\n\tk = 2\n";
+    let mut file = File::try_from(text).expect("a text");
+    file.section_mut("a", None)
+        .expect("a section")
+        .set_trust(Trust::Reduced);
+    let trusted = |meta: &Metadata| meta.trust == Trust::Full;
+    assert_eq!(
+        file.set_raw_value_filter("a.k", "3", trusted),
+        Ok(Some("1".into()))
+    );
+    assert_eq!(
+        file.set_raw_value_filter_by("a", None, "k", "4", |_| false),
+        Ok(None)
+    );
+    assert_eq!(file.strings("a.k"), Some(texts(&["3", "2", "4"])));
+    let refused = [("b c.k", 4), ("b.k k", 6), ("b c.k k", 6)];
+    for (key, number) in refused {
+        let before = file.to_string();
+        let error = file.set_raw_value_filter(key, "x", |_| false);
+        assert_eq!(error.map_err(|it| it.number()), Err(number));
+        assert_eq!(file.to_string(), before);
+    }
+    assert_eq!(
+        file.rename_section_filter("a", None, "b", "s", trusted),
+        Ok(())
+    );
+    assert_eq!(
+        file.to_string(),
+        "[b \"s\"]\n\tk = 3\n[a]\n\tk = 2\n[b \"s\"]\n\tk = 4\n"
+    );
+    let refused = file.rename_section_filter("a", None, "c", None, trusted);
+    assert_eq!(refused.map_err(|it| it.number()), Err(9));
+    let made = file.section_mut_or_create_new_filter("a", None, trusted);
+    made.expect("a section").push("n", None).expect("a name");
+    assert_eq!(file.sections().count(), 4);
 }

@@ -9,11 +9,12 @@ pub const LOCK: &str = "config.lock";
 /// Its draft.
 pub const DRAFT: &str = "config.gixcfg-7";
 
+/// The line with which an edit begins.
+pub const BEGIN: &str = "begin\n";
+
 /// A line.
 #[derive(Clone, Copy)]
 pub enum Call<'a> {
-    /// An edit begins.
-    Begin,
     /// This text is there before the first call, at a name.
     Given(&'a str, &'a str),
     /// An empty file is to be made.
@@ -43,7 +44,6 @@ pub fn call_of(line: &str) -> Option<Call<'_>> {
 /// The call that is one word.
 fn alone(word: &str) -> Option<Call<'_>> {
     match word {
-        "begin" => Some(Call::Begin),
         "share" => Some(Call::ShareRights),
         "sync" => Some(Call::Sync),
         "rename" => Some(Call::Rename),

@@ -1,17 +1,20 @@
 //! The calls, on both folders.
 
-use crate::call::{Call, DRAFT, FILE, LOCK, call_of};
+use crate::call::{BEGIN, Call, DRAFT, FILE, LOCK, call_of};
 use crate::in_memory::InMemory;
 use crate::memory::Memory;
-use gixcfg_files::DiskFolder;
+use gixcfg_files::{DiskFolder, EditFiles, Manner, Process, Spot, System, find_file};
 use gixcfg_replacing::FolderCalls;
 use std::alloc::{AllocGlobal, Global};
 use std::io;
 use std::io::{ErrorKind, Read, Write};
-use std::rt::Files;
 
-/// The folder on the disk.
-const HERE: &str = ".";
+/// The file on the disk, in the folder that this runs in.
+const SPOT: Spot<'static> = Spot {
+    folder: ".",
+    path: FILE,
+    lock: LOCK,
+};
 
 /// More calls than there are.
 const MANY: usize = 1_000_000_000;
@@ -21,7 +24,7 @@ const MANY: usize = 1_000_000_000;
 /// # Errors
 ///
 /// A line is no call; the file can't be looked at; a stream failed; out of memory.
-pub fn replay<R: Files + AllocGlobal, I: Read + Drop, W: Write + Drop>(
+pub fn replay<R: EditFiles + AllocGlobal, I: Read + Drop, W: Write + Drop>(
     rt: &R,
     mut input: I,
     mut out: W,
@@ -32,14 +35,37 @@ pub fn replay<R: Files + AllocGlobal, I: Read + Drop, W: Write + Drop>(
     let mut memory = InMemory {
         memory: Memory::new(alloc, MANY, false),
     };
-    let mut disk = DiskFolder::of(rt, HERE, FILE)?;
-    for line in text.lines() {
+    let Ok(process) = Process::this(rt) else {
+        return Err(io::Error::from(ErrorKind::OutOfMemory));
+    };
+    let manner = Manner {
+        is_synced: true,
+        process: process.as_ref(),
+    };
+    for lines in text.split(BEGIN) {
+        replay_edit(rt, lines, manner, &mut memory, &mut out)?;
+    }
+    Ok(())
+}
+
+/// Replays the calls of an edit.
+fn replay_edit<R: EditFiles + AllocGlobal, W: Write>(
+    rt: &R,
+    lines: &str,
+    manner: Manner<'_>,
+    memory: &mut InMemory,
+    out: &mut W,
+) -> io::Result<()> {
+    let alloc = rt.alloc();
+    let mut calls = System::new(rt);
+    let found = find_file(&mut calls, FILE)?;
+    let mut disk = DiskFolder::new(calls, SPOT, found.as_ref(), manner);
+    for line in lines.lines() {
         match call_of(line) {
-            Some(Call::Begin) => disk = DiskFolder::of(rt, HERE, FILE)?,
-            Some(Call::Given(name, text)) => give(&mut memory, name, text)?,
+            Some(Call::Given(name, text)) => give(memory, name, text)?,
             Some(call) => {
-                tell(alloc, "real: ", &mut disk, call, &mut out)?;
-                tell(alloc, "memory: ", &mut memory, call, &mut out)?;
+                tell(alloc, "real: ", &mut disk, call, out)?;
+                tell(alloc, "memory: ", memory, call, out)?;
             }
             None => return Err(io::Error::from(ErrorKind::InvalidInput)),
         }
@@ -82,7 +108,7 @@ fn answer<C: FolderCalls>(folder: &mut C, call: Call<'_>) -> &'static str {
         Call::Rename => folder.rename(DRAFT, FILE),
         Call::Remove(name) => folder.remove(name),
         Call::SyncNames => folder.sync_names(),
-        Call::Begin | Call::Given(..) => Ok(()),
+        Call::Given(..) => Ok(()),
     };
     match did {
         Ok(()) => "done",
@@ -99,12 +125,17 @@ fn made(did: io::Result<bool>) -> &'static str {
     }
 }
 
-/// Adds what a reader finds at a name: a text in brackets, or a dash.
+/// What the line of a process in its lock begins with.
+const SIGNED: &[u8] = b"gixcfg ";
+
+/// Adds what a reader finds at a name: a text in brackets, or a dash. A lock that says whose it is counts as empty.
 fn add_found<C: FolderCalls>(line: &mut Vec<u8>, folder: &mut C, name: &str) -> io::Result<()> {
     match folder.read(name)? {
         Some(text) => {
             line.extend_from_slice(b" [")?;
-            line.extend_from_slice(&text)?;
+            if !text.starts_with(SIGNED) {
+                line.extend_from_slice(&text)?;
+            }
             line.push(b']')?;
         }
         None => line.extend_from_slice(b" -")?,

@@ -1,20 +1,20 @@
 -- An included file that is fetched.
 use Rattle.std.proofs.Common.{◌≡◌, ◌≢◌, ◌⊎◌, ℕ, ◌==◌, if◌then◌else◌, Bool, true, false, List, Option, Some, None, Result, Ok, Err, inl, inr, refl, sym, ap, ◌∙◌, subst}
-use Rattle.std.specs.Prelude.{IfErr, IfSome, IsErrAnd}
+use Rattle.std.specs.Prelude.{IfSome, IsErrAnd}
+use Rattle.std.specs.declared.alloc.Global.{Global}
+use Rattle.std.specs.declared.string.String.{String}
 use Rattle.std.proofs.lemmas.Bool.{eqb-true}
 use Rattle.std.specs.declared.vec.Vec.{Vec}
 use Rattle.gitconf_sources.specs.Metadata.{Meta}
 use Rattle.gitconf_sources.specs.Reports.{FileReport, IsReadOf, read_of}
 use Rattle.gitconf_sources.specs.declared.fault.FileFault.{FileFault}
 use Rattle.gitconf_includes.specs.declared.includes.Error.{Error}
-use Rattle.gitconf_includes.specs.declared.includes.Error.TheVariants as refusals
-use Rattle.gitconf_includes.specs.declared.init.Options.{Options}
 use Rattle.gitconf_includes.specs.Errors.{include_of_parse, includes_number}
 use Rattle.gitconf_read.specs.EventResult.{IsRefused}
 use Rattle.gitconf_read.specs.ParseError.{Refusal}
 use Rattle.gitconf_state.specs.State.{State}
 use Rattle.gitconf_includes.specs.Expansion.{Asks, IsFetched, IsLoaded, IsLoadOf, May, fault_number, included_meta}
-use Rattle.gitconf_includes.specs.Outcomes.{told, IsCause, IsTextOf}
+use Rattle.gitconf_includes.specs.Outcomes.{told}
 
 -- a call was refused when out of memory, or is what is fetched
 abbrev pub Fetches : Asks → Meta → (path : List ℕ) → Result State ℕ → Type 0
@@ -58,29 +58,15 @@ pub loaded : {Z : Type 0} (asks : Asks) (from place : Meta) (path : List ℕ) (t
 loaded asks from place path text state told within is load = loads asks from path text (Ok state) told within (subst (λ m. IsLoaded asks.rules.lossy text.items m state) is load)
 
 -- the parser's refusals keep their numbers
-pub parse_number : (e : Refusal) → includes_number (include_of_parse e) ≡ e.number
-parse_number e = go (e.number == 27) refl
+pub parse_number : (at : String Global) (e : Refusal) → includes_number (include_of_parse at e) ≡ e.number
+parse_number at e = go (e.number == 27) refl
   where
-    go : (b : Bool) → (e.number == 27) ≡ b → includes_number (include_of_parse e) ≡ e.number
+    go : (b : Bool) → (e.number == 27) ≡ b → includes_number (include_of_parse at e) ≡ e.number
     go true is = rw is (sym (eqb-true e.number 27 is))
     go false is = rw is refl
 
-pub refused : {Z T : Type 0} (asks : Asks) (from : Meta) (path : List ℕ) (text : Vec ℕ Z) (e : Refusal) (f : T → State) (result : Result T Error)
+pub refused : {Z T : Type 0} (asks : Asks) (from : Meta) (path : List ℕ) (text : Vec ℕ Z) (at : String Global) (e : Refusal) (f : T → State) (result : Result T Error)
     → IfSome asks.table (λ files. IsReadOf (Ok text) (files path)) → from.level ≢ 255 → IsRefused text.items e
-    → IsErrAnd result (λ r. r ≡ include_of_parse e) → Fetches asks from path (told f result)
-refused asks from path text e f (Ok made) read within is err = absurd err
-refused asks from path text e f (Err r) read within is err = loads asks from path text (Err (includes_number r)) read within (e, is, ap includes_number err ∙ parse_number e)
-
--- and their causes
-pub parse_cause : {T Z : Type 0} (options : Options) (table : Option (List ℕ → FileReport)) (path : List ℕ) (text : Vec ℕ Z) (e : Refusal) (result : Result T Error)
-    → IfSome table (λ files. IsReadOf (Ok text) (files path)) → IsRefused text.items e → IsErrAnd result (λ r. r ≡ include_of_parse e) → IfErr result (IsCause options table)
-parse_cause options table path text e (Ok made) read refused err = tt
-parse_cause options table path text e (Err r) read refused err = subst (IsCause options table) (sym err) (go (e.number == 27))
-  where
-    told : (t : Option (List ℕ → FileReport)) → IfSome t (λ files. IsReadOf (Ok text) (files path)) → IsTextOf t path text.items
-    told None is = tt
-    told (Some files) is = is
-
-    go : (b : Bool) → IsCause options table (if b then refusals.Memory else refusals.Parse e)
-    go true = tt
-    go false = (path, text.items, told table read, refused)
+    → IsErrAnd result (λ r. r ≡ include_of_parse at e) → Fetches asks from path (told f result)
+refused asks from path text at e f (Ok made) read within is err = absurd err
+refused asks from path text at e f (Err r) read within is err = loads asks from path text (Err (includes_number r)) read within (e, is, ap includes_number err ∙ parse_number at e)

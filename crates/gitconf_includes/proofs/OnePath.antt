@@ -32,9 +32,9 @@ module _ (deeper : Deeper) (asks : Asks) (from : Meta) (path : List ℕ) (rest :
   unnamed e result names err = ended e result (why e names) err
     where
       why : (e : Error) → Names (Err e) (file_named asks.rules from path) → (includes_number e ≡ 27) ⊎ (file_named asks.rules from path ≡ Err (includes_number e))
-      why (refusals.CopyBuffer fault) is = inr is
+      why (refusals.CopyBuffer at fault) is = inr is
       why (refusals.Io at fault) is = inr is
-      why (refusals.Parse it) is = inr is
+      why (refusals.Parse at it) is = inr is
       why (refusals.Span it) is = inr is
       why (refusals.Interpolate it) is = inr is
       why (refusals.IncludeDepthExceeded depth) is = inr is

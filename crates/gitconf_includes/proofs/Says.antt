@@ -7,9 +7,9 @@ use Rattle.gitconf_includes.specs.declared.includes.Error.TheVariants as refusal
 
 -- what a refusal says is told by it alone
 pub says_alike : {T U : Type 0} (f : T → Bool) (g : U → Bool) (answer : Result Bool ℕ) (e : Error) → Says f (Err e) answer → Says g (Err e) answer
-says_alike f g answer (refusals.CopyBuffer fault) says = says
+says_alike f g answer (refusals.CopyBuffer path fault) says = says
 says_alike f g answer (refusals.Io path fault) says = says
-says_alike f g answer (refusals.Parse it) says = says
+says_alike f g answer (refusals.Parse path it) says = says
 says_alike f g answer (refusals.Span it) says = says
 says_alike f g answer (refusals.Interpolate it) says = says
 says_alike f g answer (refusals.IncludeDepthExceeded depth) says = says

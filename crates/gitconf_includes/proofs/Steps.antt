@@ -103,9 +103,9 @@ module _ (deeper : Deeper) (asks : Asks) (parent : Option State) where
       judged = is_followed asks.rules from (unwrap_or parent (whole done rest)) condition
 
       why : (e : Error) → Says {T = Bool} (λ b. b) (Err e) judged → (includes_number e ≡ 27) ⊎ (judged ≡ Err (includes_number e))
-      why (refusals.CopyBuffer fault) is = inr is
+      why (refusals.CopyBuffer at fault) is = inr is
       why (refusals.Io at fault) is = inr is
-      why (refusals.Parse it) is = inr is
+      why (refusals.Parse at it) is = inr is
       why (refusals.Span it) is = inr is
       why (refusals.Interpolate it) is = inr is
       why (refusals.IncludeDepthExceeded depth) is = inr is

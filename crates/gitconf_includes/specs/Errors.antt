@@ -1,5 +1,7 @@
 -- The refusals of files and of includes, made of what caused them; running out of memory has one case in each.
 use Rattle.std.specs.Prelude.{ℕ, ◌==◌, if◌then◌else◌}
+use Rattle.std.specs.declared.alloc.Global.{Global}
+use Rattle.std.specs.declared.string.String.{String}
 use Rattle.gitconf_values.specs.declared.path.interpolate.Error.{Error as Interpolate}
 use Rattle.gitconf_values.specs.declared.path.interpolate.Error.TheVariants as interpolate
 use Rattle.gitconf_values.specs.Homes.{interpolate_number}
@@ -12,8 +14,8 @@ use Rattle.gitconf_includes.specs.declared.init.Error.TheVariants as init
 -- the number of a refusal of includes
 abbrev pub includes_number : Includes → ℕ
 includes_number (includes.Io path fault) = 19
-includes_number (includes.CopyBuffer fault) = 20
-includes_number (includes.Parse e) = e.number
+includes_number (includes.CopyBuffer path fault) = 20
+includes_number (includes.Parse path e) = e.number
 includes_number (includes.Span e) = e
 includes_number (includes.Interpolate e) = interpolate_number e
 includes_number (includes.IncludeDepthExceeded depth) = 15
@@ -30,9 +32,9 @@ init_number (init.Includes e) = includes_number e
 init_number (init.Span e) = e
 init_number init.Memory = 27
 
--- the refusal of an include whose file the parser refuses
-abbrev pub include_of_parse : Refusal → Includes
-include_of_parse e = if e.number == 27 then includes.Memory else includes.Parse e
+-- the refusal of an include because the parser refuses the file at that path
+abbrev pub include_of_parse : (path : String Global) → Refusal → Includes
+include_of_parse path e = if e.number == 27 then includes.Memory else includes.Parse path e
 
 -- the refusal of an include for which there is no room
 abbrev pub include_of_span : (number : ℕ) → Includes

@@ -12,6 +12,7 @@ use Rattle.gitconf_includes.specs.declared.init.Options.{Options}
 use Rattle.gitconf_includes.specs.Errors.{includes_number}
 use Rattle.gitconf_includes.specs.Rules.{rules_of}
 use Rattle.gitconf_read.specs.EventResult.{IsRefused}
+use Rattle.gitconf_read.specs.ParseError.{Refusal}
 use Rattle.gitconf_state.specs.Including.{whole}
 use Rattle.gitconf_state.specs.State.{SectionState, State}
 use Rattle.gitconf_includes.specs.Expansion.{Asks, Leaves, May, On, Reached}
@@ -47,16 +48,20 @@ IsFaultOf table path fault = May table (λ told. ◌≡◌ {A = Result (List ℕ
 abbrev pub IsTextOf : Option (List ℕ → FileReport) → (path text : List ℕ) → Type 0
 IsTextOf table path text = May table (λ told. ◌≡◌ {A = Result (List ℕ) FileFault} (read_of (told path)) (Ok text))
 
+-- the parser refuses the text, and not for want of memory
+abbrev pub IsUnread : (text : List ℕ) → Refusal → Type 0
+IsUnread text e = IsRefused text e × (e.number ≡ 27 → ⊥)
+
 -- how a call is refused for a fault of the file at a path
 abbrev pub fault_refusal : FileFault → (path : String Global) → Error
-fault_refusal fault path = elim fault.stage [ Open ↦ refusals.Io path fault | Read ↦ refusals.CopyBuffer fault | Memory ↦ refusals.Memory ]
+fault_refusal fault path = elim fault.stage [ Open ↦ refusals.Io path fault | Read ↦ refusals.CopyBuffer path fault | Memory ↦ refusals.Memory ]
 
--- What a refusal says besides its number: the fault of a file that was opened or read, with the path of one that couldn't be opened; how the
--- parser refuses the text of a file; the depth that the options allow; what the git folder lacks; and that there is no room for a file.
+-- What a refusal says besides its number: the path of a file that couldn't be opened or read, with the fault; the path of a file whose text the
+-- parser refuses, and how; the depth that the options allow; what the git folder lacks; and that there is no room for a file.
 abbrev pub IsCause : Options → Option (List ℕ → FileReport) → Error → Type 0
 IsCause options table (refusals.Io path fault) = (fault.stage ≡ Open) × IsFaultOf table (string_bytes path) fault
-IsCause options table (refusals.CopyBuffer fault) = (path : List ℕ) × (fault.stage ≡ Read) × IsFaultOf table path fault
-IsCause options table (refusals.Parse e) = (path text : List ℕ) × IsTextOf table path text × IsRefused text e
+IsCause options table (refusals.CopyBuffer path fault) = (fault.stage ≡ Read) × IsFaultOf table (string_bytes path) fault
+IsCause options table (refusals.Parse path e) = (text : List ℕ) × IsTextOf table (string_bytes path) text × IsUnread text e
 IsCause options table (refusals.IncludeDepthExceeded depth) = depth ≡ options.includes.max_depth
 IsCause options table refusals.MissingGitDir = options.includes.conditional.git_dir ≡ None
 IsCause options table (refusals.Realpath fault) = IsUnresolved fault options.includes.conditional.git_dir

@@ -1,6 +1,6 @@
 //! One included file: read and loaded.
 ghost use Rattle.std.specs.Prelude.{◌≡◌, ◌⊎◌, ◌<◌, [], Err, IfErr, IfOk, string_bytes};
-ghost use Rattle.gitconf_includes.specs.Errors.{includes_number};
+ghost use Rattle.gitconf_includes.specs.Errors.{include_of_parse, includes_number};
 ghost use Rattle.gitconf_state.specs.Including.{whole};
 ghost use Rattle.gitconf_includes.specs.Expansion.{fault_number, included_meta, IsFetched};
 ghost use Rattle.gitconf_includes.specs.Outcomes.{asks_of, fault_refusal, told, CountsFaults, IsCause};
@@ -8,6 +8,8 @@ ghost use Rattle.gitconf_includes.specs.Outcomes.{asks_of, fault_refusal, told, 
 use crate::config_file::ConfigFile;
 use crate::includes::Error;
 use crate::init::Options;
+use crate::paths::copied;
+use gitconf_read::error as parse;
 use gitconf_sources::meta::Metadata;
 use gitconf_sources::{FileFault, Files, Stage};
 use gitconf_text::NoMemory;
@@ -24,8 +26,25 @@ fn refusal(fault: FileFault, path: String) -> Error
             path,
             source: fault,
         },
-        Stage::Read => Error::CopyBuffer(fault),
+        Stage::Read => Error::CopyBuffer {
+            path,
+            source: fault,
+        },
         Stage::Memory => Error::Memory,
+    }
+}
+
+/// The refusal of the file at that path because the parser refuses its text.
+fn refused(parse: parse::Error, path: String) -> Error
+    ensures { result ≡ include_of_parse path parse }
+{
+    if parse.is_memory() {
+        Error::Memory
+    } else {
+        Error::Parse {
+            path,
+            source: parse,
+        }
     }
 }
 
@@ -82,6 +101,10 @@ pub(crate) fn fetch<F: Files, S: ConfigFile>(
             max_depth: options.includes.max_depth,
         });
     }
+    let at = copied(alloc, &path)?;
     let meta = shared(alloc, included_meta(from, path))?;
-    Ok(S::load(alloc, text, options.lossy, meta)?)
+    match S::load(alloc, text, options.lossy, meta) {
+        Ok(file) => Ok(file),
+        Err(parse) => Err(refused(parse, at)),
+    }
 }

@@ -15,15 +15,15 @@ use thiserror::Error;
 /// Why includes are refused.
 #[derive(Debug, Drop, Error)]
 pub enum Error {
-    /// Reading an included file failed: refusal 20.
+    /// Reading the included file at that path failed: refusal 20.
     #[error("Failed to copy configuration file into buffer")]
-    CopyBuffer(FileFault),
+    CopyBuffer { path: String, source: FileFault },
     /// Opening the included file at that path failed: refusal 19.
     #[error("Could not read included configuration file at '{path}'")]
     Io { path: String, source: FileFault },
-    /// The parser refused an included file: refusal 1 or 2.
-    #[error(transparent)]
-    Parse(parse::Error),
+    /// The parser refused the included file at that path: refusal 1 or 2.
+    #[error("{source}")]
+    Parse { path: String, source: parse::Error },
     /// The place of a part would be past 4294967295, or no section number is left: refusal 3.
     #[error(transparent)]
     Span(span::Error),
@@ -45,20 +45,6 @@ pub enum Error {
     /// A growth was refused: refusal 27.
     #[error("out of memory")]
     Memory,
-}
-
-impl From<parse::Error> for Error {
-    ghost use Rattle.gitconf_includes.specs.Errors.{include_of_parse};
-
-    ghost from_gives = { λ parse e. e ≡ include_of_parse parse };
-
-    fn from(parse: parse::Error) -> Error {
-        if parse.is_memory() {
-            Error::Memory
-        } else {
-            Error::Parse(parse)
-        }
-    }
 }
 
 impl From<span::Error> for Error {

@@ -1,5 +1,5 @@
 //! Which file a path of an including section names.
-ghost use Rattle.std.specs.Prelude.{◌≡◌, true, IfErr, string_bytes};
+ghost use Rattle.std.specs.Prelude.{◌≡◌, true, IfErr, IfOk, string_bytes};
 ghost use Rattle.bstr.specs.Owned.{bstring_bytes};
 ghost use Rattle.gitconf_values.specs.Paths.{begins_slash as starts_slash};
 ghost use Rattle.gitconf_includes.specs.Paths as spec;
@@ -13,6 +13,17 @@ use gitconf_text::NoMemory;
 use gitconf_values::Path;
 use gitconf_values::path::{interpolate, join, parent};
 use std::alloc::Global;
+
+/// A path once more, for a refusal to keep.
+///
+/// # Errors
+///
+/// Out of memory.
+pub fn copied(alloc: Global, path: &str) -> Result<String, NoMemory>
+    ensures { IfOk result (λ copy. string_bytes copy ≡ path.now) }
+{
+    Ok(String::from_str(alloc, path)?)
+}
 
 /// The path with its shorthands replaced, or `None` if one stands for nothing and such paths are left out. It takes
 /// memory for the result alone.

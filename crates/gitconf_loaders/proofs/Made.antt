@@ -22,9 +22,9 @@ parse_number e = go (e.number == 27) refl
     go false is = rw is refl
 
 pub includes_numbers : (e : Error) → init_number (init_of_includes e) ≡ includes_number e
-includes_numbers (refusals.CopyBuffer fault) = refl
+includes_numbers (refusals.CopyBuffer path fault) = refl
 includes_numbers (refusals.Io path fault) = refl
-includes_numbers (refusals.Parse it) = refl
+includes_numbers (refusals.Parse path it) = refl
 includes_numbers (refusals.Span it) = refl
 includes_numbers (refusals.Interpolate it) = refl
 includes_numbers (refusals.IncludeDepthExceeded depth) = refl

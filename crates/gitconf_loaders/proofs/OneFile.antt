@@ -19,7 +19,8 @@ use Rattle.gitconf_includes.specs.Expansion.{IsLoadOf}
 use Rattle.gitconf_loaders.specs.declared.from_paths.Error.{Error}
 use Rattle.gitconf_loaders.specs.declared.from_paths.Error.TheVariants as paths
 use Rattle.gitconf_loaders.specs.Causes.{IsLoadFault, IsFileCause, load_refusal}
-use Rattle.gitconf_loaders.specs.Errors.{paths_number, paths_of_parse}
+use Rattle.gitconf_includes.specs.Errors.{init_of_parse}
+use Rattle.gitconf_loaders.specs.Errors.{paths_number, paths_of_init}
 use Rattle.gitconf_loaders.specs.Paths.{IsLoadedFrom, IsFileRead, load_fault, numbered}
 
 -- a text that is read is returned by the table
@@ -65,34 +66,20 @@ module _ (table : Option (List ℕ → FileReport)) (path : List ℕ) (source : 
   loads trust text r told read load = reads trust r told (Ok text.items, answered table path text read, load)
 
 -- the parser's refusals keep their numbers
-pub parse_number : (e : Refusal) → paths_number (paths_of_parse e) ≡ e.number
-parse_number e = go (e.number == 27) refl
+pub parse_number : (at : String Global) (e : Refusal) → paths_number (paths_of_init at (init_of_parse e)) ≡ e.number
+parse_number at e = go (e.number == 27) refl
   where
-    go : (b : Bool) → (e.number == 27) ≡ b → paths_number (paths_of_parse e) ≡ e.number
+    go : (b : Bool) → (e.number == 27) ≡ b → paths_number (paths_of_init at (init_of_parse e)) ≡ e.number
     go true is = rw is (sym (eqb-true e.number 27 is))
     go false is = rw is refl
 
 -- the parser refuses
-pub not_parsed : {Z : Type 0} (table : Option (List ℕ → FileReport)) (path : List ℕ) (source : Source) (trust : Trust) (text : Vec ℕ Z) (e : Refusal) (result : Result State Error)
+pub not_parsed : {Z : Type 0} (table : Option (List ℕ → FileReport)) (path : List ℕ) (source : Source) (trust : Trust) (text : Vec ℕ Z) (at : String Global) (e : Refusal) (result : Result State Error)
     → IfSome table (λ files. IsTrustOf (Ok trust) (files path)) → IfSome table (λ files. IsReadOf (Ok text) (files path)) → IsRefused text.items e
-    → IsErrAnd result (λ r. r ≡ paths_of_parse e) → IsLoadedFrom table path source (numbered paths_number result)
-not_parsed table path source trust text e (Ok made) told read refused err = absurd err
-not_parsed table path source trust text e (Err r) told read refused err =
-    loads table path source trust text (Err (paths_number r)) told read (e, refused, ap paths_number err ∙ parse_number e)
-
--- and its causes
-pub parse_cause : {T Z : Type 0} (table : Option (List ℕ → FileReport)) (path : List ℕ) (text : Vec ℕ Z) (e : Refusal) (result : Result T Error)
-    → IfSome table (λ files. IsReadOf (Ok text) (files path)) → IsRefused text.items e → IsErrAnd result (λ r. r ≡ paths_of_parse e) → IfErr result (IsFileCause table path)
-parse_cause table path text e (Ok made) read refused err = tt
-parse_cause table path text e (Err r) read refused err = subst (IsFileCause table path) (sym err) (go (e.number == 27) refl)
-  where
-    told : (t : Option (List ℕ → FileReport)) → IfSome t (λ files. IsReadOf (Ok text) (files path)) → May t (λ files. ◌≡◌ {A = Result (List ℕ) FileFault} (read_of (files path)) (Ok text.items))
-    told None is = tt
-    told (Some files) is = is
-
-    go : (b : Bool) → (e.number == 27) ≡ b → IsFileCause table path (paths_of_parse e)
-    go true is = rw is tt
-    go false is = rw is (text.items, told table read, refused)
+    → IsErrAnd result (λ r. r ≡ paths_of_init at (init_of_parse e)) → IsLoadedFrom table path source (numbered paths_number result)
+not_parsed table path source trust text at e (Ok made) told read refused err = absurd err
+not_parsed table path source trust text at e (Err r) told read refused err =
+    loads table path source trust text (Err (paths_number r)) told read (e, refused, ap paths_number err ∙ parse_number at e)
 
 -- the cause of a fault: where the trust is asked, and where the file is read
 pub trust_fault : (table : Option (List ℕ → FileReport)) (path : String Global) (fault : FileFault) → IfSome table (λ files. IsTrustOf (Err fault) (files (string_bytes path)))

@@ -1,10 +1,12 @@
 -- Files that are loaded one after the other, by how the calls end.
-use Rattle.std.proofs.Common.{◌≡◌, ◌⊎◌, ℕ, ◌+◌, ◌==◌, ◌<◌, ◌≤◌, ◌^◌, ◌&&◌, ◌||◌, not, Bool, true, false, List, [], ◌∷◌, Option, Some, None, Result, Ok, Err, inl, inr, refl, sym, ap, ◌∙◌, subst, length}
+use Rattle.std.proofs.Common.{◌≡◌, ◌⊎◌, ℕ, ◌+◌, ◌==◌, ◌<◌, ◌≤◌, ◌^◌, ◌&&◌, ◌||◌, not, Bool, true, false, List, [], ◌∷◌, Option, Some, None, Result, Ok, Err, inl, inr, refl, sym, ap, ◌∙◌, subst, length, string_bytes}
 use Rattle.std.specs.Prelude.{IfErr, IfSome, IsErrAnd, leb, ltb}
 use Rattle.std.specs.List.{list_any}
 use Rattle.std.specs.Option.{option_eq}
 use Rattle.std.specs.Str.{bytes_eq}
 use Rattle.std.specs.Cmp.Lexicographic.{bytes_decides}
+use Rattle.std.specs.declared.alloc.Global.{Global}
+use Rattle.std.specs.declared.string.String.{String}
 use Rattle.std.specs.declared.vec.Vec.{Vec}
 use Rattle.std.proofs.lemmas.Bool.{eqb-true, leb-false, le-ltb, lt-leb, ltb-false}
 use Rattle.gitconf_sources.specs.Metadata.{Meta}
@@ -15,7 +17,7 @@ use Rattle.gitconf_sources.specs.declared.fault.Stage.TheVariants.{Open, Read, M
 use Rattle.gitconf_includes.specs.declared.init.Error.{Error as Init}
 use Rattle.gitconf_includes.specs.declared.init.Error.TheVariants as init
 use Rattle.gitconf_includes.specs.declared.init.Options.{Options}
-use Rattle.gitconf_includes.specs.Errors.{init_number}
+use Rattle.gitconf_includes.specs.Errors.{init_number, init_of_span}
 use Rattle.gitconf_text.specs.Sections.{no_number}
 use Rattle.gitconf_state.specs.Edits.{Append}
 use Rattle.gitconf_state.specs.State.{State}
@@ -29,7 +31,7 @@ use Rattle.gitconf_loaders.specs.Resolving.{IsMadeCause, IsMadeOf}
 use Rattle.gitconf_loaders.specs.declared.from_paths.Error.{Error}
 use Rattle.gitconf_loaders.specs.declared.from_paths.Error.TheVariants as paths
 use Rattle.gitconf_loaders.specs.Causes.{has_path, IsLoadCause, IsMetaCause, IsPathCause}
-use Rattle.gitconf_loaders.specs.Errors.{paths_number, paths_of_init, paths_of_span}
+use Rattle.gitconf_loaders.specs.Errors.{paths_number, paths_of_init}
 use Rattle.gitconf_loaders.specs.Paths.{AreFilesLoaded, CountsLoad, has_room_behind, IsFileLoaded, IsLoadOfPaths, IsMetaLoaded, is_among, IsTextTaken, Joins, left_by, load_fault, numbered, once, taken}
 use Rattle.gitconf_loaders.proofs.Counts.{fault_load, later as counts_later, renumbered}
 
@@ -63,10 +65,10 @@ joined target other now appended =
     rw (open_room target other (λ large. let no = told.too_large.1 large in cc), Joins) (now, appended.ok, refl)
 
 -- a refusal of a span keeps its number
-pub span_number : (n : ℕ) → paths_number (paths_of_span n) ≡ n
-span_number n = go (n == 27) refl
+pub span_number : (at : String Global) (n : ℕ) → paths_number (paths_of_init at (init_of_span n)) ≡ n
+span_number at n = go (n == 27) refl
   where
-    go : (b : Bool) → (n == 27) ≡ b → paths_number (paths_of_span n) ≡ n
+    go : (b : Bool) → (n == 27) ≡ b → paths_number (paths_of_init at (init_of_span n)) ≡ n
     go true is = rw is (sym (eqb-true n 27 is))
     go false is = rw is refl
 
@@ -78,17 +80,17 @@ pub append_refused : (target other now : State) (n : ℕ) → IsEdited {T = Unit
 append_refused target other now n appended = let told = append_told other (Err n) target now appended in (told.known, λ three. told.too_large.0 (ap Err three))
 
 -- one for which there is no room, or for which memory ran out
-pub not_joined : (target other : State) (n : ℕ) (result : Result Unit Error) (now : Option State) → IsAppendRefusal target other n → IsErrAnd result (λ r. r ≡ paths_of_span n)
+pub not_joined : (target other : State) (at : String Global) (n : ℕ) (result : Result Unit Error) (now : Option State) → IsAppendRefusal target other n → IsErrAnd result (λ r. r ≡ paths_of_init at (init_of_span n))
     → (left_by paths_number result now ≡ Err 27) ⊎ Joins (Some target) other (left_by paths_number result now)
-not_joined target other n (Ok made) now refusal err = absurd err
-not_joined target other n (Err r) now (inr wanting, large) err = inl (ap Err (ap paths_number err ∙ span_number n ∙ wanting))
-not_joined target other n (Err r) now (inl is, large) err = inr (rw (shut_room target other (large is), Joins) (ap Err (ap paths_number err ∙ span_number n ∙ is)))
+not_joined target other at n (Ok made) now refusal err = absurd err
+not_joined target other at n (Err r) now (inr wanting, large) err = inl (ap Err (ap paths_number err ∙ span_number at n ∙ wanting))
+not_joined target other at n (Err r) now (inl is, large) err = inr (rw (shut_room target other (large is), Joins) (ap Err (ap paths_number err ∙ span_number at n ∙ is)))
 
-pub join_cause : (target other : State) (n : ℕ) (result : Result Unit Error) → IsAppendRefusal target other n → IsErrAnd result (λ r. r ≡ paths_of_span n)
-    → IfErr result (λ e. (e ≡ paths.Memory) ⊎ (e ≡ paths.Init (init.Span 3)))
-join_cause target other n (Ok made) refusal err = tt
-join_cause target other n (Err r) (inr wanting, large) err = inl (err ∙ ap paths_of_span wanting)
-join_cause target other n (Err r) (inl is, large) err = inr (err ∙ ap paths_of_span is)
+pub join_cause : (target other : State) (at : String Global) (n : ℕ) (result : Result Unit Error) → IsAppendRefusal target other n → IsErrAnd result (λ r. r ≡ paths_of_init at (init_of_span n))
+    → IfErr result (λ e. (e ≡ paths.Memory) ⊎ (e ≡ paths.Init at (init.Span 3)))
+join_cause target other at n (Ok made) refusal err = tt
+join_cause target other at n (Err r) (inr wanting, large) err = inl (err ∙ ap (λ m. paths_of_init at (init_of_span m)) wanting)
+join_cause target other at n (Err r) (inl is, large) err = inr (err ∙ ap (λ m. paths_of_init at (init_of_span m)) is)
 
 -- what is taken of a file that was read
 pub text_read : {Z : Type 0} (table : Option (List ℕ → FileReport)) (must_exist ignores : Bool) (path : List ℕ) (text : Vec ℕ Z)
@@ -196,40 +198,26 @@ pub no_path : (must_exist ignores : Bool) (asks : Asks) (meta : Meta) (target : 
 no_path must_exist ignores asks meta target is = rw is refl
 
 -- the refusals of what is made keep their numbers
-pub init_numbers : (e : Init) → paths_number (paths_of_init e) ≡ init_number e
-init_numbers (init.Parse it) = refl
-init_numbers (init.Interpolate it) = refl
-init_numbers (init.Includes it) = refl
-init_numbers (init.Span it) = refl
-init_numbers init.Memory = refl
+pub init_numbers : (at : String Global) (e : Init) → paths_number (paths_of_init at e) ≡ init_number e
+init_numbers at (init.Parse it) = refl
+init_numbers at (init.Interpolate it) = refl
+init_numbers at (init.Includes it) = refl
+init_numbers at (init.Span it) = refl
+init_numbers at init.Memory = refl
 
 -- a refusal that is handed on
-pub not_made_left : (must_exist ignores : Bool) (asks : Asks) (meta : Meta) (path text : List ℕ) (target : Option State) (e : Init) (result : Result Unit Error)
-    → Takes must_exist ignores asks meta path target (Ok (Some text)) → IsMadeOf init_number asks text meta (Err e) → IsErrAnd result (λ r. r ≡ paths_of_init e)
+pub not_made_left : (must_exist ignores : Bool) (asks : Asks) (meta : Meta) (path text : List ℕ) (target : Option State) (at : String Global) (e : Init) (result : Result Unit Error)
+    → Takes must_exist ignores asks meta path target (Ok (Some text)) → IsMadeOf init_number asks text meta (Err e) → IsErrAnd result (λ r. r ≡ paths_of_init at e)
     → Loads must_exist ignores asks meta path target (left_by paths_number result target)
-not_made_left must_exist ignores asks meta path text target e (Ok done) takes made err = absurd err
-not_made_left must_exist ignores asks meta path text target e (Err r) takes made err = not_made must_exist ignores asks meta path target text e (paths_number r) takes made (ap paths_number err ∙ init_numbers e)
+not_made_left must_exist ignores asks meta path text target at e (Ok done) takes made err = absurd err
+not_made_left must_exist ignores asks meta path text target at e (Err r) takes made err = not_made must_exist ignores asks meta path target text e (paths_number r) takes made (ap paths_number err ∙ init_numbers at e)
 
 -- and how often a host's files failed after it
-pub made_counts : (target : Option State) (e : Init) (result : Result Unit Error) (old mid new : Option ℕ) → IsErrAnd result (λ r. r ≡ paths_of_init e) → IsNoLess old mid → CountsFault (init_number e) mid new
+pub made_counts : (target : Option State) (at : String Global) (e : Init) (result : Result Unit Error) (old mid new : Option ℕ) → IsErrAnd result (λ r. r ≡ paths_of_init at e) → IsNoLess old mid → CountsFault (init_number e) mid new
     → CountsLoad (left_by paths_number result target) old new
-made_counts target e (Ok done) old mid new err first second = absurd err
-made_counts target e (Err r) old mid new err first second =
-    counts_later (Option State) (Err (paths_number r)) old mid new first (renumbered (Option State) (Option State) (init_number e) (paths_number r) mid new (ap paths_number err ∙ init_numbers e) (fault_load (Option State) (init_number e) mid new second))
-
--- and their causes
-pub init_cause : {T : Type 0} (must_exist : Bool) (options : Options) (table : Option (List ℕ → FileReport)) (path text : List ℕ) (e : Init) (result : Result T Error)
-    → IsTextTaken table must_exist options.ignore_io_errors path (Ok (Some text)) → IsMadeCause options table text e → IsErrAnd result (λ r. r ≡ paths_of_init e)
-    → IfErr result (IsPathCause must_exist options table path)
-init_cause must_exist options table path text e (Ok made) taken is err = tt
-init_cause must_exist options table path text e (Err r) taken is err = subst (IsPathCause must_exist options table path) (sym err) (go e is)
-  where
-    go : (e : Init) → IsMadeCause options table text e → IsPathCause must_exist options table path (paths_of_init e)
-    go (init.Parse it) is = (text, taken, is)
-    go (init.Interpolate it) is = absurd is
-    go (init.Includes it) is = is
-    go (init.Span it) is = absurd is
-    go init.Memory is = tt
+made_counts target at e (Ok done) old mid new err first second = absurd err
+made_counts target at e (Err r) old mid new err first second =
+    counts_later (Option State) (Err (paths_number r)) old mid new first (renumbered (Option State) (Option State) (init_number e) (paths_number r) mid new (ap paths_number err ∙ init_numbers at e) (fault_load (Option State) (init_number e) mid new second))
 
 -- metadata of one path
 pub cause_of : {T : Type 0} (must_exist : Bool) (options : Options) (table : Option (List ℕ → FileReport)) (meta : Meta) (path : List ℕ) (result : Result T Error) → meta.path ≡ Some path

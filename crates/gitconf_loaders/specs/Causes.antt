@@ -11,10 +11,10 @@ use Rattle.gitconf_sources.specs.declared.source.Trust.{Trust}
 use Rattle.gitconf_sources.specs.Reports.{FileReport, May, read_of, trust_of}
 use Rattle.gitconf_sources.specs.declared.fault.FileFault.{FileFault}
 use Rattle.gitconf_sources.specs.declared.fault.Stage.TheVariants.{Open, Read, Memory}
+use Rattle.gitconf_includes.specs.declared.init.Error.{Error as Init}
 use Rattle.gitconf_includes.specs.declared.init.Error.TheVariants as init
 use Rattle.gitconf_includes.specs.declared.init.Options.{Options}
-use Rattle.gitconf_read.specs.EventResult.{IsRefused}
-use Rattle.gitconf_includes.specs.Outcomes.{IsCause, IsFaultOf, IsTextOf}
+use Rattle.gitconf_includes.specs.Outcomes.{IsCause, IsFaultOf, IsTextOf, IsUnread}
 use Rattle.gitconf_loaders.specs.declared.from_paths.Error.{Error}
 use Rattle.gitconf_loaders.specs.declared.from_paths.Error.TheVariants as paths
 use Rattle.gitconf_loaders.specs.Paths.{is_among, IsTextTaken}
@@ -28,22 +28,27 @@ abbrev pub IsLoadFault : Option (List ℕ → FileReport) → (path : List ℕ) 
 IsLoadFault table path fault =
     May table (λ told. (◌≡◌ {A = Result Trust FileFault} (trust_of (told path)) (Err fault)) ⊎ (◌≡◌ {A = Result (List ℕ) FileFault} (read_of (told path)) (Err fault)))
 
--- The cause for one file: its path, with the fault; or how the parser refuses its text. Nothing else refuses it but want of memory.
+-- The cause for one file: its path, with the fault, or with how the parser refuses its text. Nothing else refuses it but want of memory.
 abbrev pub IsFileCause : Option (List ℕ → FileReport) → (path : List ℕ) → Error → Type 0
 IsFileCause table path (paths.Io at fault) = (string_bytes at ≡ path) × IsLoadFault table path fault
-IsFileCause table path (paths.Init (init.Parse e)) = (text : List ℕ) × IsTextOf table path text × IsRefused text e
-IsFileCause table path (paths.Init e) = ⊥
+IsFileCause table path (paths.Init at (init.Parse e)) = (string_bytes at ≡ path) × (text : List ℕ) × IsTextOf table path text × IsUnread text e
+IsFileCause table path (paths.Init at e) = ⊥
 IsFileCause table path paths.Memory = Unit {0}
 
--- The cause for one file with what it includes: its path, with the fault; how the parser refuses the text; what the refusal of an include
--- says; or that there is no room for it behind the others. Nothing else refuses it but want of memory.
+-- Why what was read at a path can't be made a file behind the others: how the parser refuses the text; what the refusal of an include says; or
+-- that there is no room for it.
+abbrev pub IsInitCause : (must_exist : Bool) → Options → Option (List ℕ → FileReport) → (path : List ℕ) → Init → Type 0
+IsInitCause must_exist options table path (init.Parse e) =
+    (text : List ℕ) × IsTextTaken table must_exist options.ignore_io_errors path (Ok (Some text)) × IsUnread text e
+IsInitCause must_exist options table path (init.Includes e) = IsCause options table e
+IsInitCause must_exist options table path (init.Span number) = number ≡ 3
+IsInitCause must_exist options table path e = ⊥
+
+-- The cause for one file with what it includes: its path, with the fault, or with why what was read can't be made a file. Nothing else refuses it
+-- but want of memory.
 abbrev pub IsPathCause : (must_exist : Bool) → Options → Option (List ℕ → FileReport) → (path : List ℕ) → Error → Type 0
 IsPathCause must_exist options table path (paths.Io at fault) = (string_bytes at ≡ path) × IsFaultOf table path fault
-IsPathCause must_exist options table path (paths.Init (init.Parse e)) =
-    (text : List ℕ) × IsTextTaken table must_exist options.ignore_io_errors path (Ok (Some text)) × IsRefused text e
-IsPathCause must_exist options table path (paths.Init (init.Includes e)) = IsCause options table e
-IsPathCause must_exist options table path (paths.Init (init.Span number)) = number ≡ 3
-IsPathCause must_exist options table path (paths.Init e) = ⊥
+IsPathCause must_exist options table path (paths.Init at e) = (string_bytes at ≡ path) × IsInitCause must_exist options table path e
 IsPathCause must_exist options table path paths.Memory = Unit {0}
 
 -- the cause for the file of metadata, if that has a path

@@ -1,12 +1,13 @@
 -- The refusals of loaders, made of what caused them; running out of memory has one case in each.
 use Rattle.std.specs.Prelude.{ℕ, ◌==◌, if◌then◌else◌}
+use Rattle.std.specs.declared.alloc.Global.{Global}
+use Rattle.std.specs.declared.string.String.{String}
 use Rattle.gitconf_text.specs.HeaderErrors.{header_number}
 use Rattle.gitconf_text.specs.declared.parse.section.header.Error.{Error as Header}
 use Rattle.gitconf_text.specs.declared.parse.section.header.Error.TheVariants as header
 use Rattle.gitconf_values.specs.Homes.{interpolate_number}
 use Rattle.gitconf_values.specs.declared.path.interpolate.Error.{Error as Interpolate}
 use Rattle.gitconf_values.specs.declared.path.interpolate.Error.TheVariants as interpolate
-use Rattle.gitconf_read.specs.ParseError.{Refusal}
 use Rattle.gitconf_body.specs.ValueErrors.{value_number}
 use Rattle.gitconf_body.specs.declared.value.Error.{Error as Value}
 use Rattle.gitconf_body.specs.declared.value.Error.TheVariants as value
@@ -25,7 +26,7 @@ use Rattle.gitconf_loaders.specs.declared.from_git_dir.Error.TheVariants as git
 -- the number of a refused load by paths
 abbrev pub paths_number : Paths → ℕ
 paths_number (paths.Io path fault) = 21
-paths_number (paths.Init e) = init_number e
+paths_number (paths.Init path e) = init_number e
 paths_number paths.Memory = 27
 
 -- the number of a refused load by variables
@@ -50,18 +51,10 @@ git_number (git.Includes e) = includes_number e
 git_number (git.Span e) = e
 git_number git.Memory = 27
 
--- the refusal of a load whose file can't be made
-abbrev pub paths_of_init : Init → Paths
-paths_of_init init.Memory = paths.Memory
-paths_of_init e = paths.Init e
-
--- the refusal of a load because there is no room for a file
-abbrev pub paths_of_span : (number : ℕ) → Paths
-paths_of_span number = if number == 27 then paths.Memory else paths.Init (init.Span number)
-
--- the refusal of a load because the parser refuses a file
-abbrev pub paths_of_parse : Refusal → Paths
-paths_of_parse e = if e.number == 27 then paths.Memory else paths.Init (init.Parse e)
+-- the refusal of a load because what was read at that path can't be made a file, or has no room behind those before it
+abbrev pub paths_of_init : (path : String Global) → Init → Paths
+paths_of_init path init.Memory = paths.Memory
+paths_of_init path e = paths.Init path e
 
 -- the refusal of the variables' entries because of an include
 abbrev pub env_of_includes : Includes → Env

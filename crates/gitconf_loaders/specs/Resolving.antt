@@ -6,10 +6,9 @@ use Rattle.gitconf_includes.specs.declared.init.Error.{Error}
 use Rattle.gitconf_includes.specs.declared.init.Error.TheVariants.{Includes, Memory, Parse}
 use Rattle.gitconf_includes.specs.declared.init.Options.{Options}
 use Rattle.gitconf_includes.specs.Errors.{init_number}
-use Rattle.gitconf_read.specs.EventResult.{IsRefused}
 use Rattle.gitconf_state.specs.State.{State}
 use Rattle.gitconf_includes.specs.Expansion.{Asks, Ended, Expands, IsLoadOf, On, Reached}
-use Rattle.gitconf_includes.specs.Outcomes.{CountsFault, IsCause}
+use Rattle.gitconf_includes.specs.Outcomes.{CountsFault, IsCause, IsUnread}
 
 -- a call makes the expanded file, or is refused with that number
 abbrev pub Makes : {E : Type 0} → (number : E → ℕ) → Result State E → Reached → Type 0
@@ -36,7 +35,7 @@ MakesCounted (Err e) old new = CountsFault (init_number e) old new
 -- what a refusal says besides its number: how the parser refuses the text, or what the refusal of an include says; nothing else refuses it but
 -- want of memory
 abbrev pub IsMadeCause : Options → Option (List ℕ → FileReport) → (text : List ℕ) → Error → Type 0
-IsMadeCause options table text (Parse e) = IsRefused text e
+IsMadeCause options table text (Parse e) = IsUnread text e
 IsMadeCause options table text (Includes e) = IsCause options table e
 IsMadeCause options table text Memory = Unit {0}
 IsMadeCause options table text e = ⊥

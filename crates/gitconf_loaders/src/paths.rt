@@ -10,7 +10,8 @@ ghost use Rattle.gitconf_loaders.specs.Paths.{CountsLoad, is_among, IsLoadedFrom
 
 use crate::from_paths::Error;
 use crate::resolving::{load, resolved_text};
-use gitconf_includes::init::Options;
+use gitconf_includes::init::{self, Options};
+use gitconf_includes::paths::copied;
 use gitconf_sources::meta::Metadata;
 use gitconf_sources::source::Source;
 use gitconf_sources::{FileFault, Files, Stage};
@@ -69,13 +70,17 @@ pub fn from_path<F: Files>(
         Ok(text) => text,
         Err(fault) => return Err(refusal(fault, path)),
     };
+    let at = copied(alloc, &path)?;
     let meta = Metadata {
         path: Some(path),
         source,
         level: 0,
         trust,
     };
-    Ok(load(alloc, text, false, shared(alloc, meta)?)?)
+    match load(alloc, text, false, shared(alloc, meta)?) {
+        Ok(file) => Ok(file),
+        Err(parse) => Err(Error::of(at, init::Error::from(parse))),
+    }
 }
 
 /// Whether a path is new to the set, which then has it.
@@ -145,17 +150,20 @@ fn text_of<F: Files>(
     }
 }
 
-/// Appends a file to those before it; the first one is the beginning.
+/// Appends the file at a path to those before it; the first one is the beginning.
 ///
 /// # Errors
 ///
 /// 3 if there is no room for it; 27 when out of memory.
-fn join(target: &mut Option<Store>, made: Store) -> Result<(), Error>
+fn join(target: &mut Option<Store>, made: Store, path: String) -> Result<(), Error>
     ensures joined { (left_by paths_number result target.new ≡ Err 27) ⊎ Joins target.old made (left_by paths_number result target.new) }
-    ensures cause { IfErr result (λ e. (e ≡ refusals.Memory) ⊎ (e ≡ refusals.Init (Span 3))) }
+    ensures cause { IfErr result (λ e. (e ≡ refusals.Memory) ⊎ (e ≡ refusals.Init path (Span 3))) }
 {
     match target {
-        Some(before) => Ok(before.append(made)?),
+        Some(before) => match before.append(made) {
+            Ok(()) => Ok(()),
+            Err(span) => Err(Error::of(path, init::Error::from(span))),
+        },
         None => {
             *target = Some(made);
             Ok(())
@@ -196,14 +204,17 @@ fn load_behind<F: Files>(
         Ok(None) => return Ok(()),
         Err(fault) => return Err(refusal(fault, path)),
     };
+    let at = copied(alloc, &path)?;
     let meta = Metadata {
         path: Some(path),
         source,
         level,
         trust,
     };
-    let made = resolved_text(alloc, files, options, text, shared(alloc, meta)?)?;
-    join(target, made)
+    match resolved_text(alloc, files, options, text, shared(alloc, meta)?) {
+        Ok(made) => join(target, made, at),
+        Err(refusal) => Err(Error::of(at, refusal)),
+    }
 }
 
 /// The files of metadata that has a path, each with what it includes by the options, one after the other; `None` if no file was loaded.

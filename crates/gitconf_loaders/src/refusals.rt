@@ -191,7 +191,7 @@ impl Refusal for includes::Error {
 
     fn number(&self) -> u8 {
         match self {
-            includes::Error::Parse(e) => e.number(),
+            includes::Error::Parse { source, .. } => source.number(),
             includes::Error::Span(e) => e.number(),
             includes::Error::Interpolate(e) => e.number(),
             includes::Error::IncludeDepthExceeded { .. } => 15,
@@ -199,7 +199,7 @@ impl Refusal for includes::Error {
             includes::Error::MissingGitDir => 17,
             includes::Error::Realpath(_) => 18,
             includes::Error::Io { .. } => 19,
-            includes::Error::CopyBuffer(_) => 20,
+            includes::Error::CopyBuffer { .. } => 20,
             includes::Error::Memory => 27,
         }
     }
@@ -229,7 +229,7 @@ impl Refusal for from_paths::Error {
     fn number(&self) -> u8 {
         match self {
             from_paths::Error::Io { .. } => 21,
-            from_paths::Error::Init(e) => e.number(),
+            from_paths::Error::Init { source, .. } => source.number(),
             from_paths::Error::Memory => 27,
         }
     }

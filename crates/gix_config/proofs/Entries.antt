@@ -53,9 +53,9 @@ header_numbers (header.Span n) = refl
 header_numbers header.Memory = refl
 
 pub includes_numbers : (e : Includes) → env_number (env_of_includes e) ≡ includes_number e
-includes_numbers (includes.CopyBuffer fault) = refl
+includes_numbers (includes.CopyBuffer path fault) = refl
 includes_numbers (includes.Io path fault) = refl
-includes_numbers (includes.Parse it) = refl
+includes_numbers (includes.Parse path it) = refl
 includes_numbers (includes.Span it) = refl
 includes_numbers (includes.Interpolate it) = refl
 includes_numbers (includes.IncludeDepthExceeded depth) = refl

@@ -42,7 +42,7 @@ use Rattle.gix_config.proofs.Entries.{expanded_number}
 -- refusals keep their numbers
 pub of_paths : (e : PathsError) → git_number (git_of_paths e) ≡ paths_number e
 of_paths (paths.Io path fault) = refl
-of_paths (paths.Init e) = refl
+of_paths (paths.Init at e) = refl
 of_paths paths.Memory = refl
 
 pub of_env : (e : EnvError) → git_number (git_of_env e) ≡ env_number e
@@ -58,9 +58,9 @@ of_env (env.SectionValue e) = refl
 of_env env.Memory = refl
 
 pub of_includes : (e : Includes) → git_number (git_of_includes e) ≡ includes_number e
-of_includes (includes.CopyBuffer fault) = refl
+of_includes (includes.CopyBuffer path fault) = refl
 of_includes (includes.Io path fault) = refl
-of_includes (includes.Parse it) = refl
+of_includes (includes.Parse path it) = refl
 of_includes (includes.Span it) = refl
 of_includes (includes.Interpolate it) = refl
 of_includes (includes.IncludeDepthExceeded depth) = refl
@@ -297,9 +297,9 @@ expansion_cause variables options places table e (Ok made) cause err = tt
 expansion_cause variables options places table e (Err r) cause err = subst (IsGitCause variables options places table) (sym err) (go e cause)
   where
     go : (e : Includes) → IsCause options table e → IsGitCause variables options places table (git_of_includes e)
-    go (includes.CopyBuffer fault) is = is
+    go (includes.CopyBuffer path fault) is = is
     go (includes.Io path fault) is = is
-    go (includes.Parse it) is = is
+    go (includes.Parse path it) is = is
     go (includes.Span it) is = is
     go (includes.Interpolate it) is = is
     go (includes.IncludeDepthExceeded depth) is = is
@@ -342,7 +342,7 @@ module _ (variables : Option (List ℕ → VariableReport)) (places : Places) (t
     where
       go : (e : PathsError) → IsReadCause variables places table (local_path dir) (folder_of (local_path dir)) e → IsRepositoryCause variables places table dir real (git_of_paths e)
       go (paths.Io at fault) is = inr (inl (paths.Io at fault, refl, is))
-      go (paths.Init it) is = inr (inl (paths.Init it, refl, is))
+      go (paths.Init at it) is = inr (inl (paths.Init at it, refl, is))
       go paths.Memory is = inl refl
 
   pub joined_cause : (options : Options) (result : Result State Error) → rules_of options ≡ repository_rules places folder real → IfErr result (IsGitCause variables options places table)

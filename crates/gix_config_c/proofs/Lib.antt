@@ -7,3 +7,4 @@ pub mod PlaceLemmas
 pub mod FaultLemmas
 pub mod ValueLemmas
 pub mod HostLemmas
+pub mod KeyLemmas

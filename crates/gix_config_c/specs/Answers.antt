@@ -1,5 +1,5 @@
 -- What calls answer, by what is in the handle.
-use Rattle.std.specs.Prelude.{◌≡◌, ℕ, Option, Some, None}
+use Rattle.std.specs.Prelude.{◌≡◌, ℕ, Option, Some, None, Result, Ok, Err}
 use Rattle.gitconf_sources.specs.Key.{Key}
 use Rattle.gitconf_text.specs.SectionKeys.{SectionKey}
 use Rattle.gitconf_state.specs.State.{State}
@@ -20,3 +20,8 @@ pub record OfKey (names : Option Key) (number : ℕ) (said : Key → Type 0) : T
 pub record OfSection (names : Option SectionKey) (number : ℕ) (said : SectionKey → Type 0) : Type 0 where
   pub key : (key : SectionKey) → names ≡ Some key → said key
   pub other : names ≡ None → number ≡ 101
+
+-- what is said of what a program wants, if that can be; else the number says why not
+pub record OfWanted {A : Type 0} (given : Result A ℕ) (number : ℕ) (said : A → Type 0) : Type 0 where
+  pub wanted : (wanted : A) → given ≡ Ok wanted → said wanted
+  pub other : (why : ℕ) → given ≡ Err why → number ≡ why

@@ -103,7 +103,7 @@ TellsOf made about number_of told (Err e) number file old new = IsAnsweredFor to
 
 -- the block is as it was, but for the numbers with which it has what the refusal is about
 abbrev pub IsKeptBut : (number : ℕ) → (old new : Block) → Type 0
-IsKeptBut number old new = (number ≡ 19 → ⊥) → (number ≡ 21 → ⊥) → (number ≡ 22 → ⊥) → (number ≡ 23 → ⊥) → (number ≡ 24 → ⊥) → (number ≡ 25 → ⊥)
+IsKeptBut number old new = (number ≡ 1 → ⊥) → (number ≡ 2 → ⊥) → (number ≡ 19 → ⊥) → (number ≡ 20 → ⊥) → (number ≡ 21 → ⊥) → (number ≡ 22 → ⊥) → (number ≡ 23 → ⊥) → (number ≡ 24 → ⊥) → (number ≡ 25 → ⊥)
     → (number ≡ 26 → ⊥) → (number ≡ 103 → ⊥) → (number ≡ 105 → ⊥) → IsKept old new
 
 module _ (told : Told) where

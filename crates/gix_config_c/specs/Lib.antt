@@ -36,3 +36,4 @@ pub mod NumberedEdits
 pub mod Lines
 pub mod ExistingValues
 pub mod Metas
+pub mod TextMetas

@@ -10,6 +10,8 @@ use Rattle.gitconf_loaders.specs.Errors.{paths_number}
 use Rattle.gitconf_loaders.specs.Paths.{IsLoadOfPaths, numbered}
 use Rattle.gitconf_loaders.specs.declared.from_paths.Error.{Error as PathsError}
 use Rattle.gitconf_loaders.specs.declared.from_paths.Error.TheVariants as paths
+use Rattle.gitconf_read.specs.EventResult.{IsRefused}
+use Rattle.gitconf_read.specs.ParseError.{Refusal}
 use Rattle.gitconf_sources.specs.Reports.{read_of}
 use Rattle.gitconf_sources.specs.declared.fault.FileFault.{FileFault}
 use Rattle.gitconf_state.specs.State.{State}
@@ -21,11 +23,6 @@ use Rattle.gix_config_c.specs.declared.block.Block.{Block}
 use Rattle.gix_config_c.specs.declared.object.Object.{Object}
 use Rattle.gix_config_c.specs.declared.object.Object.TheVariants.{File}
 
--- what is said of what a program wants, if that can be; else the number says why not
-pub record OfWanted (given : Result PlainWanted ℕ) (number : ℕ) (said : PlainWanted → Type 0) : Type 0 where
-  pub wanted : (wanted : PlainWanted) → given ≡ Ok wanted → said wanted
-  pub other : (why : ℕ) → given ≡ Err why → number ≡ why
-
 -- what is said of the rules that a program gives, if their texts are text; else the number is 101
 pub record OfRules (given : Option Rules) (number : ℕ) (said : Rules → Type 0) : Type 0 where
   pub rules : (rules : Rules) → given ≡ Some rules → said rules
@@ -35,21 +32,33 @@ pub record OfRules (given : Option Rules) (number : ℕ) (said : Rules → Type 
 abbrev pub asks_by : Tells → Rules → Asks
 asks_by told rules = record { rules = rules; table = Some (told_at told) }
 
--- the path of the file that can't be opened, if the refusal of an include names one
+-- the path of the file that can't be opened or read, or whose text is refused, if the refusal of an include names one
 abbrev pub include_path : IncludesError → Option (List ℕ)
 include_path (includes.Io path fault) = Some (string_bytes path)
+include_path (includes.CopyBuffer path fault) = Some (string_bytes path)
+include_path (includes.Parse path e) = Some (string_bytes path)
 include_path _ = None
 
--- the same of the refusal of a load: also that of a file that can't be read
+-- the same of the refusal of a load
 abbrev pub load_path : PathsError → Option (List ℕ)
 load_path (paths.Io path fault) = Some (string_bytes path)
-load_path (paths.Init (init.Includes e)) = include_path e
+load_path (paths.Init path (init.Parse e)) = Some (string_bytes path)
+load_path (paths.Init path (init.Includes e)) = include_path e
 load_path _ = None
 
--- the file at the path can't be opened or read
+-- the file that was read can't be opened or read, or its text is refused
+abbrev pub IsFaultyText : Result (List ℕ) FileFault → Type 0
+IsFaultyText (Err fault) = Unit {0}
+IsFaultyText (Ok text) = (e : Refusal) × IsRefused text e
+
+-- the same of the file at the path
 abbrev pub IsFaulty : Tells → Option (List ℕ) → Type 0
 IsFaulty told None = Unit {0}
-IsFaulty told (Some path) = (fault : FileFault) × ◌≡◌ {A = Result (List ℕ) FileFault} (read_of (told_at told path)) (Err fault)
+IsFaulty told (Some path) = IsFaultyText (read_of (told_at told path))
+
+-- the block is as it was, but for the numbers with which it has the path of a file
+abbrev pub IsKeptPath : (number : ℕ) → (old new : Block) → Type 0
+IsKeptPath number old new = (number ≡ 1 → ⊥) → (number ≡ 2 → ⊥) → (number ≡ 19 → ⊥) → (number ≡ 20 → ⊥) → (number ≡ 21 → ⊥) → (number ≡ 103 → ⊥) → IsKept old new
 
 -- The number of the library's refusal, which may name the path of a file: that goes to the block, and the number is 103 if nothing was told
 -- of it.

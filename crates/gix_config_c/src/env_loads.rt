@@ -35,10 +35,10 @@ use std::alloc::Global;
 /// 100 if they set none. 105 if nothing was told of a variable that is needed, 103 if nothing was told of a file that is included: its name
 /// or path is then in the block, whose bytes from before are freed; tell it, and call again. 23 for a count that is no number; of an entry
 /// whose key or value isn't set 24 or 26, or isn't UTF-8 22, and 25 for a key without a dot: the name of the variable is then in the block,
-/// too. 4, 5 and 6 for names that can't be written into a file. 19 if a file that is included was told to have a fault: its path is then in
-/// the block; 20 if one can't be read. 1, 2, 3 and 12 to 18 if an include is refused. 101 if a text that has to be UTF-8 isn't, 102 if the
-/// handle is not one for what is told, 27 when out of memory. The file's handle is as it was after any number but 0, and the block after any
-/// but 19, 22 to 26, 103 and 105.
+/// too. 4, 5 and 6 for names that can't be written into a file. 19 or 20 if a file that is included was told to have a fault, 1 or 2 if the
+/// text of one is refused: its path is then in the block. 3 and 12 to 18 if an include is refused. 101 if a text that has to be UTF-8 isn't,
+/// 102 if the handle is not one for what is told, 27 when out of memory. The file's handle is as it was after any number but 0, and the block
+/// after any but 1, 2, 19, 20, 22 to 26, 103 and 105.
 #[unsafe(no_mangle)]
 pub extern "C" fn gix_config_load_env_told(
     alloc: Global,

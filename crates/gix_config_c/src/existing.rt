@@ -1,5 +1,5 @@
 //! Values of entries that are there, set.
-ghost use Rattle.std.specs.Prelude.{◌≡◌, Some, map};
+ghost use Rattle.std.specs.Prelude.{◌≡◌, None, Some, map};
 ghost use Rattle.gitconf_state.specs.State.{State};
 ghost use Rattle.gix_config_c.specs.Answers.{OfFile, OfKey};
 ghost use Rattle.gix_config_c.specs.ExistingValues.{AreValuesSet, IsValueSet};
@@ -26,7 +26,7 @@ pub extern "C" fn gix_config_set_existing_value(
     key: &Key<'_>,
     value: &[u8],
 ) -> u32
-    ensures answer { OfFile file.old.it result (λ f. (g : State) × (file.new.it ≡ Some (object.File g)) × OfKey (names_of key.now) result (λ k. IsValueSet k value.now f g result)) }
+    ensures answer { OfFile file.old.it result (λ f. (g : State) × (file.new.it ≡ Some (object.File g)) × (names_of key.now ≡ None → g ≡ f) × OfKey (names_of key.now) result (λ k. IsValueSet k value.now f g result)) }
     ensures other { ((f : State) → file.old.it ≡ Some (object.File f) → ⊥) → file.new.it ≡ file.old.it }
 {
     let Some(mut object) = file.take(alloc) else {
@@ -43,6 +43,7 @@ pub extern "C" fn gix_config_set_existing_value(
 /// Gives the last entry of a key another value.
 fn set_value(file: &mut File, key: &Key<'_>, value: &[u8]) -> u32
     ensures answer { OfKey (names_of key.now) result (λ k. IsValueSet k value.now file.old file.new result) }
+    ensures same { names_of key.now ≡ None → file.new ≡ file.old }
 {
     let Some(key) = names(key) else {
         return NOT_UTF8;
@@ -72,7 +73,7 @@ pub extern "C" fn gix_config_set_existing_values(
     values: &[&[u8]],
 ) -> u32
     ensures answer { OfFile file.old.it result (λ f. (g : State) × (file.new.it ≡ Some (object.File g))
-        × OfKey (names_of key.now) result (λ k. AreValuesSet k (map (λ v. v.now) values.now) f g result)) }
+        × (names_of key.now ≡ None → g ≡ f) × OfKey (names_of key.now) result (λ k. AreValuesSet k (map (λ v. v.now) values.now) f g result)) }
     ensures other { ((f : State) → file.old.it ≡ Some (object.File f) → ⊥) → file.new.it ≡ file.old.it }
 {
     let Some(mut object) = file.take(alloc) else {
@@ -89,6 +90,7 @@ pub extern "C" fn gix_config_set_existing_values(
 /// Gives the entries of a key other values.
 fn set_values(file: &mut File, key: &Key<'_>, values: &[&[u8]]) -> u32
     ensures answer { OfKey (names_of key.now) result (λ k. AreValuesSet k (map (λ v. v.now) values.now) file.old file.new result) }
+    ensures same { names_of key.now ≡ None → file.new ≡ file.old }
 {
     let Some(key) = names(key) else {
         return NOT_UTF8;

@@ -44,10 +44,10 @@ pub(crate) fn ask_for_variable(alloc: Global, name: &str, asked: &mut Block) -> 
 /// file's handle before is closed.
 ///
 /// 105 if nothing was told of a variable that says where these files are, 103 if nothing was told of a file that is needed: its name or path
-/// is then in the block, whose bytes from before are freed; tell it, and call again. 21 if one of these files, and 19 if one that is
-/// included, was told to have a fault: its path is then in the block, too; 20 if one that is included can't be read. 1, 2, 3 and 12 to 18 if
-/// a file or its includes are refused. 101 if a place is not UTF-8, 102 if the handle is not one for what is told, 27 when out of memory. The
-/// file's handle is as it was after any number but 0, and the block after any but 19, 21, 103 and 105.
+/// is then in the block, whose bytes from before are freed; tell it, and call again. 21 if one of these files, and 19 or 20 if one that is
+/// included, was told to have a fault; 1 or 2 if the text of one is refused: its path is then in the block, too. 3 and 12 to 18 if a file or its
+/// includes are refused. 101 if a place is not UTF-8, 102 if the handle is not one for what is told, 27 when out of memory. The file's handle is
+/// as it was after any number but 0, and the block after any but 1, 2, 19 to 21, 103 and 105.
 #[unsafe(no_mangle)]
 pub extern "C" fn gix_config_load_globals_told(
     alloc: Global,

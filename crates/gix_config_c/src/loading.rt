@@ -8,11 +8,11 @@ ghost use Rattle.gitconf_loaders.specs.Errors.{paths_number};
 ghost use Rattle.gitconf_loaders.specs.Paths.{IsLoadOfPaths, numbered};
 ghost use Rattle.gitconf_sources.specs.Metadata.{meta_of_file};
 ghost use Rattle.gitconf_state.specs.State.{State};
-ghost use Rattle.gix_config_c.specs.Answers.{OfFile};
+ghost use Rattle.gix_config_c.specs.Answers.{OfFile, OfWanted};
 ghost use Rattle.gix_config_c.specs.Blocks.{Holds, IsKept};
 ghost use Rattle.gix_config_c.specs.Edited.{IsEditedFile};
 ghost use Rattle.gix_config_c.specs.Followed.{rules_of};
-ghost use Rattle.gix_config_c.specs.Loaded.{IsAnswered, IsFaulty, IsLoadedBy, IsResolvedBy, IsResolvedFrom, OfRules, OfWanted, asks_by, include_path, load_path};
+ghost use Rattle.gix_config_c.specs.Loaded.{IsAnswered, IsFaulty, IsKeptPath, IsLoadedBy, IsResolvedBy, IsResolvedFrom, OfRules, asks_by, include_path, load_path};
 ghost use Rattle.gix_config_c.specs.Loads.{plain_wanted, wanted_of};
 ghost use Rattle.gix_config_c.specs.Telling.{OfTold};
 ghost use Rattle.gix_config_c.specs.Told.{is_told};
@@ -28,6 +28,7 @@ use crate::told::ToldFiles;
 use crate::{DONE, NOT_TOLD, NOT_UTF8, NOTHING_THERE, OUT_OF_MEMORY, WRONG_HANDLE};
 use gitconf_includes::{includes, init};
 use gitconf_loaders::from_paths;
+use gitconf_read::error as parse;
 use gitconf_sources::meta::Metadata;
 use gitconf_sources::source::{Source, Trust};
 use gix_config::host::{Host, MemEnv, Places};
@@ -38,10 +39,10 @@ use std::alloc::Global;
 /// Loads a file by its path, with what it includes, from what a program told. What was in the file's handle before is closed.
 ///
 /// 103 if the load needs a file of which nothing was told: its path is then in the block, whose bytes from before are freed; tell it,
-/// and call again. 21 if the file itself, and 19 if one that is included, was told to have a fault: its path is then in the block, too;
-/// 20 if one that is included can't be read. 1, 2, 3 and 12 to 18 if a file or its includes are refused, 100 if there is nothing to load.
+/// and call again. 21 if the file itself, and 19 or 20 if one that is included, was told to have a fault; 1 or 2 if the text of one is refused:
+/// the file's path is then in the block, too. 3 and 12 to 18 if the file or its includes are refused, 100 if there is nothing to load.
 /// 101 if a text that has to be UTF-8 isn't, 104 if no source or trust has the number, 102 if the handle is not one for what is told, 27
-/// when out of memory. The file's handle is as it was after any number but 0, and the block after any but 19, 21 and 103.
+/// when out of memory. The file's handle is as it was after any number but 0, and the block after any but 1, 2, 19 to 21 and 103.
 #[unsafe(no_mangle)]
 pub extern "C" fn gix_config_load_told(
     alloc: Global,
@@ -52,7 +53,7 @@ pub extern "C" fn gix_config_load_told(
 ) -> u32
     ensures answer { OfTold told.old.it result (λ t. OfWanted (wanted_of load.now) result (λ w. IsLoadedBy t.files w result file.new.it path.old path.new)) }
     ensures kept { (result ≡ 0 → ⊥) → file.new.it ≡ file.old.it }
-    ensures kept_path { (result ≡ 19 → ⊥) → (result ≡ 21 → ⊥) → (result ≡ 103 → ⊥) → IsKept path.old path.new }
+    ensures kept_path { IsKeptPath result path.old path.new }
     ensures same { told.new.it ≡ told.old.it }
 {
     let Some(object) = told.take(alloc) else {
@@ -76,7 +77,7 @@ fn load_by(
 ) -> u32
     ensures answer { OfWanted (wanted_of load.now) result (λ w. IsLoadedBy told.now w result file.new.it path.old path.new) }
     ensures kept { (result ≡ 0 → ⊥) → file.new.it ≡ file.old.it }
-    ensures kept_path { (result ≡ 19 → ⊥) → (result ≡ 21 → ⊥) → (result ≡ 103 → ⊥) → IsKept path.old path.new }
+    ensures kept_path { IsKeptPath result path.old path.new }
 {
     match want(load) {
         Ok(wanted) => put_loaded(alloc, told, wanted, file, path),
@@ -94,7 +95,7 @@ fn put_loaded(
 ) -> u32
     ensures answer { IsLoadedBy told.now (plain_wanted wanted.entry) result file.new.it path.old path.new }
     ensures kept { (result ≡ 0 → ⊥) → file.new.it ≡ file.old.it }
-    ensures kept_path { (result ≡ 19 → ⊥) → (result ≡ 21 → ⊥) → (result ≡ 103 → ⊥) → IsKept path.old path.new }
+    ensures kept_path { IsKeptPath result path.old path.new }
 {
     match loaded(alloc, told, wanted) {
         Ok(Some(made)) => put_list(alloc, Object::File(made), file),
@@ -150,7 +151,7 @@ fn loaded(
     File::from_paths_metadata_of(alloc, metas, options, &mut files)
 }
 
-/// The number of a refused load. Hands out the path of a file that can't be opened or read.
+/// The number of a refused load. Hands out the path of a file that can't be opened or read, or whose text is refused.
 pub(crate) fn refused_load(
     alloc: Global,
     told: &ToldFiles,
@@ -158,17 +159,24 @@ pub(crate) fn refused_load(
     path: &mut Block,
 ) -> u32
     ensures answer { (result ≡ 27 → ⊥) → IsAnswered told.now (load_path refusal.now) (paths_number refusal.now) result path.old path.new }
-    ensures kept { (result ≡ 19 → ⊥) → (result ≡ 21 → ⊥) → (result ≡ 103 → ⊥) → IsKept path.old path.new }
+    ensures kept { IsKeptPath result path.old path.new }
 {
     match refusal {
         from_paths::Error::Io { path: at, .. } => ask(alloc, told, at, 21, path),
-        from_paths::Error::Init(init::Error::Includes(e)) => refused_include(alloc, told, e, path),
-        from_paths::Error::Init(e) => u32::from(e.number()),
+        from_paths::Error::Init {
+            path: at,
+            source: init::Error::Parse(e),
+        } => refused_text(alloc, told, at, e, path),
+        from_paths::Error::Init {
+            source: init::Error::Includes(e),
+            ..
+        } => refused_include(alloc, told, e, path),
+        from_paths::Error::Init { source, .. } => u32::from(source.number()),
         from_paths::Error::Memory => OUT_OF_MEMORY,
     }
 }
 
-/// The number of a refused include. Hands out the path of a file that can't be opened.
+/// The number of a refused include. Hands out the path of a file that can't be opened or read, or whose text is refused.
 pub(crate) fn refused_include(
     alloc: Global,
     told: &ToldFiles,
@@ -176,11 +184,31 @@ pub(crate) fn refused_include(
     path: &mut Block,
 ) -> u32
     ensures answer { (result ≡ 27 → ⊥) → IsAnswered told.now (include_path refusal.now) (includes_number refusal.now) result path.old path.new }
-    ensures kept { (result ≡ 19 → ⊥) → (result ≡ 21 → ⊥) → (result ≡ 103 → ⊥) → IsKept path.old path.new }
+    ensures kept { IsKeptPath result path.old path.new }
 {
     match refusal {
         includes::Error::Io { path: at, .. } => ask(alloc, told, at, 19, path),
+        includes::Error::CopyBuffer { path: at, .. } => ask(alloc, told, at, 20, path),
+        includes::Error::Parse { path: at, source } => refused_text(alloc, told, at, source, path),
         refusal => u32::from(refusal.number()),
+    }
+}
+
+/// The number of the parser's refusal of the file at a path, which is handed out.
+fn refused_text(
+    alloc: Global,
+    told: &ToldFiles,
+    at: &str,
+    refusal: &parse::Error,
+    path: &mut Block,
+) -> u32
+    ensures answer { (result ≡ 27 → ⊥) → IsAnswered told.now (Some at.now) refusal.now.number result path.old path.new }
+    ensures kept { IsKeptPath result path.old path.new }
+{
+    match refusal.number() {
+        1 => ask(alloc, told, at, 1, path),
+        2 => ask(alloc, told, at, 2, path),
+        _ => OUT_OF_MEMORY,
     }
 }
 
@@ -202,9 +230,9 @@ fn ask(alloc: Global, told: &ToldFiles, at: &str, refusal: u32, path: &mut Block
 /// Reads the files that a file's sections include, from what a program told, and puts each after the section that includes it.
 ///
 /// 103 if a file is needed of which nothing was told: its path is then in the block, whose bytes from before are freed; tell it, and call
-/// again. 19 if one was told not to open: its path is then in the block, too; 20 if one can't be read. 1, 2, 3 and 12 to 18 if a file or an
-/// include is refused. 101 if a text that has to be UTF-8 isn't, 102 if a handle is not one for what is told or has no file, 27 when out of
-/// memory. The file is as it was after any number but 0, and the block after any but 19, 21 and 103.
+/// again. 19 or 20 if one was told to have a fault, 1 or 2 if the text of one is refused: its path is then in the block, too. 3 and 12 to 18
+/// if an include is refused. 101 if a text that has to be UTF-8 isn't, 102 if a handle is not one for what is told or has no file, 27 when out
+/// of memory. The file is as it was after any number but 0, and the block after any but 1, 2, 19 to 21 and 103.
 #[unsafe(no_mangle)]
 pub extern "C" fn gix_config_resolve_includes_told(
     alloc: Global,
@@ -216,7 +244,7 @@ pub extern "C" fn gix_config_resolve_includes_told(
     ensures answer { OfFile file.old.it result (λ f. (g : State) × (file.new.it ≡ Some (object.File g)) × IsEditedFile result f g
         × IsResolvedFrom told.old.it (rules_of includes.now) f g result path.old path.new) }
     ensures other { ((f : State) → file.old.it ≡ Some (object.File f) → ⊥) → file.new.it ≡ file.old.it }
-    ensures kept_path { (result ≡ 19 → ⊥) → (result ≡ 21 → ⊥) → (result ≡ 103 → ⊥) → IsKept path.old path.new }
+    ensures kept_path { IsKeptPath result path.old path.new }
     ensures same { told.new.it ≡ told.old.it }
 {
     let Some(mut object) = file.take(alloc) else {
@@ -240,7 +268,7 @@ fn resolve_from(
 ) -> u32
     ensures edited { IsEditedFile result file.old file.new }
     ensures answer { IsResolvedFrom told.old.it (rules_of includes.now) file.old file.new result path.old path.new }
-    ensures kept_path { (result ≡ 19 → ⊥) → (result ≡ 21 → ⊥) → (result ≡ 103 → ⊥) → IsKept path.old path.new }
+    ensures kept_path { IsKeptPath result path.old path.new }
     ensures same { told.new.it ≡ told.old.it }
 {
     let Some(object) = told.take(alloc) else {
@@ -264,7 +292,7 @@ fn resolve_by(
 ) -> u32
     ensures edited { IsEditedFile result file.old file.new }
     ensures answer { OfRules (rules_of includes.now) result (λ rules. IsResolvedBy told.now rules file.old file.new result path.old path.new) }
-    ensures kept_path { (result ≡ 19 → ⊥) → (result ≡ 21 → ⊥) → (result ≡ 103 → ⊥) → IsKept path.old path.new }
+    ensures kept_path { IsKeptPath result path.old path.new }
 {
     let Some(options) = followed(includes) else {
         return NOT_UTF8;

@@ -230,7 +230,7 @@ pub extern "C" fn gix_config_remove_value_at(
     name: &[u8],
     old: &mut Block,
 ) -> u32
-    ensures answer { OfFile file.old.it result (λ f. (g : State) × (file.new.it ≡ Some (object.File g)) × ((result ≡ 0 → ⊥) → (result ≡ 100 → ⊥) → g ≡ f) × IsRemovedAt place name.now f g result old.new) }
+    ensures answer { OfFile file.old.it result (λ f. (g : State) × (file.new.it ≡ Some (object.File g)) × ((result ≡ 0 → ⊥) → (result ≡ 100 → ⊥) → g ≡ f) × (slice_get f.sections place ≡ None → g ≡ f) × IsRemovedAt place name.now f g result old.new) }
     ensures kept { (result ≡ 0 → ⊥) → IsKept old.old old.new }
     ensures other { ((f : State) → file.old.it ≡ Some (object.File f) → ⊥) → file.new.it ≡ file.old.it }
 {
@@ -249,6 +249,7 @@ pub extern "C" fn gix_config_remove_value_at(
 fn remove_at(alloc: Global, file: &mut File, place: usize, name: &[u8], old: &mut Block) -> u32
     ensures kept { (result ≡ 0 → ⊥) → IsKept old.old old.new }
     ensures same { (result ≡ 0 → ⊥) → (result ≡ 100 → ⊥) → file.new ≡ file.old }
+    ensures nowhere { slice_get file.old.sections place ≡ None → file.new ≡ file.old }
     ensures answer { IsRemovedAt place name.now file.old file.new result old.new }
 {
     match id_at(file, place) {
@@ -291,7 +292,7 @@ pub extern "C" fn gix_config_pop_value_at(
     name: &mut Block,
     value: &mut Block,
 ) -> u32
-    ensures answer { OfFile file.old.it result (λ f. (g : State) × (file.new.it ≡ Some (object.File g)) × ((result ≡ 0 → ⊥) → (result ≡ 100 → ⊥) → g ≡ f) × IsPoppedAt place f g result name.new value.new) }
+    ensures answer { OfFile file.old.it result (λ f. (g : State) × (file.new.it ≡ Some (object.File g)) × ((result ≡ 0 → ⊥) → (result ≡ 100 → ⊥) → g ≡ f) × (slice_get f.sections place ≡ None → g ≡ f) × IsPoppedAt place f g result name.new value.new) }
     ensures kept { (result ≡ 0 → ⊥) → IsKept name.old name.new × IsKept value.old value.new }
     ensures other { ((f : State) → file.old.it ≡ Some (object.File f) → ⊥) → file.new.it ≡ file.old.it }
 {
@@ -310,6 +311,7 @@ pub extern "C" fn gix_config_pop_value_at(
 fn pop_at(alloc: Global, file: &mut File, place: usize, name: &mut Block, value: &mut Block) -> u32
     ensures kept { (result ≡ 0 → ⊥) → IsKept name.old name.new × IsKept value.old value.new }
     ensures same { (result ≡ 0 → ⊥) → (result ≡ 100 → ⊥) → file.new ≡ file.old }
+    ensures nowhere { slice_get file.old.sections place ≡ None → file.new ≡ file.old }
     ensures answer { IsPoppedAt place file.old file.new result name.new value.new }
 {
     match id_at(file, place) {

@@ -4,29 +4,43 @@ ghost use Rattle.gix_config_c.specs.declared.object.Object.TheVariants as object
 ghost use Rattle.gitconf_read.specs.EventResult.{IsRefused};
 ghost use Rattle.gitconf_read.specs.ParseError.{Refusal};
 ghost use Rattle.gitconf_state.specs.State.{State};
-ghost use Rattle.gix_config_c.specs.Answers.{OfFile};
-ghost use Rattle.gix_config_c.specs.Opened.{IsFileOf, IsKeptPlace, IsPlace};
+ghost use Rattle.gix_config_c.specs.Answers.{OfFile, OfWanted};
+ghost use Rattle.gix_config_c.specs.Opened.{IsFileFrom, IsFileOf, IsKeptPlace, IsOpened, IsPlace};
+ghost use Rattle.gix_config_c.specs.TextMetas.{meta_of, plain_meta};
 
 use crate::fault::{Fault, column};
+use crate::lists::put_list;
 use crate::object::Object;
 use crate::slot::Slot;
+use crate::text_meta::{Known, TextMeta, known_meta, shared};
 use crate::{DONE, OUT_OF_MEMORY, WRONG_HANDLE};
+use gitconf_includes::{includes, init};
 use gix_config::refusals::Refusal as _;
 use gix_config::{File, parse};
 use std::alloc::Global;
 
-/// The file of a text.
-pub(crate) fn opened(alloc: Global, text: &[u8], lossy: bool) -> Result<File, parse::Error>
-    ensures ok { IfOk result (IsFileOf lossy text.now) }
+/// The file of a text that comes from somewhere.
+pub(crate) fn opened(
+    alloc: Global,
+    text: &[u8],
+    known: Known<'_>,
+    lossy: bool,
+) -> Result<File, parse::Error>
+    ensures ok { IfOk result (IsFileFrom (plain_meta known.entry) lossy text.now) }
     ensures err { IfErr result (λ refusal. (refusal.number ≡ 27 → ⊥) → IsRefused text.now refusal) }
 {
-    if lossy {
-        let Ok(copy) = Vec::from_slice(alloc, text) else {
-            return Err(parse::Error::memory());
-        };
-        File::try_from_bytes_owned_lossy(alloc, copy)
-    } else {
-        File::try_from_bytes(alloc, text)
+    let Ok(meta) = shared(alloc, known) else {
+        return Err(parse::Error::memory());
+    };
+    let options = init::Options {
+        includes: includes::Options::no_follow(),
+        lossy,
+        ignore_io_errors: false,
+    };
+    match File::from_bytes_no_includes(alloc, text, meta, options) {
+        Ok(file) => Ok(file),
+        Err(init::Error::Parse(refusal)) => Err(refusal),
+        Err(_) => Err(parse::Error::memory()),
     }
 }
 
@@ -72,15 +86,49 @@ pub extern "C" fn gix_config_file_parse(
     ensures kept { (result ≡ 0 → ⊥) → file.new.it ≡ file.old.it }
     ensures kept_place { (result ≡ 0) ⊎ (result ≡ 27) → IsKeptPlace place.old place.new }
 {
-    match opened(alloc, text, lossy) {
-        Ok(made) => match Box::new(alloc, Object::File(made)) {
-            Ok(object) => {
-                file.put(object);
-                DONE
-            }
-            Err(_) => OUT_OF_MEMORY,
-        },
+    put_opened(alloc, text, Known::api(), lossy, file, place)
+}
+
+/// Puts the file of a text that comes from somewhere into a handle.
+fn put_opened(
+    alloc: Global,
+    text: &[u8],
+    known: Known<'_>,
+    lossy: bool,
+    file: &mut Slot,
+    place: &mut Fault,
+) -> u32
+    ensures answer { IsOpened (plain_meta known.entry) lossy text.now result file.new.it place.new }
+    ensures kept { (result ≡ 0 → ⊥) → file.new.it ≡ file.old.it }
+    ensures kept_place { (result ≡ 1 → ⊥) → (result ≡ 2 → ⊥) → IsKeptPlace place.old place.new }
+{
+    match opened(alloc, text, known, lossy) {
+        Ok(made) => put_list(alloc, Object::File(made), file),
         Err(refusal) => refused(text, &refusal, place),
+    }
+}
+
+/// As gix_config_file_parse, of a text that comes from somewhere else than the calling program. Its includes are not followed:
+/// gix_config_resolve_includes_told reads them.
+///
+/// The numbers of gix_config_file_parse; 101 if it has a path that is not UTF-8, else 104 if no source or trust has the number. The handle is
+/// as it was after any number but 0, and the place after any but 1 and 2.
+#[unsafe(no_mangle)]
+pub extern "C" fn gix_config_file_parse_as(
+    alloc: Global,
+    text: &[u8],
+    meta: &TextMeta<'_>,
+    lossy: bool,
+    file: &mut Slot,
+    place: &mut Fault,
+) -> u32
+    ensures answer { OfWanted (meta_of meta.now) result (λ m. IsOpened m lossy text.now result file.new.it place.new) }
+    ensures kept { (result ≡ 0 → ⊥) → file.new.it ≡ file.old.it }
+    ensures kept_place { (result ≡ 1 → ⊥) → (result ≡ 2 → ⊥) → IsKeptPlace place.old place.new }
+{
+    match known_meta(meta) {
+        Ok(known) => put_opened(alloc, text, known, lossy, file, place),
+        Err(number) => number,
     }
 }
 

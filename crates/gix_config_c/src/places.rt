@@ -86,7 +86,7 @@ pub fn repository_text<'a>(repository: &'a Repository<'_>) -> Option<RepositoryT
 }
 
 /// An owned text, if there is one.
-fn owned(alloc: Global, text: Option<&str>) -> Result<Option<String>, NoMemory>
+pub(crate) fn owned(alloc: Global, text: Option<&str>) -> Result<Option<String>, NoMemory>
     ensures { IfOk result (λ copy. option_map string_bytes copy ≡ option_copied text.entry) }
 {
     match text {

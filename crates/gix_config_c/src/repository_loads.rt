@@ -33,11 +33,11 @@ use std::alloc::Global;
 /// it includes. What was in the file's handle before is closed.
 ///
 /// 105 if nothing was told of a variable that is needed, 103 if nothing was told of a file that is: its name or path is then in the block,
-/// whose bytes from before are freed; tell it, and call again. 21 if one of these files, and 19 if one that is included, was told to have a
-/// fault: its path is then in the block, too; 20 if one that is included can't be read; 22 to 26 for the entries of variables, as
-/// gix_config_load_env_told has them. 1 to 6 and 12 to 18 if a file, an entry or an include is refused. 101 if a text that has to be UTF-8
+/// whose bytes from before are freed; tell it, and call again. 21 if one of these files, and 19 or 20 if one that is included, was told to have a
+/// fault; 1 or 2 if the text of one is refused: its path is then in the block, too. 22 to 26 for the entries of variables, as
+/// gix_config_load_env_told has them. 3 to 6 and 12 to 18 if a file, an entry or an include is refused. 101 if a text that has to be UTF-8
 /// isn't, 102 if the handle is not one for what is told, 27 when out of memory. The file's handle is as it was after any number but 0, and
-/// the block after any but 19, 21 to 26, 103 and 105.
+/// the block after any but 1, 2, 19 to 26, 103 and 105.
 #[unsafe(no_mangle)]
 pub extern "C" fn gix_config_load_repository_told(
     alloc: Global,

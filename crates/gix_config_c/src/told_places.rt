@@ -10,13 +10,13 @@ use crate::fault::Fault;
 use crate::object::Object;
 use crate::opening::{opened, refused};
 use crate::slot::Slot;
+use crate::text_meta::Known;
 use crate::told::ToldFiles;
 use crate::{DONE, NOT_UTF8, NOTHING_THERE, WRONG_HANDLE, key};
 use std::alloc::Global;
 
 /// Tells where the text that was told of a path can't be read on: a load that needs that file is refused. The text is read once more. A load
-/// that is answered with 1 or 2 leaves in its block the path that it asked for last, which is that of the refused file for a program that
-/// tells one file after the other.
+/// that is answered with 1 or 2 leaves in its block the path of the refused file.
 ///
 /// Refusal 1 for a text that can't be read on at some place, 2 for one of more than 4294967295 bytes; then the place says where, else it is
 /// as it was. 0 for a text that can be read, 100 if no text was told of the path. 101 if the path is not UTF-8, 102 if the handle is not one
@@ -62,7 +62,7 @@ fn place_of(alloc: Global, text: &[u8], place: &mut Fault) -> u32
     ensures answer { IsPlaceOfText text.now result place.new }
     ensures kept { (result ≡ 1 → ⊥) → (result ≡ 2 → ⊥) → IsKeptPlace place.old place.new }
 {
-    match opened(alloc, text, false) {
+    match opened(alloc, text, Known::api(), false) {
         Ok(_) => DONE,
         Err(refusal) => refused(text, &refusal, place),
     }

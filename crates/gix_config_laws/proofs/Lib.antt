@@ -4,3 +4,5 @@ mod SameLookups
 mod CleanLoads
 mod OneConfiguration
 mod ReadsBack
+mod CallSteps
+mod ReadsAfterLemmas

@@ -9,10 +9,9 @@ use Rattle.gitconf_sources.specs.Metadata.{api_meta}
 use Rattle.gitconf_sources.specs.Reports.{FileReport, HasText, NoText, NotSet, VariableReport}
 use Rattle.gitconf_sources.specs.declared.host.Places.{Places}
 use Rattle.gitconf_sources.specs.declared.source.Source.TheVariants.{Local, Worktree}
-use Rattle.gitconf_state.specs.Edits.{NewSection, Push}
-use Rattle.gitconf_state.specs.Edit.{new_section}
+use Rattle.gitconf_state.specs.Edits.{Push}
 use Rattle.gitconf_state.specs.State.{SectionState, State}
-use Rattle.gitconf_body.specs.Done.{Cause, first_cause, IsRefusedFor, OutOfMemory}
+use Rattle.gitconf_body.specs.Done.{Cause, first_cause, IsRefusedFor}
 use Rattle.gitconf_body.specs.Refusals.{header_refusal, value_refusal}
 use Rattle.gitconf_body.specs.ValueErrors.{value_number}
 use Rattle.gitconf_body.specs.declared.value.Error.{Error as ValueError}

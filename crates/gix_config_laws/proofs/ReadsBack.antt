@@ -48,7 +48,8 @@ use Rattle.gitconf_store.specs.Renamings.{marked, with_renamed}
 use Rattle.gitconf_store.specs.SetErrors.{set_refusal}
 use Rattle.gitconf_store.specs.SetSomewhere.{IsSetChosen}
 use Rattle.gitconf_store.specs.Several.{AreRewritten, all_deleted}
-use Rattle.gix_config_laws.specs.Headline.{AreCleanCalls, Call, DeletesAll, Edits, Ending, Ends, IsCleanCall, IsHanded, IsOneEnding, LeavesFile, RenamesSome, Resolves, Runs, SetsAllExisting, SetsExisting, SetsSomewhere, SetsValues}
+use Rattle.gitconf_text.specs.declared.memory.NoMemory.{NoMemory}
+use Rattle.gix_config_laws.specs.Headline.{AreCleanCalls, Call, DeletesAll, Edits, Ending, Ends, IsCleanCall, IsHanded, IsOneEnding, LeavesFile, RenamesSome, Resolves, Runs, SetsAllExisting, SetsExisting, SetsSomewhere, SetsValues, no_memory}
 use Rattle.gix_config.specs.Renamed.{IsRenamedOfSome}
 use Rattle.gix_config_laws.proofs.NewEditors.{editor_of_value}
 
@@ -314,6 +315,16 @@ is_step {T} {E} shown refusal edit (Err e) old new told is = go (first_cause (ca
         → (ending : Ending) × Ends edit old ending new × IsOneEnding {T = T} shown refusal ending (Err e)
     go None at told = (Err OutOfMemory, (record { ok = tt; err = is.err; told = subst (λ o. IsRefusedFor {T = Answer} (λ cause. cause) o (Err OutOfMemory)) (sym at) refl }, tt), told)
     go (Some cause) at told = (Err cause, (record { ok = tt; err = is.err; told = subst (λ o. IsRefusedFor {T = Answer} (λ cause. cause) o (Err cause)) (sym at) refl }, tt), same cause told)
+
+-- there is one refusal for want of memory
+pub only_memory : {T : Type 0} (result : Result T NoMemory) → IfErr result (λ e. e ≡ no_memory)
+only_memory (Ok t) = tt
+only_memory (Err e) = refl
+
+-- an answer that no result shows is the same
+pub same_told : {T E : Type 0} (given : Answer) (result : Result T E) → IfOk result (λ _. given ≡ given)
+same_told given (Ok t) = refl
+same_told given (Err e) = tt
 
 -- So does one that nothing but want of memory refuses, and that adds no bytes.
 pub is_free_step : {T E : Type 0} (shown : T → Answer) (refusal : E) (edit : Edit) (result : Result T E) (old new : State) → causes edit old ≡ [] → put_bytes edit old ≡ 0

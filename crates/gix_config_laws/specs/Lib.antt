@@ -1,1 +1,3 @@
 pub mod Headline
+pub mod Steps
+pub mod Programs

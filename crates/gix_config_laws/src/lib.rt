@@ -2,6 +2,9 @@
 //! the gate proves it.
 #![tactic(auto)]
 
+pub mod programs;
+pub mod steps;
+
 ghost use Rattle.std.specs.List.{AllByRecursion};
 ghost use Rattle.bstr.specs.Owned.{bstring_bytes};
 ghost use Rattle.std.specs.Prelude.{◌≡◌, ◌≤◌, ℕ, Bool, false, true, List, [], filter, map, option_map, None, Result, Ok, Option, Some, IfOk, OnErr, OnOk, string_bytes};

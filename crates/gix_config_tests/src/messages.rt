@@ -37,6 +37,7 @@ fn refused_includes(rt: HostRuntime) -> Result<(), Fail> {
         not_found: false,
     };
     let path = String::from_str(rt.alloc(), "/x")?;
+    let read = String::from_str(rt.alloc(), "/x")?;
     let rows: [(includes::Error, u8, &str); 8] = [
         (
             includes::Error::Interpolate(interpolate::Error::Missing { what: "home dir" }),
@@ -72,7 +73,10 @@ fn refused_includes(rt: HostRuntime) -> Result<(), Fail> {
             "Could not read included configuration file at '/x'",
         ),
         (
-            includes::Error::CopyBuffer(fault),
+            includes::Error::CopyBuffer {
+                path: read,
+                source: fault,
+            },
             20,
             "Failed to copy configuration file into buffer",
         ),

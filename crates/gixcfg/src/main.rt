@@ -5,19 +5,19 @@ use gitconf_sources::Process;
 use gix_config::NoMemory;
 use gix_config::host::{Env, EnvVar};
 use gix_config::refusals::Refusal;
-use gixcfg_commands::{Streams, Terminal, run_words};
+use gixcfg_commands::{Streams, Terminal, run_words, tell_ill_formed};
 use gixcfg_core::trouble::MEMORY;
 use std::alloc::Global;
 use std::env;
 use std::io::{ErrorKind, IsTerminal};
 use std::process::ExitCode;
 
-/// The words after the program's name; none if one of them isn't UTF-8, which is a usage fault.
-fn words_of(rt: &HostRuntime) -> Result<Vec<String>, NoMemory> {
+/// The words after the program's name, if all are UTF-8.
+fn words_of(rt: &HostRuntime) -> Result<Option<Vec<String>>, NoMemory> {
     match env::args(rt) {
-        Ok(words) => Ok(words.skip(1).collect(rt.alloc())?),
+        Ok(words) => Ok(Some(words.skip(1).collect(rt.alloc())?)),
         Err(fault) if fault.kind() == ErrorKind::OutOfMemory => Err(NoMemory),
-        Err(_) => Ok(Vec::new(rt.alloc())),
+        Err(_) => Ok(None),
     }
 }
 
@@ -44,7 +44,9 @@ fn terminal_of(rt: &HostRuntime) -> Result<Terminal, NoMemory> {
 
 /// Runs the program with the words of the process, its three streams, its variables, and the files of the disk.
 fn run_process(rt: &HostRuntime) -> Result<u8, NoMemory> {
-    let words = words_of(rt)?;
+    let Some(words) = words_of(rt)? else {
+        return Ok(tell_ill_formed(&mut rt.stderr()));
+    };
     let args = borrowed(rt.alloc(), &words)?;
     let streams = Streams {
         input: rt.reader(),

@@ -18,7 +18,8 @@ use Rattle.bstr.specs.declared.bstring.BString.{BString}
 use Rattle.gixcfg_core.specs.Answers.{Answers}
 use Rattle.gixcfg_core.specs.declared.trouble.Trouble.{Trouble}
 use Rattle.gixcfg_core.specs.declared.trouble.Trouble.TheVariants.{Memory}
-use Rattle.gixcfg_commands.specs.Answered.{IsCarriedOut, edited_text, marked, marked_answer}
+use Rattle.gixcfg_commands.specs.Answered.{IsCarriedOut, edited_text, marked_answer}
+use Rattle.gixcfg_commands.specs.Beginnings.{marked}
 use Rattle.gixcfg_commands.specs.Edits.{others_of, removal_of, trouble_for, trouble_of_renaming, unrenamed}
 
 -- a file that is another one, but for the bytes of its buffer

@@ -4,3 +4,4 @@ mod Marking
 mod MeantLemmas
 mod Unsetting
 mod SettingLemmas
+mod CleanEdits

@@ -2,15 +2,10 @@
 use Rattle.std.proofs.Common.{◌≡◌, ◌+◌, ◌-◌, ◌==◌, ◌&&◌, ◌||◌, ℕ, Bool, true, false, List, [], ◌∷◌, ◌++◌, length, map, filter, take, drop, Option, Some, None, Result, Ok, Err, refl, subst, sym, ap, ◌∙◌, arith}
 use Rattle.std.specs.Prelude.{OnOk, if◌then◌else◌, option_map, unwrap_or}
 use Rattle.std.specs.List.{last_or, list_all, list_any}
-use Rattle.std.specs.Option.{option_eq}
-use Rattle.std.specs.Str.{bytes_eq}
 use Rattle.std.proofs.lemmas.List.{length-append, length-map}
-use Rattle.gitconf_sources.specs.Key.{Key}
 use Rattle.gitconf_state.specs.Edits.{RemoveMarked, apply, apply_all, numbered}
 use Rattle.gitconf_state.specs.Editors.{removed_marked}
-use Rattle.gitconf_state.specs.Lookup.{has_name, listing}
 use Rattle.gitconf_state.specs.State.{SectionState, State, with_items}
-use Rattle.gitconf_lookups.specs.Walks.{with_name}
 use Rattle.gitconf_state.specs.Edit.{Spacing}
 use Rattle.gitconf_store.proofs.Places.Numbering.{numbered_has}
 use Rattle.gitconf_store.specs.Edited.{has_number}
@@ -20,23 +15,8 @@ use Rattle.gix_config.specs.declared.file.section_mut.making.Error.{Error as NoE
 use Rattle.gix_config.specs.declared.file.section_mut.making.Error.TheVariants.{NonePasses}
 use Rattle.gixcfg_core.specs.declared.trouble.Trouble.{Trouble}
 use Rattle.gixcfg_core.specs.Patterns.{meant_by}
-use Rattle.gixcfg_commands.specs.Meant.{has_names, marks_with, plain_holder, removals}
+use Rattle.gixcfg_commands.specs.Meant.{marks_with, plain_holder, removals}
 use Rattle.gixcfg_commands.specs.declared.meant.Holder.{Holder}
-
--- those of the names are among those of the section's name
-pub named_within : (key : Key) (ss : List SectionState) → filter (has_names key) (with_name key.section ss) ≡ filter (has_names key) ss
-named_within key [] = refl
-named_within key (s ∷ ss) = go (has_name key.section (listing s)) refl (named_within key ss)
-  where
-    go : (b : Bool) → has_name key.section (listing s) ≡ b → filter (has_names key) (with_name key.section ss) ≡ filter (has_names key) ss
-        → filter (has_names key) (with_name key.section (s ∷ ss)) ≡ filter (has_names key) (s ∷ ss)
-    go true e later =
-        ap (λ b. filter (has_names key) (if b then s ∷ with_name key.section ss else with_name key.section ss)) e
-        ∙ ap (λ rest. if has_names key s then s ∷ rest else rest) later
-    go false e later =
-        let none : has_names key s ≡ false = ap (λ b. b && option_eq bytes_eq (listing s).document.subsection key.subsection) e in
-        ap (λ b. filter (has_names key) (if b then s ∷ with_name key.section ss else with_name key.section ss)) e
-        ∙ later ∙ sym (ap (λ b. if b then s ∷ filter (has_names key) ss else filter (has_names key) ss) none)
 
 -- how many were added
 pub count_behind : {A B : Type 0} (f : A → B) (old new : List A) (added : List B) → map f new ≡ map f old ++ added → length new - length old ≡ length added

@@ -7,7 +7,7 @@ use Rattle.bstr.specs.Owned.{bstring_bytes}
 use Rattle.bstr.specs.declared.bstring.BString.{BString}
 use Rattle.gitconf_sources.specs.Key.{Key}
 use Rattle.gitconf_state.specs.Edit.{Spacing, new_section, with_used}
-use Rattle.gitconf_state.specs.Edits.{Edit, NewSection, PushAfterLast, apply, apply_all}
+use Rattle.gitconf_state.specs.Edits.{Edit, NewSection, PushAfterLast, SetValue, apply, apply_all, numbered}
 use Rattle.gitconf_state.specs.Editors.{Editor, OfEntry, editor_of}
 use Rattle.gitconf_state.specs.State.{SectionState, State}
 use Rattle.gitconf_body.specs.Done.{Cause, InvalidKey, InvalidName, InvalidSubsection, IsRefusedFor, Missing, OutOfMemory, TooLarge, first_cause, is_full, key_causes}
@@ -32,10 +32,11 @@ use Rattle.gixcfg_core.specs.declared.trouble.Trouble.{Trouble}
 use Rattle.gixcfg_commands.specs.Answered.{IsCarriedOut}
 use Rattle.gixcfg_commands.specs.Comments.{IsEditedText, IsTextWith}
 use Rattle.gixcfg_commands.specs.Meant.{IsMeant, plain_holder, removals, spared, values_of_key, without_marked}
-use Rattle.gixcfg_commands.specs.Setting.{IsPushed, IsRewritten, IsUnwritten, added, adding, section_of_key, setting_of, trouble_of_cause, unadded, with_made, with_section, writing}
+use Rattle.gixcfg_commands.specs.Setting.{IsPushed, IsRewritten, IsSetIn, IsUnwritten, setting, added, adding, section_of_key, setting_of, trouble_of_cause, unadded, with_made, with_section, writing}
 use Rattle.gixcfg_commands.specs.declared.edits.Setting.{Setting}
 use Rattle.gixcfg_commands.specs.declared.meant.Meant.{Meant}
 use Rattle.gixcfg_commands.proofs.Editing.{but_used}
+use Rattle.gixcfg_commands.proofs.MeantLemmas.{found_number}
 use Rattle.gixcfg_commands.proofs.Unsetting.{holders_stand}
 
 -- what becomes of the entries that were found
@@ -239,3 +240,50 @@ pub rewritten_as_told : (key : Key) (at : ℕ) (value : List ℕ) (old : State) 
 rewritten_as_told key at value old before after new (Ok _) are same left is =
     rewritten_so key at value old before new are same (subst (λ file. file ≡ with_used file.used (apply (writing before at value) (edited_by before))) left is)
 rewritten_as_told key at value old before after new (Err trouble) are same left is = tt
+
+-- an entry that got a value in a section
+pub set_so : {T : Type 0} (edit : Edit) (result : Result T ValueError) (x : T) (old new : State) → IsEdited value_refusal edit result old new → result ≡ Ok x → new ≡ done edit old
+set_so {T} edit result x old new is ok = go (subst (λ r. IsEdited value_refusal edit r old new) ok is)
+  where
+    go : IsEdited {T = T} {E = ValueError} value_refusal edit (Ok x) old new → new ≡ done edit old
+    go is = is.ok
+
+pub not_set_so : {T : Type 0} (number : ℕ) (e : Editor) (name value : List ℕ) (result : Result T ValueError) (refusal : ValueError) (old new : State)
+    → IsEdited value_refusal (SetValue number e name value) result old new → result ≡ Err refusal → IsUnwritten (trouble_of_number (value_number refusal))
+not_set_so {T} number e name value result refusal old new is err =
+    go (first_cause (causes (SetValue number e name value) old)) (told (subst (λ r. IsEdited value_refusal (SetValue number e name value) r old new) err is))
+  where
+    told : IsEdited {T = T} {E = ValueError} value_refusal (SetValue number e name value) (Err refusal) old new
+        → IsRefusedFor {T = T} value_refusal (first_cause (causes (SetValue number e name value) old)) (Err refusal)
+    told is = is.told
+
+    unwritten : (cause : Cause) → IsUnwritten (trouble_of_number (value_number (value_refusal cause)))
+    unwritten OutOfMemory = inl refl
+    unwritten InvalidKey = inr (inr (inr (inl refl)))
+    unwritten InvalidName = inr (inl refl)
+    unwritten InvalidSubsection = inr (inl refl)
+    unwritten (Missing miss) = inr (inl refl)
+    unwritten TooLarge = inr (inl refl)
+
+    go : (o : Option Cause) → IsRefusedFor {T = T} {E = ValueError} value_refusal o (Err refusal) → IsUnwritten (trouble_of_number (value_number refusal))
+    go None told = inl (ap (λ r. trouble_of_number (value_number r)) told)
+    go (Some cause) told = let e : refusal ≡ value_refusal cause = cc in subst (λ r. IsUnwritten (trouble_of_number (value_number r))) (sym e) (unwritten cause)
+
+-- by the editor of the section of a number
+pub set_as_told : (n : ℕ) (name value : List ℕ) (old : State) (before : SectionMut Spacing) (after : State) (result : Result (Unit {0}) Trouble)
+    → option_map (editor_at old) (numbered n old) ≡ Some (told before) → edited before ≡ old → OnOk result (after ≡ done (setting before name value) (edited before))
+    → IfOk result (λ _. IsSetIn n name value old after)
+set_as_told n name value old before after (Ok _) found here is = go (numbered n old) refl found
+  where
+    go : (o : Option SectionState) → numbered n old ≡ o → option_map (editor_at old) o ≡ Some (told before) → IsSetIn n name value old after
+    go None same none = absurd (cc)
+    go (Some s) same one =
+        let these : editor_at old s ≡ told before = cc in
+        let number : number_of before ≡ n = found_number n old before found in
+        let blanks : editor before ≡ editor_of old s = sym (ap (λ t. t.1) these) in (
+          s,
+          same,
+          but_used after (apply (SetValue n (editor_of old s) name value) old) (done (setting before name value) (edited before)).used
+              (is ∙ (λ i. with_used (done (setting before name value) (edited before)).used (apply (SetValue (number i) (blanks i) name value) (here i)))),
+        )
+set_as_told n name value old before after (Err trouble) found here is = tt

@@ -11,14 +11,16 @@ use Rattle.gitconf_state.specs.Printing.{printed}
 use Rattle.gitconf_state.specs.State.{SectionState, State}
 use Rattle.gitconf_store.specs.Edited.{has_number}
 use Rattle.gixcfg_core.specs.Answers.{Answers}
+use Rattle.gixcfg_core.specs.Entries.{is_listed_under}
 use Rattle.gixcfg_core.specs.Patterns.{MeansNothing}
 use Rattle.gixcfg_core.specs.declared.trouble.Trouble.{Trouble}
 use Rattle.gixcfg_core.specs.declared.trouble.Trouble.TheVariants.{BadPattern, Memory}
 use Rattle.gixcfg_words.specs.declared.command.Unset.{Unset}
 use Rattle.gixcfg_words.specs.declared.command.Values.{Values}
-use Rattle.gixcfg_commands.specs.Answered.{IsCarriedOut, marked}
+use Rattle.gixcfg_commands.specs.Answered.{IsCarriedOut}
+use Rattle.gixcfg_commands.specs.Beginnings.{marked}
 use Rattle.gixcfg_commands.specs.Edits.{UnsetsTo, unremoved}
-use Rattle.gixcfg_commands.specs.Meant.{ByMeant, IsMeant, count_marked, has_names, holders_of, holding, plain_holder, removals, values_of_key, without_marked}
+use Rattle.gixcfg_commands.specs.Meant.{ByMeant, IsMeant, count_marked, holders_of, holding, plain_holder, removals, values_of_key, without_marked}
 use Rattle.gixcfg_commands.specs.declared.meant.Meant.{Meant}
 use Rattle.gixcfg_commands.proofs.Editing.{answer_done, answer_refused, but_used}
 
@@ -40,7 +42,7 @@ all_in P (s ∷ ss) has test name = go (test s) refl (all_in P ss (λ n any. has
     go false e rest = rw e rest
 
 pub holders_stand : (key : Key) (file : State) → list_all (λ h. has_number h.0 file) (holders_of key file) ≡ true
-holders_stand key file = all_in (λ n. has_number n file) file.sections (λ n any. any) (has_names key) key.name
+holders_stand key file = all_in (λ n. has_number n file) file.sections (λ n any. any) (is_listed_under key) key.name
 
 -- entries that were found are removed as their marks say
 pub removed_so : (key : Key) (means : Option (List ℕ) → Bool) (is_all : Bool) (old new : State) (found : Meant) (result : Result (Unit {0}) Trouble) → IsMeant key means old found

@@ -1,16 +1,11 @@
 -- What becomes of a text by an edit: what is printed of the edited file, or why there is nothing.
-use Rattle.std.specs.Prelude.{◌≡◌, ◌⊎◌, ℕ, nat_eq, List, ◌++◌, Option, Some, None, Result, Ok, Err, if◌then◌else◌}
-use Rattle.std.specs.List.{starts_with}
+use Rattle.std.specs.Prelude.{◌≡◌, ◌⊎◌, ℕ, List, Option, Some, None, Result, Ok, Err}
 use Rattle.gitconf_state.specs.Edit.{with_used}
 use Rattle.gitconf_state.specs.Printing.{printed}
 use Rattle.gitconf_state.specs.State.{State}
-use Rattle.gixcfg_core.specs.Line.{mark}
+use Rattle.gixcfg_commands.specs.Beginnings.{marked}
 use Rattle.gixcfg_core.specs.declared.trouble.Trouble.{Trouble}
 use Rattle.gixcfg_core.specs.declared.trouble.Trouble.TheVariants.{Memory}
-
--- an edited text behind the mark that the text before began with
-abbrev pub marked : (before text : List ℕ) → List ℕ
-marked before text = if starts_with nat_eq before mark then mark ++ text else text
 
 -- a text that is made of a file, behind the mark of the text that the file was read from
 abbrev pub marked_answer : (before : List ℕ) → Result (List ℕ) Trouble → Result (List ℕ) Trouble

@@ -15,7 +15,7 @@ use Rattle.gitconf_state.specs.State.{State}
 use Rattle.gixcfg_core.specs.Answers.{Answers}
 use Rattle.gixcfg_core.specs.Comments.{IsCommented, IsUncommented}
 use Rattle.gixcfg_core.specs.declared.trouble.Trouble.{Trouble}
-use Rattle.gixcfg_commands.specs.Answered.{marked}
+use Rattle.gixcfg_commands.specs.Beginnings.{marked}
 
 -- A text of a file with a comment: what is printed of the file, with the comment in place of something; it can be read, and the file that is read of it is equal to this one.
 abbrev pub IsCommentedText : (comment : List ℕ) → State → (text : List ℕ) → Type 0

@@ -1,4 +1,5 @@
 pub mod Answered
+pub mod Beginnings
 pub mod Checks
 pub mod Comments
 pub mod Differing
@@ -8,4 +9,3 @@ pub mod Getting
 pub mod Layouts
 pub mod Meant
 pub mod Setting
-pub mod Status

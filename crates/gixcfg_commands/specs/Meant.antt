@@ -1,13 +1,14 @@
 -- The entries of a key whose values an edit means.
 -- Source: the manual page of `git-config`, `--all`, `--value` and `--fixed-value`.
-use Rattle.std.specs.Prelude.{◌≡◌, ◌⊎◌, ℕ, Bool, false, List, [], ◌∷◌, length, map, set, filter, flat_map, take, drop, Option, Some, None, Result, Err}
+use Rattle.std.specs.Prelude.{◌≡◌, ◌⊎◌, ◌+◌, ◌-◌, ◌==◌, ltb, if◌then◌else◌, ℕ, Bool, false, List, [], ◌∷◌, length, map, set, filter, flat_map, take, drop, Option, Some, None, Result, Err}
 use Rattle.bstr.specs.Owned.{bstring_bytes}
+use Rattle.std.specs.List.{list_all}
 use Rattle.std.specs.Option.{option_map}
 use Rattle.gitconf_sources.specs.Key.{Key}
 use Rattle.gitconf_state.specs.Edits.{Edit, RemoveMarked, apply_all}
 use Rattle.gitconf_state.specs.Lookup.{is_named, listing}
 use Rattle.gitconf_state.specs.State.{SectionState, State}
-use Rattle.gixcfg_core.specs.Entries.{values_of_name}
+use Rattle.gixcfg_core.specs.Entries.{is_listed_under, values_of_name}
 use Rattle.gixcfg_core.specs.Patterns.{Means, MeansNothing, meant_by, means_missing}
 use Rattle.gixcfg_core.specs.declared.trouble.Trouble.{Trouble}
 use Rattle.gixcfg_core.specs.declared.trouble.Trouble.TheVariants.{BadPattern, Memory}
@@ -15,13 +16,17 @@ use Rattle.gixcfg_words.specs.declared.command.Values.{Values}
 use Rattle.gixcfg_commands.specs.declared.meant.Holder.{Holder}
 use Rattle.gixcfg_commands.specs.declared.meant.Meant.{Meant}
 
--- a section has the names of a key
-abbrev pub has_names : Key → SectionState → Bool
-has_names key s = is_named key.section key.subsection (listing s)
+-- the sections that have entries of a key, as `get` finds them: those with its names, and those as `[a.b "c"]` that are listed alike
+abbrev pub sections_of_key : Key → State → List SectionState
+sections_of_key key file = filter (is_listed_under key) file.sections
+
+-- all of these have the names of the key
+abbrev pub are_named : Key → State → Bool
+are_named key file = list_all (λ s. is_named key.section key.subsection (listing s)) (sections_of_key key file)
 
 -- the values of a key's entries, in file order; nothing for one without `=`
 abbrev pub values_of_key : Key → State → List (Option (List ℕ))
-values_of_key key file = flat_map (values_of_name key.name) (filter (has_names key) file.sections)
+values_of_key key file = flat_map (values_of_name key.name) (sections_of_key key file)
 
 -- a test of entries says which an edit means, by their values
 abbrev pub MeansEntries : Values → (means : Option (List ℕ) → Bool) → Type 0
@@ -47,7 +52,12 @@ holding name s = (s.number, length (values_of_name name s))
 
 -- the sections that may have entries of a key, so
 abbrev pub holders_of : Key → State → List (ℕ × ℕ)
-holders_of key file = map (holding key.name) (filter (has_names key) file.sections)
+holders_of key file = map (holding key.name) (sections_of_key key file)
+
+-- the section in which the entry at a place is the last one, of sections that have so many
+abbrev pub last_at : (at : ℕ) (holders : List (ℕ × ℕ)) → Option ℕ
+last_at at [] = None
+last_at at (h ∷ holders) = if ltb at h.1 then (if at + 1 == h.1 then Some h.0 else None) else last_at (at - h.1) holders
 
 -- the edits that remove the marked entries of a name: one of each section, with the marks of its own entries
 abbrev pub removals : (name : List ℕ) (marks : List Bool) (holders : List (ℕ × ℕ)) → List Edit

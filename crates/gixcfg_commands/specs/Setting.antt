@@ -8,7 +8,7 @@ use Rattle.bstr.specs.Owned.{bstring_bytes}
 use Rattle.bstr.specs.declared.bstring.BString.{BString}
 use Rattle.gitconf_sources.specs.Key.{Key, key_of}
 use Rattle.gitconf_state.specs.Edit.{Spacing, new_section, with_used}
-use Rattle.gitconf_state.specs.Edits.{Edit, NewSection, PushAfterLast, apply}
+use Rattle.gitconf_state.specs.Edits.{Edit, NewSection, PushAfterLast, SetValue, apply, numbered}
 use Rattle.gitconf_state.specs.Editors.{OfEntry, editor_of}
 use Rattle.gitconf_state.specs.State.{SectionState, State}
 use Rattle.gitconf_body.specs.Done as reasons
@@ -34,7 +34,7 @@ use Rattle.gixcfg_core.specs.declared.trouble.Trouble.TheVariants.{BadName, Memo
 use Rattle.gixcfg_core.specs.declared.typed.Fault.TheVariants as types
 use Rattle.gixcfg_core.specs.declared.typed.Refusal.{Refusal}
 use Rattle.gixcfg_commands.specs.Comments.{IsEditedText, IsTextWith}
-use Rattle.gixcfg_commands.specs.Meant.{ByMeant, count_marked, spared, values_of_key, without_marked}
+use Rattle.gixcfg_commands.specs.Meant.{ByMeant, count_marked, holders_of, last_at, spared, values_of_key, without_marked}
 use Rattle.gixcfg_commands.specs.declared.edits.Setting.{Setting}
 use Rattle.gixcfg_commands.specs.declared.edits.Setting.TheVariants.{Add, Keep, Give, GiveAlone}
 
@@ -100,14 +100,28 @@ abbrev pub IsRewritten : Key → (at : ℕ) (value : List ℕ) → (old new : St
 IsRewritten key at value old new =
     (ordered : List (ℕ × ℕ)) × AreInOrder (key_places key (λ _. true) old) ordered × (new ≡ with_used new.used (apply (rewriting OfEntry (place_at ordered at) key.name value old) old))
 
--- an entry isn't rewritten: for want of memory or of room (that it is missing is in no definition, and comes never)
-abbrev pub IsUnwritten : Trouble → Type 0
-IsUnwritten trouble = (trouble ≡ Memory) ⊎ ((trouble ≡ Refused 3) ⊎ (trouble ≡ Missing))
+-- the last entry of a name in the section of a number has a value: its name and the blanks around it stay
+abbrev pub IsSetIn : (number : ℕ) (name value : List ℕ) → (old new : State) → Type 0
+IsSetIn number name value old new =
+    (s : SectionState) × (numbered number old ≡ Some s) × (new ≡ with_used new.used (apply (SetValue number (editor_of old s) name value) old))
 
--- the text of the file in which such an entry is rewritten, or why there is none
+-- how the entry at a place among those of a key gets a value: so, if it is the last one of the key in the section of this number; and else it is rewritten
+abbrev pub IsGivenAs : (last : Option ℕ) → Key → (at : ℕ) (value : List ℕ) → (old new : State) → Type 0
+IsGivenAs None key at value old new = IsRewritten key at value old new
+IsGivenAs (Some number) key at value old new = IsSetIn number key.name value old new
+
+abbrev pub IsGiven : Key → (at : ℕ) (value : List ℕ) → (old new : State) → Type 0
+IsGiven key at value old new = IsGivenAs (last_at at (holders_of key old)) key at value old new
+
+-- An entry gets no value: for want of memory or of room; or since it isn't the last one of its section, and another section of the key is as `[a.b "c"]`.
+-- (That it is missing, or that its name isn't allowed, is in no definition, and comes never.)
+abbrev pub IsUnwritten : Trouble → Type 0
+IsUnwritten trouble = (trouble ≡ Memory) ⊎ ((trouble ≡ Refused 3) ⊎ ((trouble ≡ Missing) ⊎ ((trouble ≡ BadName 6) ⊎ (trouble ≡ Several))))
+
+-- the text of the file in which such an entry has a value, or why there is none
 abbrev pub IsGivenText : (comment : Option (Bor (List ℕ))) → Key → (at : ℕ) (value before : List ℕ) → State → Result BString Trouble → Type 0
 IsGivenText comment key at value before file result =
-    ((edited : State) × IsRewritten key at value file edited × IsTextWith comment before edited result)
+    ((edited : State) × IsGiven key at value file edited × IsTextWith comment before edited result)
     ⊎ ((trouble : Trouble) × IsUnwritten trouble × (result ≡ Err trouble))
 
 -- the text in which a key's entries became what is said
@@ -153,6 +167,10 @@ writing e at value = rewriting OfEntry (place_at (multi.places_of e) at) (multi.
 -- an entry is pushed below the last one of an editor's section
 abbrev pub pushing : SectionMut Spacing → (name value : List ℕ) → Edit
 pushing e name value = PushAfterLast (number_of e) (editor e) name (Some value)
+
+-- the last entry of a name in an editor's section gets a value
+abbrev pub setting : SectionMut Spacing → (name value : List ℕ) → Edit
+setting e name value = SetValue (number_of e) (editor e) name value
 
 -- How an edit is done, or why it is refused.
 abbrev pub IsPushed : Edit → Result (Unit {0}) Trouble → (old new : State) → Type 0

@@ -1,6 +1,7 @@
 //! What git makes of a text that the library reads.
 
 use gix_config::{File, NoMemory};
+use gixcfg_core::c_strings::c_string;
 use gixcfg_core::entries::{Found, Sought, add_found};
 use gixcfg_core::git_reading::{GitEntry, GitReading, git_reading};
 use gixcfg_core::message::message_of_git;
@@ -121,23 +122,16 @@ fn compare(
     }
     if !entry.names.eq_ignore_ascii_case(&of_git.key) {
         add(found, of_git.at, "reads another key")?;
-    } else if entry.value() != cut(of_git) {
+    } else if entry.value() != value_of(of_git) {
         add(found, of_git.at, "reads another value")?;
     }
     Ok(())
 }
 
-/// The value of an entry as git hands it on: up to its first byte 0.
-fn cut(entry: &GitEntry) -> Option<&[u8]> {
+/// The value of an entry as git hands it on.
+fn value_of(entry: &GitEntry) -> Option<&[u8]> {
     match &entry.value {
-        Some(value) => {
-            let end = value.iter().position(|byte| *byte == 0);
-            Some(
-                value
-                    .split_at(end.unwrap_or(value.len()).min(value.len()))
-                    .0,
-            )
-        }
+        Some(value) => Some(c_string(value)),
         None => None,
     }
 }

@@ -1,11 +1,10 @@
 //! Calls, by their words.
-ghost use Rattle.std.specs.Prelude.{◌≤◌, IfOk};
+ghost use Rattle.std.specs.Prelude.{◌≡◌, ◌≤◌, IfOk};
 
 use crate::checks::check;
 use crate::differing::diff;
 use crate::edits::{Edit, carry_out};
 use crate::layouts::fmt;
-use crate::program::{run, usage};
 use crate::{Asked, Loads, answer, located, located_target};
 use gitconf_sources::Process;
 use gitconf_text::NoMemory;
@@ -14,13 +13,18 @@ use gixcfg_core::outside::{Inputs, Outside};
 use gixcfg_core::places::home_of;
 use gixcfg_core::streams::put;
 use gixcfg_core::trouble::{Trouble, report};
-use gixcfg_words::command::{Command, Target};
+use gixcfg_files::EditFiles;
+use gixcfg_words::command::{Call, Command, Target};
 use gixcfg_words::fault::{self, Fault};
 use gixcfg_words::help::help_on;
+use gixcfg_words::rules::Rules;
 use gixcfg_words::{VERSION, has_options, read};
 use std::alloc::{AllocGlobal, Global};
 use std::io::{Read, Write};
 use std::rt::{Env, Files};
+
+/// The status of words that aren't understood.
+const USAGE: u8 = 2;
 
 /// Standard input, standard output and standard error.
 #[derive(Drop)]
@@ -56,7 +60,7 @@ impl Terminal {
 ///
 /// Out of memory before the call is begun, of which nothing is told.
 pub fn run_words<
-    R: Files + Env + Loads + AllocGlobal + Copy,
+    R: EditFiles + Env + Loads + AllocGlobal + Copy,
     I: Read + Drop,
     W: Write + Drop,
     E: Write + Drop,
@@ -68,11 +72,11 @@ pub fn run_words<
         mut out,
         mut err,
     } = streams;
-    let command = match read(rt.alloc(), words) {
-        Ok(command) => command,
+    let call = match read(rt.alloc(), words) {
+        Ok(call) => call,
         Err(fault) => return Ok(tell_fault(rt.alloc(), words, fault, terminal, &mut err)),
     };
-    if terminal.is_typed && command.reads_input() {
+    if terminal.is_typed && call.command.reads_input() {
         tell_input(&mut err);
     }
     let home = home_of(&mut Process::new(*rt))?;
@@ -80,21 +84,27 @@ pub fn run_words<
         is_colored: terminal.is_colored,
         home: home.as_deref(),
     };
-    Ok(do_call(rt, outside, input, command, &mut out, &mut err))
+    Ok(do_call(rt, outside, input, call, &mut out, &mut err))
 }
 
-/// Does a command with what lies around it, and returns the status.
-fn do_call<'a, R: Files + Env + Loads + AllocGlobal + Copy, I: Read + Drop, W: Write, E: Write>(
+/// Does a call with what lies around it, and returns the status.
+fn do_call<'a, R: EditFiles + Env + Loads + AllocGlobal + Copy, I: Read + Drop, W: Write, E: Write>(
     rt: &'a R,
     outside: Outside<'a>,
     input: I,
-    command: Command<'_>,
+    call: Call<'_>,
     out: &mut W,
     err: &mut E,
 ) -> u8
     ensures { result ≤ 5 }
 {
-    let mut inputs = Inputs { rt, input, outside };
+    let Call { command, rules } = call;
+    let mut inputs = Inputs {
+        rt,
+        input,
+        outside,
+        rules,
+    };
     do_command(&mut inputs, command, out, err)
 }
 
@@ -105,8 +115,25 @@ fn tell_input<E: Write>(err: &mut E) {
     );
 }
 
-/// Tells what is wrong with the words, and returns the status. Of words without options a program that reads standard error is told but how
-/// calls are written.
+/// Tells that a word of the call isn't UTF-8, and how calls are written, and returns the status.
+pub fn tell_ill_formed<E: Write>(err: &mut E) -> u8
+    ensures { result ≤ 5 }
+{
+    // A failed write changes no status.
+    let _ = err.write_all(b"gixcfg: a word isn't UTF-8\n");
+    usage(err)
+}
+
+/// Tells how calls are written, and returns the status.
+fn usage<E: Write>(err: &mut E) -> u8
+    ensures { result ≡ 2 }
+{
+    // A failed write changes no status.
+    let _ = err.write_all(b"usage: gixcfg COMMAND [ARGS]\n");
+    USAGE
+}
+
+/// Tells what is wrong with the words, and returns the status.
 fn tell_fault<E: Write>(
     alloc: Global,
     words: &[&str],
@@ -117,19 +144,32 @@ fn tell_fault<E: Write>(
     ensures { result ≤ 5 }
 {
     if let Fault::Memory = fault {
-        return report(&Trouble::Memory, "", err);
+        return report(&Trouble::Memory, "", Rules::Git, err);
     }
     if !has_options(words) && !terminal.is_typed {
-        return usage(err);
+        return tell_without_options(alloc, fault, err);
     }
     match fault::tell(alloc, fault, err) {
-        Ok(()) => 2,
-        Err(_) => report(&Trouble::Memory, "", err),
+        Ok(()) => USAGE,
+        Err(_) => report(&Trouble::Memory, "", Rules::Git, err),
     }
 }
 
+/// Tells a program that reads standard error how calls are written, in the last line, and returns the status. Above it stands but that the first
+/// word is no command.
+fn tell_without_options<E: Write>(alloc: Global, fault: Fault<'_>, err: &mut E) -> u8
+    ensures { result ≤ 5 }
+{
+    if let Fault::UnknownCommand(_) = fault {
+        if fault::tell(alloc, fault, err).is_err() {
+            return report(&Trouble::Memory, "", Rules::Git, err);
+        }
+    }
+    usage(err)
+}
+
 /// Does a command, and returns the status.
-fn do_command<R: Files + Env + Loads + AllocGlobal + Copy, I: Read + Drop, W: Write, E: Write>(
+fn do_command<R: EditFiles + Env + Loads + AllocGlobal + Copy, I: Read + Drop, W: Write, E: Write>(
     inputs: &mut Inputs<'_, R, I>,
     command: Command<'_>,
     out: &mut W,
@@ -138,7 +178,6 @@ fn do_command<R: Files + Env + Loads + AllocGlobal + Copy, I: Read + Drop, W: Wr
     ensures { result ≤ 5 }
 {
     match command {
-        Command::Plain(task) => run(inputs.rt, task, &mut inputs.input, out, err),
         Command::Help(verb) => print(help_on(verb), out, err),
         Command::Version => print(VERSION, out, err),
         Command::Check(call) => check(inputs, &call, err),
@@ -146,6 +185,7 @@ fn do_command<R: Files + Env + Loads + AllocGlobal + Copy, I: Read + Drop, W: Wr
         Command::Fmt(call) => fmt(inputs, &call, out, err),
         Command::Get(call) => do_reading(inputs, Asked::Get(&call), out, err),
         Command::List(call) => do_reading(inputs, Asked::List(&call), out, err),
+        Command::Print => do_reading(inputs, Asked::Input, out, err),
         Command::Set(call) => do_edit(inputs, call.target, Edit::Set(&call), out, err),
         Command::Unset(call) => do_edit(inputs, call.target, Edit::Unset(&call), out, err),
         Command::RenameSection(call) => {
@@ -163,12 +203,12 @@ fn print<W: Write, E: Write>(text: &str, out: &mut W, err: &mut E) -> u8
 {
     match put(text.as_bytes(), out) {
         Ok(()) => 0,
-        Err(fault) => report(&Trouble::from(fault), "", err),
+        Err(trouble) => report(&trouble, "", Rules::Git, err),
     }
 }
 
 /// Prints what is asked of what is read.
-fn do_reading<R: Files + Env + Loads + AllocGlobal, I: Read + Drop, W: Write, E: Write>(
+fn do_reading<R: Files + Env + Loads + AllocGlobal + Copy, I: Read + Drop, W: Write, E: Write>(
     inputs: &mut Inputs<'_, R, I>,
     asked: Asked<'_>,
     out: &mut W,
@@ -176,32 +216,28 @@ fn do_reading<R: Files + Env + Loads + AllocGlobal, I: Read + Drop, W: Write, E:
 ) -> u8
     ensures { result ≤ 5 }
 {
+    let rules = inputs.rules;
     match located(inputs.rt, asked.source()) {
-        Ok(read) => print_answer(answer(inputs, asked, &read), &read, out, err),
-        Err(trouble) => report(&trouble, asked.source().word(), err),
+        Ok(read) => match print_answer(inputs, asked, &read, out) {
+            Ok(()) => 0,
+            Err(trouble) => report(&trouble, read.name(), rules, err),
+        },
+        Err(trouble) => report(&trouble, asked.source().word(), rules, err),
     }
 }
 
-/// Prints an answer, or tells why there is none.
-fn print_answer<W: Write, E: Write>(
-    answer: Result<Vec<u8>, Trouble>,
+/// Prints an answer.
+fn print_answer<R: Files + Env + Loads + AllocGlobal + Copy, I: Read + Drop, W: Write>(
+    inputs: &mut Inputs<'_, R, I>,
+    asked: Asked<'_>,
     read: &Located,
     out: &mut W,
-    err: &mut E,
-) -> u8
-    ensures { result ≤ 5 }
-{
-    match answer {
-        Ok(lines) => match put(&lines, out) {
-            Ok(()) => 0,
-            Err(fault) => report(&Trouble::from(fault), "", err),
-        },
-        Err(trouble) => report(&trouble, read.name(), err),
-    }
+) -> Result<(), Trouble> {
+    put(&answer(inputs, asked, read)?, out)
 }
 
 /// Does an edit.
-fn do_edit<R: Files + Env + AllocGlobal, I: Read + Drop, W: Write, E: Write>(
+fn do_edit<R: EditFiles + Env + AllocGlobal, I: Read + Drop, W: Write, E: Write>(
     inputs: &mut Inputs<'_, R, I>,
     target: Target<'_>,
     call: Edit<'_>,
@@ -213,8 +249,8 @@ fn do_edit<R: Files + Env + AllocGlobal, I: Read + Drop, W: Write, E: Write>(
     match located_target(inputs.rt, target) {
         Ok(place) => match carry_out(inputs, &place, call, out, err) {
             Ok(()) => 0,
-            Err(trouble) => report(&trouble, place.name(), err),
+            Err(trouble) => report(&trouble, place.name(), inputs.rules, err),
         },
-        Err(trouble) => report(&trouble, target.word(), err),
+        Err(trouble) => report(&trouble, target.word(), inputs.rules, err),
     }
 }

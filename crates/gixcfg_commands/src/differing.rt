@@ -15,6 +15,7 @@ use gixcfg_core::names::add_names;
 use gixcfg_core::outside::Inputs;
 use gixcfg_core::trouble::{Trouble, report};
 use gixcfg_words::command::Diff;
+use gixcfg_words::rules::Rules;
 use gixcfg_words::shown::Shown;
 use std::alloc::{AllocGlobal, Global};
 use std::io::{Read, Write};
@@ -48,7 +49,7 @@ fn lines_of<R: Files + AllocGlobal, I: Read + Drop, E: Write>(
     let other = file_or_status(inputs, call.other, err)?;
     match lines_between(inputs.rt.alloc(), &one, &other, call.is_null) {
         Ok(lines) => Ok(lines),
-        Err(_) => Err(report(&Trouble::Memory, "", err)),
+        Err(_) => Err(report(&Trouble::Memory, "", inputs.rules, err)),
     }
 }
 
@@ -65,7 +66,7 @@ fn file_or_status<R: Files + AllocGlobal, I: Read + Drop, E: Write>(
             tell_front(&file, word, err);
             Ok(file)
         }
-        Err(trouble) => Err(report(&trouble, word, err)),
+        Err(trouble) => Err(report(&trouble, word, inputs.rules, err)),
     }
 }
 
@@ -98,7 +99,7 @@ fn put_lines<W: Write, E: Write>(lines: &[u8], is_quiet: bool, out: &mut W, err:
     }
     match out.write_all(lines) {
         Ok(()) => 1,
-        Err(_) => report(&Trouble::Output, "", err),
+        Err(_) => report(&Trouble::Output, "", Rules::Git, err),
     }
 }
 

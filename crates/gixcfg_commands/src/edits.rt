@@ -1,4 +1,4 @@
-//! Edits with options: `set`, `unset`, `rename-section`, `remove-section` and `fmt`.
+//! Edits: `set`, `unset`, `rename-section`, `remove-section` and `fmt`.
 ghost use Rattle.std.specs.Prelude.{◌≡◌, List, length, map, option_map, is_some, true, IfErr, IfOk, None, Ok, OnOk};
 ghost use Rattle.std.specs.Option.{option_copied};
 ghost use Rattle.bstr.specs.Owned.{bstring_bytes};
@@ -10,29 +10,33 @@ ghost use Rattle.gitconf_sources.specs.Metadata.{api_meta};
 ghost use Rattle.gitconf_state.specs.Made.{IsMade};
 ghost use Rattle.gitconf_state.specs.Edit.{with_used};
 ghost use Rattle.gitconf_state.specs.Edits.{RenameAll, apply, apply_all};
-ghost use Rattle.gitconf_store.specs.Edited.{has_number};
+ghost use Rattle.gitconf_store.specs.Edited.{done, has_number};
 ghost use Rattle.std.specs.List.{list_all};
 ghost use Rattle.gitconf_state.specs.Printing.{printed};
 ghost use Rattle.gixcfg_core.specs.Answers.{Answers, IsRefusedText};
 ghost use Rattle.gixcfg_core.specs.Comments.{IsUncommented};
 ghost use Rattle.gix_config.specs.MultiValueEditors as multi;
 ghost use Rattle.gix_config.specs.SectionEditors.{edited, lent};
-ghost use Rattle.gixcfg_commands.specs.Answered as spec;
+ghost use Rattle.gixcfg_commands.specs.Beginnings as spec;
 ghost use Rattle.gixcfg_commands.specs.Answered.{IsCarriedOut, IsChecked, marked_answer};
 ghost use Rattle.gixcfg_commands.specs.Comments.{IsCommentedText, IsEditedText, IsTextWith};
 ghost use Rattle.gixcfg_commands.specs.Edits.{EditsTo, IsOfText, UnsetsTo, no_room, others_of, removal_of, renaming_of, trouble_of_renaming, unremoved, unrenamed};
-ghost use Rattle.gixcfg_commands.specs.Setting.{IsGivenText, IsPlacedText, IsPushed, IsPutText, IsRewritten, IsSetText, IsStoredValue, IsUnwritten, SetsTo, added, pushing, setting_of, setting_of_one, setting_of_several, unadded, writing};
+ghost use Rattle.gixcfg_commands.specs.Setting.{IsGivenText, IsPlacedText, IsPushed, IsPutText, IsGiven, IsRewritten, IsSetIn, IsSetText, IsStoredValue, IsUnwritten, SetsTo, added, pushing, setting, setting_of, setting_of_one, setting_of_several, unadded, writing};
 ghost use Rattle.gixcfg_commands.specs.Meant.{ByMeant, IsMeant, count_marked, plain_holder, removals, spared, values_of_key, without_marked};
 ghost use Rattle.gitconf_store.specs.declared.rename_section.Error.TheVariants.{Section};
 
-use crate::layouts::laid_out;
-use crate::meant::{Meant, entries_meant, remove_meant};
+use crate::beginnings::marked;
+use crate::layouts::{laid_out, layout_of};
+use crate::library;
+use crate::meant::{Meant, are_named, entries_meant, remove_meant, section_of_last};
 use crate::named::Text;
+use crate::refusals::told;
 use bstr::BString;
 use gitconf_text::parse::section::header;
 use gix_config::file::multi_value_mut::MultiValueMut;
-use gix_config::file::rename_section;
-use gix_config::file::section_mut::SectionMut;
+use gix_config::file::section_mut::{self, SectionMut};
+use gix_config::file::{SectionId, rename_section};
+use gix_config::format::normalize;
 use gix_config::lookup::existing;
 use gix_config::refusals::Refusal;
 use gix_config::{File, KeyRef};
@@ -40,15 +44,15 @@ use gixcfg_core::comments;
 use gixcfg_core::entries::has_names;
 use gixcfg_core::origins::Located;
 use gixcfg_core::outside::{Inputs, Outside, accepted};
-use gixcfg_core::streams::put;
+use gixcfg_core::streams::{put, read_all};
 use gixcfg_core::trouble::{Trouble, of_number};
 use gixcfg_core::typed::stored;
-use gixcfg_files::{Fault, Place, Replaced, Replacement};
+use gixcfg_files::{EditFiles, Fault, Place, Replaced, Replacement};
 use gixcfg_words::command::{Fmt, Placing, Removal, Renaming, Set, Unset, Values};
 use gixcfg_words::keys::Names;
+use gixcfg_words::rules::Rules;
 use std::alloc::{AllocError, AllocGlobal, Global};
 use std::io::{Read, Write};
-use std::rt::Files;
 
 /// An edit of a text.
 #[derive(Clone, Copy)]
@@ -77,7 +81,7 @@ impl Edit<'_> {
 const TRIES: usize = 16;
 
 /// Carries an edit out: of a file in place, of standard input to standard output. What the user has to know of is told, a line each.
-pub fn carry_out<R: Files + AllocGlobal, I: Read + Drop, W: Write, E: Write>(
+pub fn carry_out<R: EditFiles + AllocGlobal, I: Read + Drop, W: Write, E: Write>(
     inputs: &mut Inputs<'_, R, I>,
     place: &Located,
     edit: Edit<'_>,
@@ -86,20 +90,33 @@ pub fn carry_out<R: Files + AllocGlobal, I: Read + Drop, W: Write, E: Write>(
 ) -> Result<(), Trouble> {
     match place.path() {
         Some(path) => edit_in_place(inputs.rt, path, edit, inputs.outside, err),
-        None => {
-            let Some(text) = inputs.text_of(None)? else {
-                return Err(Trouble::NoFile);
-            };
-            let alloc = inputs.rt.alloc();
-            let edited = edited(alloc, edit, place.name(), &text, inputs.outside)?;
-            Ok(put(&edited, out)?)
+        None => put(&edited_input(inputs, place, edit)?, out),
+    }
+}
+
+/// What an edit makes of standard input.
+fn edited_input<R: AllocGlobal, I: Read + Drop>(
+    inputs: &mut Inputs<'_, R, I>,
+    place: &Located,
+    edit: Edit<'_>,
+) -> Result<BString, Trouble> {
+    let alloc = inputs.rt.alloc();
+    let text = read_all(alloc, &mut inputs.input)?;
+    match (inputs.rules, edit) {
+        (Rules::Library, Edit::Set(set)) => {
+            Ok(library::with_value(alloc, text, set.key, set.value)?.to_bstring()?)
         }
+        (Rules::Library, Edit::Unset(unset)) => {
+            Ok(library::without_entry(alloc, text, unset.key)?.to_bstring()?)
+        }
+        (Rules::Library, Edit::Fmt(fmt)) => told(alloc, normalize(alloc, &text, layout_of(fmt))),
+        (_, edit) => edited(alloc, edit, place.name(), &text, inputs.outside),
     }
 }
 
 /// Does an edit of the file at a path. A text that it doesn't change isn't written. Of a file that another process changes meanwhile the
 /// edit is begun again.
-fn edit_in_place<R: Files + AllocGlobal, E: Write>(
+fn edit_in_place<R: EditFiles + AllocGlobal, E: Write>(
     rt: &R,
     path: &str,
     edit: Edit<'_>,
@@ -115,7 +132,7 @@ fn edit_in_place<R: Files + AllocGlobal, E: Write>(
 }
 
 /// Does an edit of the file at a path, if no other process changes it meanwhile.
-fn edit_once<R: Files + AllocGlobal, E: Write>(
+fn edit_once<R: EditFiles + AllocGlobal, E: Write>(
     rt: &R,
     path: &str,
     edit: Edit<'_>,
@@ -123,11 +140,9 @@ fn edit_once<R: Files + AllocGlobal, E: Write>(
     err: &mut E,
 ) -> Result<Replaced, Trouble> {
     let place = Place::find(rt, path)?;
-    let before = place.read()?;
-    match new_text(rt.alloc(), before.as_deref(), edit, path, outside)? {
+    match new_text(rt.alloc(), place.text(), edit, path, outside)? {
         Some(text) => {
             let new = Replacement {
-                before: before.as_deref(),
                 text: &text,
                 is_synced: edit.is_synced(),
             };
@@ -369,7 +384,7 @@ fn given_text(
 ) -> Result<BString, Trouble>
     ensures { let set = giving.now.set.now in IsGivenText set.comment (key_of set.key) at giving.now.value.now giving.now.before.now file.old result }
 {
-    match rewrite(file, giving.set.key, giving.value, at) {
+    match give(alloc, file, giving, at) {
         Ok(()) => with_comment(alloc, file, giving),
         Err(trouble) => Err(trouble),
     }
@@ -528,21 +543,6 @@ fn written(alloc: Global, before: &[u8], file: &File) -> Result<BString, Trouble
     marked(alloc, before, file.to_bstring()?)
 }
 
-/// The mark that a text in UTF-8 may begin with.
-static MARK: [u8; 3] = *b"\xef\xbb\xbf";
-
-/// An edited text behind the mark that the text before began with, which the library drops and git keeps.
-fn marked(alloc: Global, before: &[u8], edited: BString) -> Result<BString, Trouble>
-    ensures { Answers bstring_bytes result (Ok (spec.marked before.now (bstring_bytes edited))) }
-{
-    if !before.starts_with(&MARK) {
-        return Ok(edited);
-    }
-    let mut text = Vec::from_slice(alloc, &MARK)?;
-    text.extend_from_slice(edited.as_bytes())?;
-    Ok(BString::new(text))
-}
-
 /// The text of a file with a comment after the value of a key's last entry. The new text is read again, and has to mean what the file means.
 fn commented(alloc: Global, file: &File, key: KeyRef<'_>, comment: &str) -> Result<BString, Trouble>
     ensures done { IfOk result (λ text. IsCommentedText comment.now file.now (bstring_bytes text)) }
@@ -591,11 +591,55 @@ fn push(section: &mut SectionMut<'_>, name: &str, value: &[u8]) -> Result<(), Tr
     }
 }
 
-/// Gives the entry of a key at a place among its entries another value.
+/// Gives the entry of a key at a place among its entries another value. As the last one of its section it keeps its name and the blanks
+/// around it; before others of the key it gets the blanks of the section.
+fn give(alloc: Global, file: &mut File, giving: &Giving<'_>, at: usize) -> Result<(), Trouble>
+    ensures done { IfOk result (λ _. IsGiven (key_of giving.now.set.now.key) at giving.now.value.now file.old file.new) }
+    ensures refused { IfErr result IsUnwritten }
+{
+    let key = giving.set.key;
+    match section_of_last(alloc, file, key, at)? {
+        Some(id) => set_last(file, id, key.value_name, giving.value),
+        None => rewrite(file, key, giving.value, at),
+    }
+}
+
+/// Gives the last entry of a name in the section of a number another value.
+fn set_last(file: &mut File, id: SectionId, name: &str, value: &[u8]) -> Result<(), Trouble>
+    ensures done { IfOk result (λ _. IsSetIn id name.now value.now file.old file.new) }
+    ensures refused { IfErr result IsUnwritten }
+{
+    match file.section_mut_by_id(id) {
+        Ok(mut section) => set_value(&mut section, name, value),
+        Err(section_mut::Error::NonePasses) => Err(Trouble::Missing),
+        Err(section_mut::Error::Lookup(_)) => Err(Trouble::Memory),
+    }
+}
+
+/// Gives the last entry of a name in a section another value.
+fn set_value(section: &mut SectionMut<'_>, name: &str, value: &[u8]) -> Result<(), Trouble>
+    ensures same_file { lent section.new ≡ lent section.old }
+    ensures done { OnOk result (edited section.new ≡ done (setting section.old name.now value.now) (edited section.old)) }
+    ensures refused { IfErr result IsUnwritten }
+{
+    match section.set(name, value) {
+        Ok(old) => {
+            drop(old);
+            Ok(())
+        }
+        Err(refusal) => Err(of_number(refusal.number())),
+    }
+}
+
+/// Gives the entry of a key at a place among its entries another value, with the blanks of its section. Beside a section as `[a.b "c"]`
+/// the library doesn't count them so.
 fn rewrite(file: &mut File, key: KeyRef<'_>, value: &[u8], at: usize) -> Result<(), Trouble>
     ensures done { IfOk result (λ _. IsRewritten (key_of key.entry) at value.now file.old file.new) }
     ensures refused { IfErr result IsUnwritten }
 {
+    if !are_named(file, key)? {
+        return Err(Trouble::Several);
+    }
     match file.raw_values_mut(key) {
         Ok(mut editor) => write_at(&mut editor, value, at),
         Err(existing::Error::Memory) => Err(Trouble::Memory),

@@ -4,20 +4,19 @@ use crate::loads::Loads;
 use crate::parameters;
 use crate::parameters::{Parameter, parameters_of};
 use crate::paths::has_worktree_file;
-use crate::placing::placed;
+use crate::placing::refused_paths;
 use bstr::BString;
-use gix_config::file::Metadata;
-use gix_config::file::init::{self, from_paths};
+use gix_config::file::{Metadata, init};
 use gix_config::refusals::Refusal;
 use gix_config::source::Source;
 use gix_config::{File, KeyRef, NoMemory};
 use gixcfg_core::conditions::{here_from, options_of};
 use gixcfg_core::outside::Outside;
-use gixcfg_core::places::{add, metas_of_user, paths_of};
-use gixcfg_core::refusals::{of_paths, trouble_of};
+use gixcfg_core::places::{add, metas_of_user};
+use gixcfg_core::refusals::trouble_of;
 use gixcfg_core::trouble::{Trouble, of_number};
 use gixcfg_files::{Repository, find_repository, variable};
-use gixcfg_words::keys::is_nameless;
+use gixcfg_words::plain::is_nameless;
 use std::alloc::{AllocGlobal, Global};
 use std::rc::Rc;
 use std::rt::{Env, Files};
@@ -162,28 +161,10 @@ fn files_of<R: Files + Loads + AllocGlobal>(
     outside: Outside<'_>,
     options: init::Options<'_>,
 ) -> Result<Option<File>, Trouble> {
-    let paths = paths_of(rt.alloc(), &metas)?;
     match rt.from_paths(metas, options) {
         Ok(file) => Ok(file),
-        Err(refusal) => Err(refused(rt, paths, &refusal, outside)),
+        Err(refusal) => Err(refused_paths(rt, &refusal, outside)),
     }
-}
-
-/// The trouble that a refusal of a load of these files is.
-fn refused<R: Files + AllocGlobal>(
-    rt: &R,
-    paths: Vec<String>,
-    refusal: &from_paths::Error,
-    outside: Outside<'_>,
-) -> Trouble {
-    if let Some(cause) = of_paths(refusal) {
-        match placed(rt, paths, cause, outside) {
-            Ok(Some(trouble)) => return trouble,
-            Ok(None) => {}
-            Err(_) => return Trouble::Memory,
-        }
-    }
-    trouble_of(rt.alloc(), refusal.number(), refusal)
 }
 
 /// A file, or an empty one.

@@ -1,4 +1,4 @@
-//! `fmt` with options.
+//! `fmt`.
 ghost use Rattle.std.specs.Prelude.{◌≡◌, ◌≤◌, IfErr, IfOk};
 ghost use Rattle.bstr.specs.Owned.{bstring_bytes};
 ghost use Rattle.gitconf_layout.specs.Layout.{IsLayout};
@@ -12,13 +12,14 @@ use gix_config::format::{self, normalize};
 use gixcfg_core::origins::Located;
 use gixcfg_core::outside::{Inputs, Outside, accepted};
 use gixcfg_core::trouble::{MEMORY, Trouble, report};
+use gixcfg_files::EditFiles;
 use gixcfg_words::command::{Files, Fmt, Indent, Newline, Target};
 use std::alloc::{AllocGlobal, Global};
 use std::io::{Read, Write};
-use std::rt::{Env, Files as HasFiles};
+use std::rt::Env;
 
 /// Lays files out, or tells which aren't, and returns the exit status: the gravest that one of them has.
-pub fn fmt<R: HasFiles + Env + AllocGlobal, I: Read + Drop, W: Write, E: Write>(
+pub fn fmt<R: EditFiles + Env + AllocGlobal, I: Read + Drop, W: Write, E: Write>(
     inputs: &mut Inputs<'_, R, I>,
     fmt: &Fmt<'_>,
     out: &mut W,
@@ -50,7 +51,7 @@ fn target_of(word: &str) -> Target<'_> {
 }
 
 /// Lays a file out, reports why not, and returns the status.
-fn fmt_target<R: HasFiles + Env + AllocGlobal, I: Read + Drop, W: Write, E: Write>(
+fn fmt_target<R: EditFiles + Env + AllocGlobal, I: Read + Drop, W: Write, E: Write>(
     inputs: &mut Inputs<'_, R, I>,
     target: Target<'_>,
     fmt: &Fmt<'_>,
@@ -62,14 +63,14 @@ fn fmt_target<R: HasFiles + Env + AllocGlobal, I: Read + Drop, W: Write, E: Writ
     match located_target(inputs.rt, target) {
         Ok(place) => match lay_out(inputs, &place, fmt, out, err) {
             Ok(()) => 0,
-            Err(trouble) => report(&trouble, place.name(), err),
+            Err(trouble) => report(&trouble, place.name(), inputs.rules, err),
         },
-        Err(trouble) => report(&trouble, target.word(), err),
+        Err(trouble) => report(&trouble, target.word(), inputs.rules, err),
     }
 }
 
 /// Lays a file out in place, standard input to standard output; or finds whether it is laid out.
-fn lay_out<R: HasFiles + AllocGlobal, I: Read + Drop, W: Write, E: Write>(
+fn lay_out<R: EditFiles + AllocGlobal, I: Read + Drop, W: Write, E: Write>(
     inputs: &mut Inputs<'_, R, I>,
     place: &Located,
     fmt: &Fmt<'_>,
@@ -111,7 +112,7 @@ pub fn laid_out(
 }
 
 /// The layout that is asked for.
-fn layout_of(fmt: &Fmt<'_>) -> format::Options
+pub fn layout_of(fmt: &Fmt<'_>) -> format::Options
     ensures { result ≡ layout_asked fmt.now }
 {
     let mut layout = format::Options::default();

@@ -3,6 +3,7 @@
 #![tactic(auto)]
 
 mod at_once;
+mod beginnings;
 mod beside_git;
 mod calls;
 mod checks;
@@ -10,21 +11,20 @@ mod differing;
 mod edits;
 mod effective;
 mod entries;
-mod fault;
 mod including;
 mod layouts;
-mod listing;
+mod library;
 mod loads;
 mod meant;
 mod named;
 mod parameters;
 mod paths;
 mod placing;
-mod program;
 mod reads;
+mod refusals;
 mod system;
 
-pub use calls::{Streams, Terminal, run_words};
+pub use calls::{Streams, Terminal, run_words, tell_ill_formed};
 pub use loads::Loads;
 pub use paths::{located, located_target};
 pub use reads::{Asked, answer};

@@ -1,12 +1,11 @@
 //! The entries of a key whose values are meant, and what becomes of them.
-ghost use Rattle.std.specs.Prelude.{◌≡◌, ◌⊎◌, ◌++◌, [], true, filter, flat_map, map, length, option_map, position, take, drop, unwrap_or, IfErr, IfOk, OnOk, Some};
+ghost use Rattle.std.specs.Prelude.{◌≡◌, ◌⊎◌, ◌++◌, [], true, map, length, option_map, position, take, drop, unwrap_or, IfErr, IfOk, OnOk, Some};
 ghost use Rattle.std.specs.List.{list_all};
 ghost use Rattle.std.specs.Option.{option_eq};
 ghost use Rattle.std.specs.Str.{bytes_eq};
 ghost use Rattle.bstr.specs.Owned.{bstring_bytes};
 ghost use Rattle.gitconf_sources.specs.Key.{key_of};
 ghost use Rattle.gitconf_state.specs.Edits.{RemoveMarked, apply, apply_all};
-ghost use Rattle.gitconf_lookups.specs.Walks.{by_name_left};
 ghost use Rattle.gitconf_views.specs.Views.{shown};
 ghost use Rattle.gitconf_store.specs.Edited.{has_number};
 ghost use Rattle.gix_config.specs.SectionEditors.{edited, lent, number_of};
@@ -15,15 +14,14 @@ ghost use Rattle.gixcfg_core.specs.Patterns.{MeansNothing};
 ghost use Rattle.gixcfg_core.specs.declared.trouble.Trouble.TheVariants as kinds;
 ghost use Rattle.gixcfg_commands.specs.Meant as spec;
 ghost use Rattle.gixcfg_commands.specs.Setting.{has_value};
-ghost use Rattle.gixcfg_commands.specs.Meant.{count_marked, has_names, holders_of, holding, plain_holder, removals, spared, values_of_key, IsMeant, MeansEntries};
+ghost use Rattle.gixcfg_commands.specs.Meant.{are_named, count_marked, holders_of, last_at, plain_holder, removals, spared, values_of_key, IsMeant, MeansEntries};
 
 use bstr::BString;
-use gitconf_lookups::walks::SectionsByName;
 use gitconf_text::NoMemory;
 use gitconf_views::section::SectionRef;
 use gix_config::file::{SectionId, SectionMut, section_mut};
 use gix_config::{File, KeyRef};
-use gixcfg_core::entries::{add_values, is_named};
+use gixcfg_core::entries::{add_values, is_listed_under, is_named};
 use gixcfg_core::patterns::{is_missing_meant, marks_of};
 use gixcfg_core::trouble::Trouble;
 use gixcfg_words::command::Values;
@@ -92,7 +90,7 @@ fn is_value(found: &Option<BString>, value: &[u8]) -> bool
     }
 }
 
-/// The entries of a key, with those that are meant. One walk over the sections of its section's name.
+/// The entries of a key, as `get` finds them, with those that are meant. One walk over the sections.
 ///
 /// # Errors
 ///
@@ -116,7 +114,7 @@ pub fn entries_meant(
     })
 }
 
-/// Adds the sections that may have entries of a key, and the values that these have.
+/// Adds the sections under whose names `get` finds entries of a key, and the values that these have.
 fn add_entries(
     holders: &mut Vec<Holder>,
     values: &mut Vec<Option<BString>>,
@@ -127,27 +125,8 @@ fn add_entries(
     ensures values { IfOk result (λ _. map (option_map bstring_bytes) values.new.items
         ≡ map (option_map bstring_bytes) values.old.items ++ values_of_key (key_of key.entry) file.now) }
 {
-    match file.sections_by_name(key.section_name) {
-        Some(sections) => add_from(holders, values, sections, key),
-        None => Ok(()),
-    }
-}
-
-/// The same of sections that have the name of a key's section.
-fn add_from(
-    holders: &mut Vec<Holder>,
-    values: &mut Vec<Option<BString>>,
-    sections: SectionsByName<'_, '_>,
-    key: KeyRef<'_>,
-) -> Result<(), NoMemory>
-    ensures holders { IfOk result (λ _. map plain_holder holders.new.items
-        ≡ map plain_holder holders.old.items ++ map (holding (key_of key.entry).name) (filter (has_names (key_of key.entry)) (by_name_left sections.entry))) }
-    ensures values { IfOk result (λ _. map (option_map bstring_bytes) values.new.items
-        ≡ map (option_map bstring_bytes) values.old.items
-        ++ flat_map (values_of_name (key_of key.entry).name) (filter (has_names (key_of key.entry)) (by_name_left sections.entry))) }
-{
-    for section in sections {
-        if is_named(&section, key) {
+    for section in file.sections() {
+        if is_listed_under(&section, key)? {
             let count = count_added(values, &section, key.value_name)?;
             let id = section.id();
             holders.push(Holder { id, count })?;
@@ -231,6 +210,59 @@ fn mark_of(value: &Option<BString>, mark: bool, is_missing_meant: bool) -> bool
         Some(_) => mark,
         None => is_missing_meant,
     }
+}
+
+/// The section in which the entry at a place among those of a key is the last one of them.
+///
+/// # Errors
+///
+/// Out of memory.
+pub fn section_of_last(
+    alloc: Global,
+    file: &File,
+    key: KeyRef<'_>,
+    at: usize,
+) -> Result<Option<SectionId>, NoMemory>
+    ensures { IfOk result (λ id. id ≡ last_at at (holders_of (key_of key.entry) file.now)) }
+{
+    let (mut holders, mut values) = (Vec::new(alloc), Vec::new(alloc));
+    add_entries(&mut holders, &mut values, file, key)?;
+    Ok(last_at(&holders, at))
+}
+
+/// The section in which the entry at a place is the last one, of sections that have so many.
+fn last_at(holders: &[Holder], at: usize) -> Option<SectionId>
+    ensures { result ≡ last_at at (map plain_holder holders.now) }
+{
+    let (mut left, mut behind) = (holders, at);
+    while let Some((holder, others)) = left.split_first() {
+        if behind < holder.count {
+            return if behind + 1 == holder.count {
+                Some(holder.id)
+            } else {
+                None
+            };
+        }
+        behind -= holder.count;
+        left = others;
+    }
+    None
+}
+
+/// Whether all sections that have entries of a key have its names, and none is as `[a.b "c"]`.
+///
+/// # Errors
+///
+/// Out of memory.
+pub fn are_named(file: &File, key: KeyRef<'_>) -> Result<bool, AllocError>
+    ensures { IfOk result (λ are. are ≡ are_named (key_of key.entry) file.now) }
+{
+    for section in file.sections() {
+        if is_listed_under(&section, key)? && !is_named(&section, key) {
+            return Ok(false);
+        }
+    }
+    Ok(true)
 }
 
 /// Removes the entries of a name that are meant, from each section in one walk.

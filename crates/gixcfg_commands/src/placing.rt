@@ -1,93 +1,79 @@
-//! Where the text is for which a load of several files is refused: a refusal doesn't name its file.
+//! Where the text is for which a load of several files is refused.
 
+use gix_config::file::includes;
+use gix_config::file::init::{self, from_paths};
 use gix_config::parse::Error;
+use gix_config::refusals::Refusal;
 use gix_config::{File, NoMemory};
-use gixcfg_core::included::included_by;
 use gixcfg_core::outside::{Outside, refused};
+use gixcfg_core::refusals::trouble_of;
 use gixcfg_core::texts::text_at;
 use gixcfg_core::trouble::Trouble;
-use std::alloc::{AllocGlobal, Global};
+use std::alloc::AllocGlobal;
 use std::rt::Files;
 
-/// How many files are read again.
-const MOST: usize = 1000;
-
-/// What a file that is read again has.
-#[derive(Drop)]
-enum Seen {
-    /// The text that was refused, as it is reported.
-    Refused(Trouble),
-    /// Another text, with the paths that it includes.
-    Includes(Vec<String>),
+/// The trouble that a refusal of a load of files is: with its place, if a text is refused.
+pub fn refused_paths<R: Files + AllocGlobal>(
+    rt: &R,
+    refusal: &from_paths::Error,
+    outside: Outside<'_>,
+) -> Trouble {
+    match refusal {
+        from_paths::Error::Init {
+            path,
+            source: init::Error::Parse(cause),
+        } => placed(rt, path, cause, outside),
+        from_paths::Error::Init { source, .. } => refused_init(rt, source, outside),
+        _ => trouble_of(rt.alloc(), refusal.number(), refusal),
+    }
 }
 
-/// What is reported of the first of these files, and then of those that they may include, whose text is refused for this cause; none if
-/// none is, as when a file was written since. Conditions of includes aren't asked, so where two files have the same fault at the same
-/// line, with the same text after it, the first is named, though it may not have been read.
-///
-/// # Errors
-///
-/// Out of memory.
-pub fn placed<R: Files + AllocGlobal>(
+/// The trouble that a refusal of a file with what it includes is: with its place, if an included text is refused.
+pub fn refused_init<R: Files + AllocGlobal>(
     rt: &R,
-    paths: Vec<String>,
+    refusal: &init::Error,
+    outside: Outside<'_>,
+) -> Trouble {
+    match refusal {
+        init::Error::Includes(includes::Error::Parse { path, source }) => {
+            placed(rt, path, source, outside)
+        }
+        _ => trouble_of(rt.alloc(), refusal.number(), refusal),
+    }
+}
+
+/// The trouble that the parser's refusal of the file at a path is: with its place, if the file is as it was then.
+fn placed<R: Files + AllocGlobal>(
+    rt: &R,
+    path: &str,
+    cause: &Error,
+    outside: Outside<'_>,
+) -> Trouble {
+    match refused_again(rt, path, cause, outside) {
+        Ok(Some(trouble)) => trouble,
+        Ok(None) => trouble_of(rt.alloc(), cause.number(), cause),
+        Err(_) => Trouble::Memory,
+    }
+}
+
+/// The trouble with its place, which is looked for in the text; none if the file isn't as it was.
+fn refused_again<R: Files + AllocGlobal>(
+    rt: &R,
+    path: &str,
     cause: &Error,
     outside: Outside<'_>,
 ) -> Result<Option<Trouble>, NoMemory> {
-    let mut paths = paths;
-    for at in 0..MOST {
-        let Some(path) = paths.get(at) else {
-            return Ok(None);
-        };
-        match look_at(rt, path.as_str(), cause, outside)? {
-            Seen::Refused(trouble) => return Ok(Some(trouble)),
-            Seen::Includes(more) => add_all(&mut paths, more)?,
-        }
+    let Some(text) = text_at(rt, path)? else {
+        return Ok(None);
+    };
+    let Err(refusal) = File::try_from_bytes(rt.alloc(), &text) else {
+        return Ok(None);
+    };
+    if refusal.is_memory() {
+        return Err(NoMemory);
     }
-    Ok(None)
-}
-
-/// Adds paths to others.
-fn add_all(paths: &mut Vec<String>, more: Vec<String>) -> Result<(), NoMemory> {
-    for path in more {
-        paths.push(path)?;
+    if refusal != *cause {
+        return Ok(None);
     }
-    Ok(())
-}
-
-/// Reads a file again.
-fn look_at<R: Files + AllocGlobal>(
-    rt: &R,
-    path: &str,
-    cause: &Error,
-    outside: Outside<'_>,
-) -> Result<Seen, NoMemory> {
-    match text_at(rt, path)? {
-        Some(text) => seen_in(rt.alloc(), path, &text, cause, outside),
-        None => Ok(Seen::Includes(Vec::new(rt.alloc()))),
-    }
-}
-
-/// What the text of a file has.
-fn seen_in(
-    alloc: Global,
-    path: &str,
-    text: &[u8],
-    cause: &Error,
-    outside: Outside<'_>,
-) -> Result<Seen, NoMemory> {
-    match File::try_from_bytes(alloc, text) {
-        Ok(file) => seen_of(alloc, path, &file, outside),
-        Err(refusal) if refusal.is_memory() => Err(NoMemory),
-        Err(refusal) if refusal == *cause => {
-            Ok(Seen::Refused(refused(alloc, path, text, &refusal, outside)))
-        }
-        Err(_) => Ok(Seen::Includes(Vec::new(alloc))),
-    }
-}
-
-/// What a file includes.
-fn seen_of(alloc: Global, path: &str, file: &File, outside: Outside<'_>) -> Result<Seen, NoMemory> {
-    let paths = included_by(alloc, file.sections(), Some(path), outside.home)?;
-    Ok(Seen::Includes(paths))
+    Ok(Some(refused(rt.alloc(), path, &text, &refusal, outside)))
 }

@@ -1,4 +1,4 @@
-//! `get` and `list` with options.
+//! `get`, `list` and `print`.
 ghost use Rattle.std.specs.Prelude.{◌≡◌, IfOk, None, map};
 ghost use Rattle.gixcfg_core.specs.Entries.{plain_found};
 ghost use Rattle.gixcfg_commands.specs.Getting.{AreFound, AreMeantLines, IsSought};
@@ -7,15 +7,18 @@ use crate::at_once::{key_alone, last_line};
 use crate::effective::effective;
 use crate::entries::{all_entries, all_lines, entries_like, entries_meant, entries_of};
 use crate::including::included;
+use crate::library;
 use crate::loads::Loads;
 use gix_config::{File, KeyRef};
 use gixcfg_core::entries::Found;
 use gixcfg_core::for_url::{Variables, entries_for_url};
 use gixcfg_core::origins::Located;
 use gixcfg_core::outside::{Inputs, accepted};
+use gixcfg_core::streams::read_all;
 use gixcfg_core::telling::{lines_of_all, lines_of_found};
 use gixcfg_core::trouble::Trouble;
-use gixcfg_words::command::{Form, Get, List, Reading, Source, Wanted};
+use gixcfg_words::command::{Form, Get, List, Reading, Source, Target, Wanted};
+use gixcfg_words::rules::Rules;
 use std::alloc::{AllocGlobal, Global};
 use std::io::Read;
 use std::rt::{Env, Files};
@@ -27,6 +30,8 @@ pub enum Asked<'a> {
     Get(&'a Get<'a>),
     /// All entries.
     List(&'a List<'a>),
+    /// Standard input.
+    Input,
 }
 
 impl<'a> Asked<'a> {
@@ -35,6 +40,7 @@ impl<'a> Asked<'a> {
         match self {
             Asked::Get(get) => get.reading.source,
             Asked::List(list) => list.reading.source,
+            Asked::Input => Source::Target(Target::Input),
         }
     }
 }
@@ -44,7 +50,7 @@ impl<'a> Asked<'a> {
 /// # Errors
 ///
 /// Nothing is found that was asked for, or more than one may print; what is read is missing or refused; out of memory.
-pub fn answer<R: Files + Env + Loads + AllocGlobal, I: Read + Drop>(
+pub fn answer<R: Files + Env + Loads + AllocGlobal + Copy, I: Read + Drop>(
     inputs: &mut Inputs<'_, R, I>,
     asked: Asked<'_>,
     read: &Located,
@@ -52,6 +58,11 @@ pub fn answer<R: Files + Env + Loads + AllocGlobal, I: Read + Drop>(
     match asked {
         Asked::Get(call) => get(inputs, call, read),
         Asked::List(call) => list(inputs, call, read),
+        Asked::Input => {
+            let alloc = inputs.rt.alloc();
+            let file = library::load(alloc, read_all(alloc, &mut inputs.input)?)?;
+            Ok(file.to_bstring()?.into_vec())
+        }
     }
 }
 
@@ -67,11 +78,14 @@ enum Sought<'a> {
 }
 
 /// The lines that `get` prints, of a file that may be missing.
-fn get<R: Files + Env + Loads + AllocGlobal, I: Read + Drop>(
+fn get<R: Files + Env + Loads + AllocGlobal + Copy, I: Read + Drop>(
     inputs: &mut Inputs<'_, R, I>,
     get: &Get<'_>,
     read: &Located,
 ) -> Result<Vec<u8>, Trouble> {
+    if let (Rules::Library, Wanted::Key(key)) = (inputs.rules, get.wanted) {
+        return library::values(inputs, key, get, read);
+    }
     if let Some(key) = key_alone(get, read) {
         return last_line(inputs, key, &get.form, read);
     }
@@ -138,6 +152,9 @@ fn list<R: Files + Env + Loads + AllocGlobal, I: Read + Drop>(
     read: &Located,
 ) -> Result<Vec<u8>, Trouble> {
     let (alloc, home) = (inputs.rt.alloc(), inputs.outside.home);
+    if inputs.rules == Rules::Library {
+        return library::entries(alloc, read_all(alloc, &mut inputs.input)?);
+    }
     match (file_at(inputs, &list.reading, read)?, list.form.kind) {
         (Some(file), None) => all_lines(alloc, &file, &list.form, read),
         (Some(file), Some(_)) => {

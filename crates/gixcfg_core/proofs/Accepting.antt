@@ -1,5 +1,5 @@
 -- What is said of what was made of a text is said of what is passed on.
-use Rattle.std.proofs.Common.{◌≡◌, ℕ, Bool, List, Result, Ok, Err, IfErr, sym, subst}
+use Rattle.std.proofs.Common.{ℕ, Bool, List, Result, Ok, Err, IfErr, sym, subst}
 use Rattle.std.specs.Prelude.{IfOk}
 use Rattle.gitconf_read.specs.EventResult.{IsRefused}
 use Rattle.gitconf_read.specs.ParseError.{Refusal}

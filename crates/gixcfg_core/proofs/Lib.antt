@@ -7,6 +7,8 @@ mod Digits
 mod Choices
 mod Told
 mod Negated
+mod CStringLemmas
 mod Folding
+mod PosixLemmas
 mod UrlLemmas
 mod CommentLemmas

@@ -1,14 +1,18 @@
--- The lines of a text, from where a line feed was found in it.
+-- The lines of a text, from where a line feed was found in it, and what it is up to another byte.
 use Rattle.std.proofs.Common.{◌≡◌, ℕ, zero, suc, ◌+◌, ◌<◌, ◌≤◌, Bool, true, false, List, [], ◌∷◌, length, take, drop, slice_index, refl, sym, ap, ◌∙◌, arith}
 use Rattle.std.proofs.lemmas.List.Folds.{list_any_at}
 use Rattle.std.specs.List.{list_any}
 use Rattle.std.specs.Prelude.{if◌then◌else◌, ◌||◌}
 use Rattle.gixcfg_core.proofs.Choices.{chosen, false_from, left_out}
-use Rattle.gixcfg_core.specs.Line.{is_feed, first_line, last_line, line_from, without_return}
+use Rattle.gixcfg_core.specs.Line.{is_feed, first_line, last_line, line_from, up_to, without_return}
 
--- no line feed stands in a text from one place up to another
+-- no byte that ends a text stands in it from one place up to another
+abbrev pub NoEnd : (ends : ℕ → Bool) (text : List ℕ) (from to : ℕ) → Type 0
+NoEnd ends text from to = (k : ℕ) → from ≤ k → k < to → ¬ (ends (slice_index text k) ≡ true)
+
+-- no line feed does
 abbrev pub NoFeed : (text : List ℕ) (from to : ℕ) → Type 0
-NoFeed text from to = (k : ℕ) → from ≤ k → k < to → ¬ (is_feed (slice_index text k) ≡ true)
+NoFeed = NoEnd is_feed
 
 any_none : (text : List ℕ) → NoFeed text 0 (length text) → list_any is_feed text ≡ false
 any_none [] none = refl
@@ -17,20 +21,20 @@ any_none (b ∷ bs) none = go (is_feed b) (false_from (is_feed b) (none 0 (omega
     go : (v : Bool) → v ≡ false → list_any is_feed bs ≡ false → (v || list_any is_feed bs) ≡ false
     go v e rest = rw (e, rest) refl
 
--- a text without line feeds is its first line
-pub first_none : (text : List ℕ) → NoFeed text 0 (length text) → text ≡ first_line text
-first_none [] none = refl
-first_none (b ∷ bs) none =
-    ap (λ t. b ∷ t) (first_none bs (λ k low high. none (suc k) (omega arith) (omega arith)))
-    ∙ sym (left_out (is_feed b) [] (b ∷ first_line bs) (false_from (is_feed b) (none 0 (omega arith) (omega arith))))
+-- a text without such a byte is all that stands before one
+pub all_none : (ends : ℕ → Bool) (text : List ℕ) → NoEnd ends text 0 (length text) → text ≡ up_to ends text
+all_none ends [] none = refl
+all_none ends (b ∷ bs) none =
+    ap (λ t. b ∷ t) (all_none ends bs (λ k low high. none (suc k) (omega arith) (omega arith)))
+    ∙ sym (left_out (ends b) [] (b ∷ up_to ends bs) (false_from (ends b) (none 0 (omega arith) (omega arith))))
 
--- the first line ends at the first line feed
-pub first_at : (text : List ℕ) (k : ℕ) → k < length text → NoFeed text 0 k → is_feed (slice_index text k) ≡ true → take k text ≡ first_line text
-first_at [] k within none feed = absurd (omega (arith, within))
-first_at (b ∷ bs) zero within none feed = sym (chosen (is_feed b) [] (b ∷ first_line bs) feed)
-first_at (b ∷ bs) (suc k) within none feed =
-    ap (λ t. b ∷ t) (first_at bs k (omega arith) (λ j low high. none (suc j) (omega arith) (omega arith)) feed)
-    ∙ sym (left_out (is_feed b) [] (b ∷ first_line bs) (false_from (is_feed b) (none 0 (omega arith) (omega arith))))
+-- what stands before such a byte ends at the first
+pub ended_at : (ends : ℕ → Bool) (text : List ℕ) (k : ℕ) → k < length text → NoEnd ends text 0 k → ends (slice_index text k) ≡ true → take k text ≡ up_to ends text
+ended_at ends [] k within none is_end = absurd (omega (arith, within))
+ended_at ends (b ∷ bs) zero within none is_end = sym (chosen (ends b) [] (b ∷ up_to ends bs) is_end)
+ended_at ends (b ∷ bs) (suc k) within none is_end =
+    ap (λ t. b ∷ t) (ended_at ends bs k (omega arith) (λ j low high. none (suc j) (omega arith) (omega arith)) is_end)
+    ∙ sym (left_out (ends b) [] (b ∷ up_to ends bs) (false_from (ends b) (none 0 (omega arith) (omega arith))))
 
 -- a text without line feeds is its last line
 pub last_none : (text : List ℕ) → NoFeed text 0 (length text) → text ≡ last_line text
@@ -61,5 +65,5 @@ line_none text none = sym (left_out (list_any is_feed text) (without_return (fir
 -- the line from a text's start ends at the first line feed, or at a carriage return before it
 pub line_at : (text : List ℕ) (k : ℕ) → k < length text → NoFeed text 0 k → is_feed (slice_index text k) ≡ true → without_return (take k text) ≡ line_from text
 line_at text k within none feed =
-    ap without_return (first_at text k within none feed)
+    ap without_return (ended_at is_feed text k within none feed)
     ∙ sym (chosen (list_any is_feed text) (without_return (first_line text)) text (list_any_at is_feed text k 0 within feed))

@@ -12,9 +12,10 @@ first_parts head bold file colon line column blank red what plain why tail bold'
     rw (is_bold, is_red, is_what, is_plain, is_why) simp (append_assoc, append-nil)
 
 -- the parts of the message
-pub message_parts : (first before behind feed under red caret plain first' before' behind' under' red' plain' : List ℕ) →
-    first ≡ first' → before ≡ before' → behind ≡ behind' → under ≡ under' → red ≡ red' → plain ≡ plain' →
-    concat (first ∷ before ∷ behind ∷ feed ∷ under ∷ red ∷ caret ∷ plain ∷ feed ∷ [])
-    ≡ concat (first' ∷ before' ∷ behind' ∷ feed ∷ under' ∷ red' ∷ caret ∷ plain' ∷ feed ∷ [])
-message_parts first before behind feed under red caret plain first' before' behind' under' red' plain' is_first is_before is_behind is_under is_red is_plain =
-    rw (is_first, is_before, is_behind, is_under, is_red, is_plain) refl
+pub message_parts : (first dots before behind more feed blanks under red caret plain first' dots' before' behind' more' blanks' under' red' plain' : List ℕ) →
+    first ≡ first' → dots ≡ dots' → before ≡ before' → behind ≡ behind' → more ≡ more' → blanks ≡ blanks' → under ≡ under' → red ≡ red' → plain ≡ plain' →
+    concat (first ∷ dots ∷ before ∷ behind ∷ more ∷ feed ∷ blanks ∷ under ∷ red ∷ caret ∷ plain ∷ feed ∷ [])
+    ≡ concat (first' ∷ dots' ∷ before' ∷ behind' ∷ more' ∷ feed ∷ blanks' ∷ under' ∷ red' ∷ caret ∷ plain' ∷ feed ∷ [])
+message_parts first dots before behind more feed blanks under red caret plain first' dots' before' behind' more' blanks' under' red' plain'
+    is_first is_dots is_before is_behind is_more is_blanks is_under is_red is_plain =
+    rw (is_first, is_dots, is_before, is_behind, is_more, is_blanks, is_under, is_red, is_plain) refl

@@ -13,6 +13,7 @@ use Rattle.gitconf_text.specs.Value.{plain}
 use Rattle.gitconf_sources.specs.Key.{Key}
 use Rattle.gitconf_state.specs.Lookup.{is_named, listing}
 use Rattle.gitconf_state.specs.State.{SectionState, entries_of}
+use Rattle.gixcfg_core.specs.CStrings.{c_string}
 use Rattle.gixcfg_core.specs.declared.entries.Found.{Found}
 use Rattle.gixcfg_core.specs.declared.lines.Line.{Line}
 
@@ -35,14 +36,14 @@ is_listed_under key s =
 abbrev pub key_text : (section : List ℕ) (subsection : Option (List ℕ)) (name : List ℕ) → List ℕ
 key_text section subsection name = section_names section subsection ++ fold name
 
--- a value as it is printed after the names, or alone; nothing if there is none, or if values aren't printed
+-- a value as it is printed after the names, or alone: up to its first byte 0; nothing if there is none, or if values aren't printed
 abbrev pub value_part : Line → Option (List ℕ) → List ℕ
 value_part line None = []
-value_part line (Some value) = if line.has_value then (if line.has_names then line.between ∷ value else value) else []
+value_part line (Some value) = if line.has_value then (if line.has_names then line.between ∷ c_string value else c_string value) else []
 
--- names, where they are printed
+-- names, where they are printed: up to their first byte 0
 abbrev pub names_part : Line → List ℕ → List ℕ
-names_part line names = if line.has_names then names else []
+names_part line names = if line.has_names then c_string names else []
 
 -- the line of an entry: what is printed before it, its names, its value, and what ends it
 abbrev pub line_of : Line → (before names : List ℕ) → (value : Option (List ℕ)) → List ℕ

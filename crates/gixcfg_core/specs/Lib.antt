@@ -4,11 +4,13 @@ pub mod Line
 pub mod Message
 pub mod Reason
 pub mod Colors
+pub mod CStrings
 pub mod Comments
 pub mod Dates
 pub mod Numbers
 pub mod Origins
 pub mod Patterns
+pub mod Posix
 pub mod Telling
 pub mod Troubles
 pub mod Typed

@@ -2,7 +2,8 @@
 use Rattle.std.specs.Prelude.{ℕ, ◌+◌, Bool, List, [], ◌∷◌, ◌++◌, length, drop, Option, Some, None, if◌then◌else◌, codes}
 use Rattle.std.specs.Fmt.{decimal}
 use Rattle.std.specs.List.{concat}
-use Rattle.gixcfg_core.specs.Line.{before_place, behind_place, line_at, shown, under}
+use Rattle.bstr.specs.Utf8.{lossy_chars}
+use Rattle.gixcfg_core.specs.Line.{is_cut_before, is_cut_behind, line_at, line_before, shown, shown_before, shown_behind, under}
 use Rattle.gixcfg_core.specs.Reason.{bytes_before_fault, wanted, name_of, reason_of, words_of}
 use Rattle.gixcfg_core.specs.declared.reason.Reason.{Reason}
 use Rattle.gixcfg_core.specs.declared.message.Refused.{Refused}
@@ -38,10 +39,17 @@ first_row refused line column is_colored =
 abbrev pub left_of : Refused → ℕ
 left_of refused = length (drop (bytes_before_fault (wanted refused.kind.now refused.rest.now) refused.rest.now) refused.rest.now)
 
--- the message: the first row, the line of the text, and a mark under the place
+-- what stands for the part of a line that is left out, and what is as wide as that
+abbrev pub dots : (is_cut : Bool) → List ℕ
+dots is_cut = if is_cut then codes "..." else []
+
+abbrev pub blanks : (is_cut : Bool) → List ℕ
+blanks is_cut = if is_cut then codes "   " else []
+
+-- the message: the first row, the line of the text around the place, and a mark under the place
 abbrev pub message_of : Refused → Bool → List ℕ
 message_of refused is_colored =
-    let before = before_place refused.text.now (left_of refused) in
-    concat (first_row refused (line_at refused.text.now (left_of refused)) (length before + 1) is_colored
-    ∷ shown before ∷ shown (behind_place refused.text.now (left_of refused)) ∷ codes "\n"
-    ∷ under before ∷ colors is_colored red ∷ codes "^" ∷ colors is_colored plain ∷ codes "\n" ∷ [])
+    let text = refused.text.now in let left = left_of refused in
+    concat (first_row refused (line_at text left) (length (lossy_chars (line_before text left)) + 1) is_colored
+    ∷ dots (is_cut_before text left) ∷ shown (shown_before text left) ∷ shown (shown_behind text left) ∷ dots (is_cut_behind text left) ∷ codes "\n"
+    ∷ blanks (is_cut_before text left) ∷ under (shown_before text left) ∷ colors is_colored red ∷ codes "^" ∷ colors is_colored plain ∷ codes "\n" ∷ [])

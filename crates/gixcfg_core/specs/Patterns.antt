@@ -1,6 +1,6 @@
--- Which values and which keys a call means. What a pattern is, and where it is found, is what the kit's `regex` says.
+-- Which values and which keys a call means. Posix.antt has what a pattern is in the syntax of the kit's `regex`, which says where it is found.
 -- Source: the manual page of `git-config`, `--value`, `--fixed-value` and `--regexp`.
-use Rattle.std.specs.Prelude.{◌≡◌, ◌≢◌, ◌⊎◌, ℕ, Bool, true, false, not, ◌==◌, List, [], ◌∷◌, ◌++◌, Option, Some, None, is_some, codes, if◌then◌else◌}
+use Rattle.std.specs.Prelude.{◌≡◌, ◌≢◌, ◌⊎◌, ℕ, Bool, true, false, not, ◌==◌, List, [], ◌∷◌, ◌++◌, Option, Some, None, chars, is_some, if◌then◌else◌}
 use Rattle.std.specs.List.{list_any}
 use Rattle.std.specs.Str.{bytes_eq}
 use Rattle.regex.specs.Bytes.{IsReadFromSource, regex_config, regex_pattern, regex_source}
@@ -13,28 +13,34 @@ use Rattle.regex.specs.declared.error.Error.TheVariants.{OutOfMemory}
 use Rattle.gitconf_text.specs.Bytes.{fold}
 use Rattle.gixcfg_words.specs.declared.command.Values.{Values}
 use Rattle.gixcfg_words.specs.declared.command.Values.TheVariants.{Any, Equal, Matching}
+use Rattle.gixcfg_core.specs.CStrings.{c_string}
+use Rattle.gixcfg_core.specs.Posix.{translated}
 
--- the pattern of a regex is found in a text
+-- the pattern of a regex is found in a text, as far as git hands that on
 abbrev pub is_found : Regex → (text : List ℕ) → Bool
-is_found regex text = is_some (find (regex_pattern regex) text 0)
+is_found regex text = is_some (find (regex_pattern regex) (c_string text) 0)
 
 -- patterns are of bytes
 abbrev pub of_bytes : Config
 of_bytes = record default_config { utf8 = false }
 
--- a pattern as it is read: a dot stands for a line feed too
-abbrev pub source_of : (pattern : List ℕ) → List ℕ
-source_of pattern = codes "(?s)" ++ pattern
-
--- the regex is what a pattern is read as
-pub record IsRegexOf (pattern : List ℕ) (regex : Regex) : Type 0 where
-  pub source : regex_source regex ≡ source_of pattern
+-- the regex is what a source in the kit's syntax is read as
+pub record IsReadAs (source : List ℕ) (regex : Regex) : Type 0 where
+  pub same : regex_source regex ≡ source
   pub config : regex_config regex ≡ of_bytes
   pub read : IsReadFromSource regex
 
+-- a source is refused, or too big
+abbrev pub IsNoSource : (source : List ℕ) → Type 0
+IsNoSource source = (why : Error) × IsRefusal of_bytes source why × IsRightKind of_bytes source why × (why ≢ OutOfMemory)
+
+-- the regex is what a pattern is read as
+abbrev pub IsRegexOf : (pattern : List ℕ) → Regex → Type 0
+IsRegexOf pattern regex = (source : List ℕ) × (translated (chars pattern) ≡ Some source) × IsReadAs source regex
+
 -- a text is no pattern, or one that is too big
 abbrev pub IsNoPattern : (pattern : List ℕ) → Type 0
-IsNoPattern pattern = (why : Error) × IsRefusal of_bytes (source_of pattern) why × IsRightKind of_bytes (source_of pattern) why × (why ≢ OutOfMemory)
+IsNoPattern pattern = (translated (chars pattern) ≡ None) ⊎ ((source : List ℕ) × (translated (chars pattern) ≡ Some source) × IsNoSource source)
 
 -- no byte of a text is a dot
 abbrev pub HasNoDot : (text : List ℕ) → Type 0
@@ -75,10 +81,10 @@ as_wanted false is_found = not is_found
 abbrev pub passes : Regex → (is_wanted : Bool) → (text : List ℕ) → Bool
 passes regex is_wanted text = as_wanted is_wanted (is_found regex text)
 
--- a value is this text, if there is one
+-- a value is this text, if there is one, as far as git hands it on
 abbrev pub is_text : (text : Option (List ℕ)) → (value : List ℕ) → Bool
 is_text None value = true
-is_text (Some text) value = bytes_eq value text
+is_text (Some text) value = bytes_eq (c_string value) text
 
 -- a test says which values are meant: all; those that are a text; those in which a pattern is found or isn't
 abbrev pub Means : Values → (test : List ℕ → Bool) → Type 0

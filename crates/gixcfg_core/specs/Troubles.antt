@@ -32,6 +32,10 @@ status_of kinds.Several = 5
 status_of kinds.NoEntry = 5
 status_of kinds.Memory = 5
 
+-- the status of a refusal by the library, by its number: 5 for out of memory, 4 if a file can't be opened or read, else 3
+abbrev pub refusal_status : (number : ℕ) → ℕ
+refusal_status number = if number == 27 then 5 else (if ltb 18 number && ltb number 22 then 4 else 3)
+
 -- the trouble that a value is which isn't of the type
 abbrev pub of_type : TypeFault → Trouble
 of_type (types.Refused refusal) = kinds.Untyped refusal

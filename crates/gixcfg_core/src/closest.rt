@@ -12,7 +12,7 @@ struct Candidate {
     specificity: Specificity,
 }
 
-/// The best entry of each name that was put in, in the order of their names.
+/// Entries of sections that match, in the order in which they were put in.
 #[derive(Drop)]
 pub struct Closest {
     candidates: Vec<Candidate>,
@@ -26,46 +26,51 @@ impl Closest {
         }
     }
 
-    /// Puts in an entry whose section matches so closely. It takes the place of one of its name, unless that matches more closely.
+    /// Puts in an entry whose section matches so closely.
     ///
     /// # Errors
     ///
     /// Out of memory.
     pub fn put(&mut self, entry: Found, specificity: Specificity) -> Result<(), NoMemory> {
-        let place = self.candidates.binary_search_by(|candidate| candidate
-            .entry
-            .names
-            .as_slice()
-            .cmp(entry.names.as_slice()));
-        let candidate = Candidate { entry, specificity };
-        match place {
-            Ok(place) => self.put_beside(place, candidate),
-            Err(place) => self.candidates.insert(place, candidate)?,
-        }
+        self.candidates.push(Candidate { entry, specificity })?;
         Ok(())
     }
 
-    /// Puts in the candidate in place of the one that is there, unless that matches more closely.
-    fn put_beside(&mut self, place: usize, candidate: Candidate) {
-        if let Some(there) = self.candidates.get_mut(place) {
-            if candidate.specificity.is_at_least(&there.specificity) {
-                *there = candidate;
-            }
-        }
-    }
-
-    /// The entries.
+    /// Of each name the entry whose section matches most closely, of several that match alike the last one; in the order of their names.
     ///
     /// # Errors
     ///
     /// Out of memory.
     pub fn into_entries(self, alloc: Global) -> Result<Vec<Found>, NoMemory> {
-        let Closest { candidates } = self;
-        let mut entries = Vec::with_capacity(alloc, candidates.len())?;
+        let Closest { mut candidates } = self;
+        candidates.sort_by(|one, other| one
+            .entry
+            .names
+            .as_slice()
+            .cmp(other.entry.names.as_slice()))?;
+        let mut best = Vec::new(alloc);
         for candidate in candidates {
+            add_unless_worse(&mut best, candidate)?;
+        }
+        let mut entries = Vec::with_capacity(alloc, best.len())?;
+        for candidate in best {
             let Candidate { entry, .. } = candidate;
             entries.push(entry)?;
         }
         Ok(entries)
     }
+}
+
+/// Adds a candidate. If the last one has its name, it takes that one's place, unless that matches more closely.
+fn add_unless_worse(best: &mut Vec<Candidate>, candidate: Candidate) -> Result<(), NoMemory> {
+    if let Some(last) = best.last_mut() {
+        if last.entry.names.as_slice() == candidate.entry.names.as_slice() {
+            if candidate.specificity.is_at_least(&last.specificity) {
+                *last = candidate;
+            }
+            return Ok(());
+        }
+    }
+    best.push(candidate)?;
+    Ok(())
 }

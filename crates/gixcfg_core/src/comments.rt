@@ -130,13 +130,44 @@ fn next_part(part: Part, event: &EventRef<'_>, key: KeyRef<'_>) -> Part {
 
 /// What comes after a header.
 fn part_of_header(name: &[u8], subsection_name: Option<&[u8]>, key: KeyRef<'_>) -> Part {
-    if name.eq_ignore_ascii_case(key.section_name.as_bytes())
-        && subsection_name == key.subsection_name
-    {
+    let has_names = name.eq_ignore_ascii_case(key.section_name.as_bytes())
+        && subsection_name == key.subsection_name;
+    if has_names || is_alike(name, subsection_name, key) {
         Part::Section
     } else {
         Part::Outside
     }
+}
+
+/// Whether names as those of `[a.b "c"]` look like those of a key with all dots, so that `get` finds its entries there.
+fn is_alike(name: &[u8], subsection_name: Option<&[u8]>, key: KeyRef<'_>) -> bool {
+    match (subsection_name, key.subsection_name) {
+        (Some(subsection_name), Some(wanted)) => {
+            let section_name = key.section_name.as_bytes();
+            match behind_dot(name, section_name.len()) {
+                Some(rest) => {
+                    before(name, section_name.len()).eq_ignore_ascii_case(section_name)
+                        && is_in_lower_case(rest, before(wanted, rest.len()))
+                        && behind_dot(wanted, rest.len()) == Some(subsection_name)
+                }
+                None => false,
+            }
+        }
+        _ => false,
+    }
+}
+
+/// What stands behind a dot at a place, if there is one.
+fn behind_dot(text: &[u8], at: usize) -> Option<&[u8]> {
+    match after(text, at) {
+        [b'.', rest @ ..] => Some(rest),
+        _ => None,
+    }
+}
+
+/// Whether a text is another one in lower case.
+fn is_in_lower_case(text: &[u8], other: &[u8]) -> bool {
+    text.eq_ignore_ascii_case(other) && !other.iter().any(|byte| byte.is_ascii_uppercase())
 }
 
 /// What comes after the name of an entry.

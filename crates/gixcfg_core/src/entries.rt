@@ -1,5 +1,5 @@
 //! The entries of a section, with those that have no value.
-ghost use Rattle.std.specs.Prelude.{◌≡◌, ◌++◌, ◌∷◌, [], map, true, None, option_map, IfOk, Some, if◌then◌else◌};
+ghost use Rattle.std.specs.Prelude.{drop, length, take, ◌≤◌, ◌≡◌, ◌++◌, ◌∷◌, ℕ, List, [], map, true, None, option_map, IfOk, Some, if◌then◌else◌};
 ghost use Rattle.std.specs.Option.{option_copied};
 ghost use Rattle.bstr.specs.Owned.{bstring_bytes};
 ghost use Rattle.gitconf_text.specs.Bytes.{fold};
@@ -10,8 +10,10 @@ ghost use Rattle.gitconf_items.specs.Items.{entry_of};
 ghost use Rattle.gitconf_sources.specs.Key.{key_of};
 ghost use Rattle.gitconf_state.specs.Lookup.{is_named, listing};
 ghost use Rattle.gitconf_views.specs.Views.{shown};
+ghost use Rattle.gixcfg_core.specs.CStrings.{c_string, has_null};
 ghost use Rattle.gixcfg_core.specs.Entries.{found_in, found_of, has_dot, is_listed_under, is_sought, names_part, plain_found, section_lines, section_names, value_part, values_of_name};
 
+use crate::c_strings::c_string;
 use crate::lines::{Line, add_value};
 use crate::names::{add_in_lower_case, add_names, add_section_names};
 use bstr::BString;
@@ -167,37 +169,72 @@ pub fn add_lines(
 }
 
 /// What the lines of a section's entries begin with.
-fn head_of(line: &Line, before: &[u8], section: &SectionRef<'_>) -> Result<Vec<u8>, NoMemory>
+#[derive(Drop)]
+struct Head {
+    /// What is printed before an entry, and the names of its section.
+    text: Vec<u8>,
+    /// Whether the entry's own name comes behind that.
+    has_name: bool,
+}
+
+/// The same of a section.
+fn head_of(line: &Line, before: &[u8], section: &SectionRef<'_>) -> Result<Head, NoMemory>
     ensures { let header = (shown section.now).header in
-        IfOk result (λ head. head.items ≡ before.now ++ names_part line.now (section_names (name_of header) (subsection_of header))) }
+        IfOk result (λ head. (name : List ℕ) → head.text.items ++ (if head.has_name then c_string name else [])
+        ≡ before.now ++ names_part line.now (section_names (name_of header) (subsection_of header) ++ name)) }
 {
-    let header = section.header();
-    let mut head = before.to_vec(section.alloc)?;
-    if line.has_names {
-        add_section_names(&mut head, header.name(), header.subsection_name())?;
+    let mut text = before.to_vec(section.alloc)?;
+    if !line.has_names {
+        return Ok(Head {
+            text,
+            has_name: false,
+        });
     }
-    Ok(head)
+    let header = section.header();
+    add_section_names(&mut text, header.name(), header.subsection_name())?;
+    let has_name = !end_at_null(&mut text, before.len());
+    Ok(Head { text, has_name })
+}
+
+/// Ends a text at the first byte 0 from an offset on, and returns whether there was one.
+fn end_at_null(text: &mut Vec<u8>, from: usize) -> bool
+    requires { from ≤ length text.old.items }
+    ensures had { result ≡ has_null (drop from text.old.items) }
+    ensures ended { text.new.items ≡ take from text.old.items ++ c_string (drop from text.old.items) }
+{
+    let ended = text.as_slice().split_at(from).1;
+    let kept = c_string(ended).len();
+    let had = kept < ended.len();
+    text.truncate(from + kept);
+    had
 }
 
 /// Adds the line of an entry, which begins with this.
 fn add_line(
     lines: &mut Vec<u8>,
     line: &Line,
-    head: &[u8],
+    head: &Head,
     section: &SectionRef<'_>,
     entry: &Entry,
 ) -> Result<(), NoMemory>
     ensures { let e = document_entry (entry_of section.now.buffer.now entry.now) in
         IfOk result (λ _. lines.new.items ≡ lines.old.items
-        ++ (head.now ++ (names_part line.now (fold e.name) ++ (value_part line.now (option_map plain e.raw) ++ line.now.end ∷ [])))) }
+        ++ (head.now.text.items ++ ((if head.now.has_name then c_string (fold e.name) else []) ++ (value_part line.now (option_map plain e.raw) ++ line.now.end ∷ [])))) }
 {
-    lines.extend_from_slice(head)?;
-    if line.has_names {
-        add_in_lower_case(lines, entry.name().bytes_in(section.buffer))?;
+    lines.extend_from_slice(&head.text)?;
+    if head.has_name {
+        add_name(lines, entry.name().bytes_in(section.buffer))?;
     }
     add_meaning(lines, line, section, entry)?;
     lines.push(line.end)?;
     Ok(())
+}
+
+/// Adds the name of an entry in lower case.
+fn add_name(lines: &mut Vec<u8>, name: &[u8]) -> Result<(), AllocError>
+    ensures { IfOk result (λ _. lines.new.items ≡ lines.old.items ++ c_string (fold name.now)) }
+{
+    add_in_lower_case(lines, c_string(name))
 }
 
 /// Adds what an entry's value means, as it is printed.

@@ -3,6 +3,7 @@
 //! what is read comes from. All that needs no loaded file, so that it is proved beside the library's loads.
 #![tactic(auto)]
 
+pub mod c_strings;
 pub mod closest;
 pub mod colors;
 pub mod comments;
@@ -11,17 +12,16 @@ pub mod dates;
 pub mod entries;
 pub mod for_url;
 pub mod git_reading;
-pub mod included;
 pub mod lines;
 pub mod message;
 pub mod names;
 pub mod numbers;
 pub mod origins;
-pub mod output;
 pub mod outside;
 pub mod patterns;
 mod place;
 pub mod places;
+mod posix;
 mod reason;
 pub mod refusals;
 pub mod streams;

@@ -1,8 +1,9 @@
-//! Lines of names and values.
+//! Lines of names and values, each up to its first byte 0, so that none looks like the end of an entry.
 ghost use Rattle.std.specs.Prelude.{◌≡◌, ◌++◌, IfOk};
 ghost use Rattle.std.specs.Option.{option_copied};
 ghost use Rattle.gixcfg_core.specs.Entries.{line_of, value_part};
 
+use crate::c_strings::c_string;
 use gixcfg_words::command::Form;
 use std::alloc::AllocError;
 
@@ -72,7 +73,7 @@ pub fn add_entry(
 {
     lines.extend_from_slice(before)?;
     if line.has_names {
-        lines.extend_from_slice(names)?;
+        lines.extend_from_slice(c_string(names))?;
     }
     add_value(lines, line, value)?;
     lines.push(line.end)?;
@@ -96,5 +97,5 @@ pub fn add_value(lines: &mut Vec<u8>, line: &Line, value: Option<&[u8]>) -> Resu
     if line.has_names {
         lines.push(line.between)?;
     }
-    lines.extend_from_slice(value)
+    lines.extend_from_slice(c_string(value))
 }

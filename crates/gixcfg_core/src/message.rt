@@ -1,6 +1,6 @@
 //! The message.
 ghost use Rattle.std.specs.Prelude.{◌≡◌, drop, IfOk, length, string_bytes};
-ghost use Rattle.gixcfg_core.specs.Message.{because as because_lem, colors as colors_lem, first_row as first_row_lem, left_of as left_of_lem, message_of};
+ghost use Rattle.gixcfg_core.specs.Message.{because as because_lem, blanks as blanks_lem, colors as colors_lem, dots as dots_lem, first_row as first_row_lem, left_of as left_of_lem, message_of};
 
 use crate::place::{Place, place_of};
 use crate::reason::{Reason, bytes_before_fault, name_of, reason_of, wanted_of};
@@ -27,8 +27,8 @@ const RED: &str = "\x1b[1;31m";
 
 const PLAIN: &str = "\x1b[m";
 
-/// The message in three lines: the place and what is wrong there, the line of the text, and a mark under the place. The column counts
-/// characters. In a value that is the place of the backslash or of the quote that is wrong, which may be lines below the value's start.
+/// The message in three lines: the place and what is wrong there, the line of the text, with dots for what is left out if it is long, and
+/// a mark under the place. The column counts characters. In a value that is the place of the backslash or of the quote that is wrong, which may be lines below the value's start.
 ///
 /// # Errors
 ///
@@ -38,9 +38,11 @@ pub fn message(alloc: Global, refused: &Refused<'_>, is_colored: bool) -> Result
 {
     let place = place_of(alloc, refused.text, left_of(refused))?;
     let first = first_row(alloc, refused, &place, is_colored)?;
+    let (dots, more) = (dots(place.is_cut_before), dots(place.is_cut_behind));
+    let blanks = blanks(place.is_cut_before);
     let (before, behind, under) = (place.before, place.behind, place.under);
     let (red, plain) = (colors(is_colored, RED), colors(is_colored, PLAIN));
-    format!(in alloc; "{first}{before}{behind}\n{under}{red}^{plain}\n")
+    format!(in alloc; "{first}{dots}{before}{behind}{more}\n{blanks}{under}{red}^{plain}\n")
 }
 
 /// How many bytes of the text are left from what is wrong on.
@@ -78,6 +80,20 @@ fn colors(is_colored: bool, code: &'static str) -> &'static str
     ensures { result.now ≡ colors_lem is_colored code.entry.now }
 {
     if is_colored { code } else { "" }
+}
+
+/// What stands for the part of a line that is left out.
+fn dots(is_cut: bool) -> &'static str
+    ensures { result.now ≡ dots_lem is_cut }
+{
+    if is_cut { "..." } else { "" }
+}
+
+/// What is as wide as that.
+fn blanks(is_cut: bool) -> &'static str
+    ensures { result.now ≡ blanks_lem is_cut }
+{
+    if is_cut { "   " } else { "" }
 }
 
 /// A reason after a colon, or nothing.

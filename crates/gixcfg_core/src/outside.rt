@@ -7,6 +7,7 @@ use crate::streams::read_all;
 use crate::trouble::Trouble;
 use gitconf_read::error::Error;
 use gixcfg_files::read;
+use gixcfg_words::rules::Rules;
 use gixcfg_words::shown::Shown;
 use std::alloc::{AllocError, AllocGlobal, Global};
 use std::io::Read;
@@ -21,7 +22,7 @@ pub struct Outside<'a> {
     pub home: Option<&'a str>,
 }
 
-/// What a call can read: files and variables of its runtime, standard input, and what else lies outside of its words.
+/// What a call can read: files and variables of its runtime, standard input, and what else lies outside of its words; and by whose rules.
 #[derive(Drop)]
 pub struct Inputs<'a, R, I: Read + Drop> {
     /// The runtime.
@@ -30,6 +31,8 @@ pub struct Inputs<'a, R, I: Read + Drop> {
     pub input: I,
     /// What else.
     pub outside: Outside<'a>,
+    /// Whose rules the call follows.
+    pub rules: Rules,
 }
 
 impl<R: Files + AllocGlobal, I: Read + Drop> Inputs<'_, R, I> {

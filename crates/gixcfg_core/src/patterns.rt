@@ -1,12 +1,14 @@
 //! Which values and which keys are meant.
 ghost use Rattle.std.specs.Prelude.{◌≡◌, ◌⊎◌, ◌++◌, ◌∷◌, ℕ, List, Bool, map, not, string_bytes, IfErr, IfOk};
 ghost use Rattle.gitconf_text.specs.Bytes.{fold};
-ghost use Rattle.gixcfg_core.specs.Patterns.{as_wanted, is_found, is_negated, is_text, means_missing, passes, sought, IsFolded, IsNoPattern, IsNoPatternOfKeys, IsRegexOf, IsRegexOfKeys, Means, MeansNothing};
+ghost use Rattle.gixcfg_core.specs.Patterns.{as_wanted, is_found, is_negated, is_text, means_missing, passes, sought, IsFolded, IsNoPattern, IsNoPatternOfKeys, IsNoSource, IsReadAs, IsRegexOf, IsRegexOfKeys, Means, MeansNothing};
 ghost use Rattle.gixcfg_core.specs.declared.trouble.Trouble.TheVariants as kinds;
 ghost use Rattle.regex.specs.Bytes.{matcher_pattern, regex_pattern};
 ghost use Rattle.regex.specs.declared.bytes.regex.Regex.{Regex as ARegex};
 ghost use Rattle.std.specs.Option.{option_copied};
 
+use crate::c_strings::c_string;
+use crate::posix::translated;
 use crate::trouble::Trouble;
 use gixcfg_words::command::Values;
 use regex::Error;
@@ -70,7 +72,7 @@ fn is_text(text: Option<&[u8]>, value: &[u8]) -> bool
     ensures { result ≡ is_text (option_copied text.entry) value.now }
 {
     match text {
-        Some(text) => value == text,
+        Some(text) => c_string(value) == text,
         None => true,
     }
 }
@@ -101,7 +103,7 @@ fn marks_by(
     let mut matcher = regex.matcher(alloc)?;
     let mut marks = Vec::with_capacity(alloc, texts.len())?;
     for text in texts {
-        marks.push(as_wanted(is_wanted, matcher.is_match(text)))?;
+        marks.push(as_wanted(is_wanted, matcher.is_match(c_string(text))))?;
     }
     Ok(marks)
 }
@@ -113,13 +115,23 @@ fn as_wanted(is_wanted: bool, is_found: bool) -> bool
     if is_wanted { is_found } else { !is_found }
 }
 
-/// A pattern, in which a dot stands for a line feed too.
+/// A pattern, as POSIX reads it.
 fn regex_of(alloc: Global, pattern: &str) -> Result<Regex, Trouble>
     ensures read { IfOk result (IsRegexOf pattern.now) }
     ensures refused { IfErr result (λ trouble. (trouble ≡ kinds.Memory) ⊎ ((trouble ≡ kinds.BadPattern) × IsNoPattern pattern.now)) }
 {
-    let pattern = format!(in alloc; "(?s){pattern}")?;
-    match Regex::new(alloc, pattern.as_str()) {
+    match translated(alloc, pattern)? {
+        Some(source) => regex_from(alloc, source.as_str()),
+        None => Err(Trouble::BadPattern),
+    }
+}
+
+/// A source in the syntax of the kit's `regex`.
+fn regex_from(alloc: Global, source: &str) -> Result<Regex, Trouble>
+    ensures read { IfOk result (IsReadAs source.now) }
+    ensures refused { IfErr result (λ trouble. (trouble ≡ kinds.Memory) ⊎ ((trouble ≡ kinds.BadPattern) × IsNoSource source.now)) }
+{
+    match Regex::new(alloc, source) {
         Ok(regex) => Ok(regex),
         Err(Error::OutOfMemory) => Err(Trouble::Memory),
         Err(_) => Err(Trouble::BadPattern),

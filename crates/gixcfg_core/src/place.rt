@@ -1,18 +1,22 @@
 //! The line in which reading stopped, and the mark under it.
-ghost use Rattle.std.specs.Prelude.{◌≡◌, ◌+◌, ◌≤◌, ◌++◌, length, take, map, chars, replicate, IfOk, OnOk, string_bytes};
+ghost use Rattle.std.specs.Prelude.{◌≡◌, ◌+◌, ◌-◌, ◌≤◌, ◌++◌, length, take, drop, map, chars, replicate, IfOk, OnOk, string_bytes};
 ghost use Rattle.std.specs.List.{count_by, flat_map};
 ghost use Rattle.bstr.specs.Utf8.{lossy_chars};
-ghost use Rattle.gixcfg_core.specs.Line.{IsPlaceOf, is_feed, first_line as first_line_lem, last_line as last_line_lem, line_from as line_from_lem, most_shown, shown as shown_lem, shown_char as shown_char_lem, under_char, without_mark as without_mark_lem, without_return as without_return_lem};
+ghost use Rattle.gixcfg_core.specs.Line.{IsPlaceOf, is_feed, first_line as first_line_lem, last_line as last_line_lem, line_from as line_from_lem, most_before, most_behind, shown as shown_lem, shown_char as shown_char_lem, under_char, without_mark as without_mark_lem, without_return as without_return_lem};
 
 use bstr::ByteSlice;
+use gixcfg_words::shown::steers;
 use std::alloc::{AllocError, Global};
 use unicode_width::UnicodeWidthChar;
 
 /// The mark of UTF-8, which is no part of a text.
 const MARK: &[u8] = b"\xef\xbb\xbf";
 
-/// How many bytes of a line are shown at most from the place on.
-const MOST_SHOWN: usize = 200;
+/// How many bytes of a line are shown at most up to the place.
+const MOST_BEFORE: usize = 100;
+
+/// How many of them are shown at most from the place on.
+const MOST_BEHIND: usize = 200;
 
 /// The line in which reading stopped, in two parts, and what comes under the first of them.
 #[derive(Drop)]
@@ -21,9 +25,13 @@ pub struct Place {
     pub line: usize,
     /// How many characters of the line stand before the place, and one more.
     pub column: usize,
+    /// Whether more of the line stands before what is shown.
+    pub is_cut_before: bool,
+    /// Whether more of it stands behind that.
+    pub is_cut_behind: bool,
     /// The line up to the place, as it is shown.
     pub before: String,
-    /// The line from the place on, as it is shown, and cut if it is long.
+    /// The line from the place on, as it is shown.
     pub behind: String,
     /// As wide as the first part.
     pub under: String,
@@ -38,12 +46,16 @@ pub fn place_of(alloc: Global, text: &[u8], left: usize) -> Result<Place, AllocE
     ensures { IfOk result (IsPlaceOf text.now left) }
 {
     let (read, rest) = text.split_at(text.len().saturating_sub(left));
-    let before = shown(alloc, last_line(without_mark(read)))?;
-    let behind = shown(alloc, start_of(line_from(rest)))?;
+    let front = last_line(without_mark(read));
+    let back = line_from(rest);
+    let before = shown(alloc, end_of(front))?;
+    let behind = shown(alloc, start_of(back))?;
     let under = under(alloc, before.as_str())?;
     Ok(Place {
         line: line_of(read),
-        column: column_of(before.as_str()),
+        column: column_of(front),
+        is_cut_before: front.len() > MOST_BEFORE,
+        is_cut_behind: back.len() > MOST_BEHIND,
         before,
         behind,
         under,
@@ -58,8 +70,8 @@ fn line_of(before: &[u8]) -> usize
 }
 
 /// The column of what follows a text in its line.
-fn column_of(before: &str) -> usize
-    ensures { result ≡ length (chars before.now) + 1 }
+fn column_of(before: &[u8]) -> usize
+    ensures { result ≡ length (lossy_chars before.now) + 1 }
 {
     before.chars().count() + 1
 }
@@ -95,12 +107,19 @@ fn line_from(text: &[u8]) -> &[u8]
     }
 }
 
-/// The bytes of a line that are shown.
-fn start_of(line: &[u8]) -> &[u8]
-    ensures { result.now ≡ take most_shown line.now }
+/// The end of what stands before the place, as much as is shown.
+fn end_of(line: &[u8]) -> &[u8]
+    ensures { result.now ≡ drop (length line.now - most_before) line.now }
 {
-    if line.len() > MOST_SHOWN {
-        line.split_at(MOST_SHOWN).0
+    line.split_at(line.len().saturating_sub(MOST_BEFORE)).1
+}
+
+/// The start of what stands from the place on, as much as is shown.
+fn start_of(line: &[u8]) -> &[u8]
+    ensures { result.now ≡ take most_behind line.now }
+{
+    if line.len() > MOST_BEHIND {
+        line.split_at(MOST_BEHIND).0
     } else {
         line
     }
@@ -127,7 +146,7 @@ fn shown(alloc: Global, text: &[u8]) -> Result<String, AllocError>
 fn shown_char(c: char) -> char
     ensures { result ≡ shown_char_lem c }
 {
-    if c.is_control() && c != '\t' {
+    if steers(c) && c != '\t' {
         '\u{fffd}'
     } else {
         c

@@ -60,17 +60,6 @@ pub fn add(metas: &mut Vec<Metadata>, path: String, source: Source) -> Result<()
     })?)
 }
 
-/// The paths of files.
-pub fn paths_of(alloc: Global, metas: &[Metadata]) -> Result<Vec<String>, NoMemory> {
-    let mut paths = Vec::new(alloc);
-    for meta in metas {
-        if let Some(path) = &meta.path {
-            paths.push(String::from_str(alloc, path.as_str())?)?;
-        }
-    }
-    Ok(paths)
-}
-
 /// Where the file at a path comes from: the caller, who trusts it.
 pub fn meta_at(alloc: Global, path: &str) -> Result<Metadata, NoMemory> {
     Ok(Metadata::api().at(String::from_str(alloc, path)?))

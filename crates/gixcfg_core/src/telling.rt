@@ -4,6 +4,7 @@ ghost use Rattle.gixcfg_core.specs.Answers.{Answers};
 ghost use Rattle.gixcfg_core.specs.Entries.{line_of, plain_found};
 ghost use Rattle.gixcfg_core.specs.Telling.{default_line as default_line_lem, found_line, found_lines};
 
+use crate::c_strings::c_string;
 use crate::entries::Found;
 use crate::lines::{Line, add_entry};
 use crate::trouble::Trouble;
@@ -121,7 +122,12 @@ fn add_typed(
     match form.kind {
         None => add_entry(lines, line, &entry.before, &entry.names, entry.value())?,
         Some(kind) => {
-            let value = typed(alloc, entry.value(), kind, home)?;
+            let value = typed(
+                alloc,
+                entry.value().map(|value| c_string(value)),
+                kind,
+                home,
+            )?;
             let value = Some(value.as_bytes());
             add_entry(lines, line, &entry.before, &entry.names, value)?;
         }

@@ -1,4 +1,4 @@
-//! Why a call with options wasn't done, and how that is reported.
+//! Why a call wasn't done, and how that is reported.
 ghost use Rattle.std.specs.Prelude.{◌≡◌};
 ghost use Rattle.gixcfg_core.specs.Troubles.{of_file, of_type, of_url, status_of, trouble_of_number};
 ghost use Rattle.gixcfg_core.specs.declared.trouble.Trouble.TheVariants.{Memory};
@@ -7,6 +7,7 @@ use crate::typed::Refusal;
 use crate::{typed, urls};
 use gitconf_text::NoMemory;
 use gixcfg_files as files;
+use gixcfg_words::rules::Rules;
 use gixcfg_words::shown::Shown;
 use std::alloc::{AllocError, AllocFailed};
 use std::io;
@@ -15,7 +16,7 @@ use std::io::Write;
 /// The status if out of memory.
 pub const MEMORY: u8 = 5;
 
-/// Why a call with options wasn't done.
+/// Why a call wasn't done.
 #[derive(Drop)]
 pub enum Trouble {
     /// What was looked for is not there.
@@ -62,7 +63,8 @@ impl Trouble {
     ghost use Rattle.gixcfg_core.specs.Troubles.{status_of};
 
     /// The exit status: as git has it for a key that is missing, 1, for one that has several entries or none to take out, 5, and for a
-    /// file that can't be written, 4; else as without options.
+    /// file that can't be written, 4; else 1 for what isn't as it should be, 2 for words that mean nothing, 3 for a refusal, 4 for a file or a
+    /// stream that failed, 5 for memory.
     pub fn status(&self) -> u8
         ensures { result ≡ status_of self.now }
     {
@@ -161,7 +163,7 @@ pub fn tell<E: Write>(trouble: &Trouble, name: &str, err: &mut E) {
         Trouble::Missing | Trouble::NoEntry | Trouble::Closed => Ok(()),
         Trouble::Text(message) | Trouble::Unread(message) => err.write_all(message.as_bytes()),
         Trouble::File(fault) => {
-            let name = Shown(name);
+            let (name, fault) = (Shown(name), Shown(fault));
             writeln!(err, "gixcfg: {name}: {fault}")
         }
         Trouble::Memory => err.write_all(b"gixcfg: E27\n"),
@@ -176,11 +178,25 @@ pub fn tell<E: Write>(trouble: &Trouble, name: &str, err: &mut E) {
     };
 }
 
-/// Reports a trouble with the file of this name, and returns the exit status.
-pub fn report<E: Write>(trouble: &Trouble, name: &str, err: &mut E) -> u8
+/// Reports a trouble of a call without options: of a stream that failed there is but a word or a number.
+fn tell_plainly<E: Write>(trouble: &Trouble, err: &mut E) {
+    let line: &[u8] = match trouble {
+        Trouble::Input => b"gixcfg: input\n",
+        Trouble::Output | Trouble::Closed => b"gixcfg: E28\n",
+        trouble => return tell(trouble, "standard input", err),
+    };
+    // A failed write changes no status.
+    let _ = err.write_all(line);
+}
+
+/// Reports a trouble with the file of this name, as a call of these rules does, and returns the exit status.
+pub fn report<E: Write>(trouble: &Trouble, name: &str, rules: Rules, err: &mut E) -> u8
     ensures { result ≡ status_of trouble.now }
 {
-    tell(trouble, name, err);
+    match rules {
+        Rules::Git => tell(trouble, name, err),
+        Rules::Library => tell_plainly(trouble, err),
+    }
     trouble.status()
 }
 

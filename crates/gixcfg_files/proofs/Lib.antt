@@ -1,1 +1,2 @@
+mod Acting
 mod PathLemmas

@@ -1,6 +1,6 @@
 -- What is told of the end of an edit in place.
-use Rattle.std.specs.Prelude.{◌≡◌, ◌⊎◌, Result, Ok, Err, String}
-use Rattle.std.specs.declared.alloc.Global.{Global}
+use Rattle.std.specs.Prelude.{◌≡◌, ◌⊎◌, Result, Ok, Err}
+use Rattle.gixcfg_files.specs.declared.lock.Lock.{Lock}
 use Rattle.gixcfg_replacing.specs.declared.ended.Ended.{Ended}
 use Rattle.gixcfg_replacing.specs.declared.ended.Ended.TheVariants as ends
 use Rattle.gixcfg_files.specs.Faults.{unwritten}
@@ -11,7 +11,7 @@ use Rattle.gixcfg_files.specs.declared.place.Replaced.TheVariants.{Done, Changed
 
 -- that another edit is in the way, or there is no memory to tell that
 abbrev pub TellsLocked : Result Replaced Fault → Type 0
-TellsLocked result = ((path : String Global) × (result ≡ Err (Locked path))) ⊎ (result ≡ Err Memory)
+TellsLocked result = ((lock : Lock) × (result ≡ Err (Locked lock))) ⊎ (result ≡ Err Memory)
 
 -- success is told only where each call of the edit answered that it was done; under `--no-sync` those that write down do nothing
 abbrev pub TellsAs : Ended → Result Replaced Fault → Type 0

@@ -43,15 +43,6 @@ abbrev pub is_number : List ℕ → Bool
 is_number [] = false
 is_number (b ∷ bs) = not (b == 48) && (count_by is_ascii_digit (b ∷ bs) == length (b ∷ bs))
 
--- the text, if it is the number of a process
-abbrev pub if_number : Option (List ℕ) → Option (List ℕ)
-if_number None = None
-if_number (Some text) = if is_number text then Some text else None
-
--- the number of a process that a name ends with, after what it begins with
-abbrev pub number_after : (name start : List ℕ) → Option (List ℕ)
-number_after name start = if_number (after_start name start)
-
 -- the path is from the root on
 abbrev pub is_absolute : List ℕ → Bool
 is_absolute path = slice_index path 0 == 47

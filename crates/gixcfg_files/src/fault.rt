@@ -3,6 +3,7 @@ ghost use Rattle.std.specs.Prelude.{◌≡◌};
 ghost use Rattle.gixcfg_files.specs.Faults.{unread, unwritten};
 ghost use Rattle.gixcfg_files.specs.declared.fault.Fault.TheVariants.{Memory};
 
+use crate::lock::Lock;
 use std::alloc::AllocError;
 use std::io::ErrorKind;
 use std::{fmt, io};
@@ -10,8 +11,8 @@ use std::{fmt, io};
 /// Why a file can't be read or edited.
 #[derive(Drop)]
 pub enum Fault {
-    /// Its lock exists already, at this path: another process works on the file, or one was killed while it did.
-    Locked(String),
+    /// Its lock exists already: another process works on the file, or one was killed while it did.
+    Locked(Lock),
     /// Other processes change it each time before it is written.
     Changing,
     /// What is at its path is no regular file.
@@ -28,6 +29,8 @@ pub enum Fault {
     Unwritten(io::Error),
     /// It has its new text, but that isn't written down to the disk.
     Unsynced(io::Error),
+    /// It has its new text, but its lock at this path can't be removed.
+    Unremoved(String, io::Error),
     /// Out of memory.
     Memory,
 }
@@ -65,10 +68,7 @@ impl From<AllocError> for Fault {
 impl fmt::Display for Fault {
     fn fmt<W: fmt::Write>(&self, f: &mut fmt::Formatter<W>) -> fmt::Result {
         match self {
-            Fault::Locked(path) => write!(
-                f,
-                "{path} exists: another process may be editing the file; if none is, remove it"
-            ),
+            Fault::Locked(lock) => write!(f, "{lock}"),
             Fault::Changing => f.write_str("it keeps changing"),
             Fault::NoFile => f.write_str("not a regular file"),
             Fault::Links => f.write_str("too many symbolic links"),
@@ -80,6 +80,9 @@ impl fmt::Display for Fault {
                 f,
                 "written, but a loss of power may undo that: {error}"
             ),
+            Fault::Unremoved(lock, error) => {
+                write!(f, "written, but {lock} can't be removed: {error}")
+            }
             Fault::Memory => f.write_str("out of memory"),
         }
     }

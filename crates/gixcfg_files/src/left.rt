@@ -1,64 +1,102 @@
-//! Drafts that were left by edits that were stopped.
-ghost use Rattle.std.specs.Prelude.{◌≡◌, option_map};
-ghost use Rattle.gixcfg_files.specs.Paths.{number_after as number_after_lem};
+//! What edits that were stopped left beside a file.
 
-use crate::disk::{names_in, remove};
+ghost use Rattle.std.specs.Prelude.{IfSome};
+ghost use Rattle.gixcfg_files.specs.Acts.{Has};
+ghost use Rattle.gixcfg_files.specs.Acts.Act.{Held};
+
+use crate::calls::{EditCalls, Open};
 use crate::fault::Fault;
-use crate::paths::{after, folder_of, is_number, name_of};
-use crate::process::is_running;
+use crate::lock::{Standing, standing_at};
+use crate::made::is_at;
+use crate::paths::{after, folder_of, name_of};
+use crate::process::Process;
+use crate::sight::{Sight, sight_of};
 use gixcfg_replacing::draft_of;
-use std::alloc::AllocGlobal;
 use std::io::{ErrorKind, Write};
-use std::rt::Files;
 
-/// The paths of the drafts of the file at a path that were left by processes that are no longer there. Reads the names of all that is in the
-/// folder; none where they can't be read.
+/// The paths of the drafts of the file at a path that edits have made since the system was started. Reads the names of all that is in the folder;
+/// none where they can't be read.
 ///
 /// # Errors
 ///
 /// Out of memory.
-pub fn left_beside<R: Files + AllocGlobal>(files: &R, path: &str) -> Result<Vec<String>, Fault> {
-    let names = names_beside(files, path)?;
-    let start = draft_of(files.alloc(), name_of(path), "")?;
-    let mut left = Vec::new(files.alloc());
+pub fn drafts_beside<D: EditCalls>(
+    calls: &mut D,
+    path: &str,
+    process: &Process,
+) -> Result<Vec<String>, Fault> {
+    let alloc = calls.alloc();
+    let names = names_beside(calls, path)?;
+    let tag = process.tag(alloc, "")?;
+    let start = draft_of(alloc, name_of(path), &tag)?;
+    let mut drafts = Vec::new(alloc);
     for name in names.split(|byte| *byte == 0) {
-        if let Some(number) = number_after(name, start.as_str()) {
-            if !is_running(files, number)?
-                && left.push(draft_of(files.alloc(), path, number)?).is_err()
-            {
+        if let Some(drawn) = after(name, &start) {
+            let tag = process.tag(alloc, drawn)?;
+            if drafts.push(draft_of(alloc, path, &tag)?).is_err() {
                 return Err(Fault::Memory);
             }
         }
     }
-    Ok(left)
+    Ok(drafts)
 }
 
 /// The names in the folder of a file, each with a zero byte behind it.
-fn names_beside<R: Files + AllocGlobal>(files: &R, path: &str) -> Result<Vec<u8>, Fault> {
-    let folder = folder_of(files.alloc(), path)?;
-    match names_in(files, folder.as_str()) {
+fn names_beside<D: EditCalls>(calls: &mut D, path: &str) -> Result<Vec<u8>, Fault> {
+    let folder = folder_of(calls.alloc(), path)?;
+    match calls.names_in(folder.as_str()) {
         Ok(names) => Ok(names),
         Err(error) if error.kind() == ErrorKind::OutOfMemory => Err(Fault::Memory),
-        Err(_) => Ok(Vec::new(files.alloc())),
+        Err(_) => Ok(Vec::new(calls.alloc())),
     }
 }
 
-/// Removes a draft that was left, and tells that. One that can't be removed stays.
-pub fn remove_left<R: Files, E: Write>(files: &R, path: &str, err: &mut E) {
-    if remove(files, path).is_ok() {
-        let _ = writeln!(
-            err,
-            "gixcfg: {path}: removed, left by an edit that was stopped"
-        );
+/// Removes the draft at a path if it was left, and tells that. Who makes a draft holds it while he is there, so it was left if this process can
+/// hold it.
+pub fn remove_left_draft<D: EditCalls, E: Write>(calls: &mut D, path: &str, err: &mut E) {
+    let Ok(Sight::File(file)) = sight_of(calls, path) else {
+        return;
+    };
+    if let Ok(true) = calls.hold(&file) {
+        if remove_held(calls, &file, path) {
+            tell_removed(path, err);
+        }
     }
 }
 
-/// The number of a process that a name ends with, after what it begins with.
-fn number_after<'a>(name: &'a [u8], start: &str) -> Option<&'a str>
-    ensures { option_map (λ s. s.now) result ≡ number_after_lem name.entry.now start.now }
+/// Removes the lock at a path if it was left, and tells that.
+///
+/// # Errors
+///
+/// It can't be looked at; out of memory.
+pub fn remove_left_lock<D: EditCalls, E: Write>(
+    calls: &mut D,
+    path: &str,
+    err: &mut E,
+) -> Result<(), Fault> {
+    if let Standing::Left(file) = standing_at(calls, path)? {
+        if remove_held(calls, &file, path) {
+            tell_removed(path, err);
+        }
+    }
+    Ok(())
+}
+
+/// Removes a file that was left at a path and that this process holds, so that no other edit removes it, if it is there still; and tells whether
+/// it did. What can't be removed stays.
+fn remove_held<D: EditCalls>(calls: &mut D, file: &Open<D::File>, path: &str) -> bool
+    requires { IfSome (D.told calls.old) (Has (Held file.now.original.identity)) }
 {
-    match after(name, start) {
-        Some(number) if is_number(number) => Some(number),
-        _ => None,
+    match is_at(calls, file, path) {
+        Ok(true) => calls.remove(path).is_ok(),
+        _ => false,
     }
+}
+
+/// Tells that a file was removed.
+fn tell_removed<E: Write>(path: &str, err: &mut E) {
+    let _ = writeln!(
+        err,
+        "gixcfg: {path}: removed, left by an edit that was stopped"
+    );
 }

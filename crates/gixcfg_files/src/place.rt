@@ -1,157 +1,234 @@
 //! A file that is edited in place.
 ghost use Rattle.gixcfg_files.specs.Ends.{TellsAs};
 
-use crate::disk::look;
-use crate::draft::Owner;
+use crate::calls::{EditCalls, Found, System};
+use crate::edit_files::EditFiles;
 use crate::fault::Fault;
-use crate::folder::DiskFolder;
-use crate::left::{left_beside, remove_left};
+use crate::folder::{DiskFolder, Manner, Spot};
+use crate::left::{drafts_beside, remove_left_draft, remove_left_lock};
 use crate::links::end_of_links;
+use crate::lock::{Lock, check_free};
+use crate::made::Owner;
 use crate::paths::folder_of;
-use crate::process::own_number;
-use crate::reading::read;
-use crate::rights::{Rights, rights_of};
-use gixcfg_replacing::{Edited, Ended, LoggedFolder, draft_of, lock_of, replace};
+use crate::process::Process;
+use crate::sight::{Sight, found_in, sight_of};
+use gixcfg_replacing::{Ended, LoggedFolder, draft_of, lock_of, replace};
 use std::alloc::{AllocGlobal, Global};
+use std::io;
 use std::io::{ErrorKind, Write};
-use std::rt::Files;
 
-/// What the symbolic links at a path end at: a regular file, or nothing, of which an edit may make a file.
+/// How often a path is followed at most where others change what is there meanwhile.
+const LOOKS: usize = 16;
+
+/// How many drafts are drawn at most that can be held.
+const DRAWS: usize = 3;
+
+/// What a draft is called by where the system draws nothing.
+const UNKNOWN: &str = "0";
+
+/// What the symbolic links at a path end at: a regular file, as it was when it was opened and read, or nothing, of which an edit may make a
+/// file.
 #[derive(Drop)]
-pub struct Place<'a, R: Files + AllocGlobal> {
+pub struct Place<'a, R: EditFiles + AllocGlobal> {
     files: &'a R,
     path: String,
     /// The path of its folder.
     folder: String,
     lock: String,
-    rights: Option<Rights>,
+    found: Option<Found>,
 }
 
 /// What an edit puts in place of the text of a file.
 #[derive(Clone, Copy)]
 pub struct Replacement<'a> {
-    /// The text that the file had before; none if it wasn't there.
-    pub before: Option<&'a [u8]>,
     /// The text that it gets.
     pub text: &'a [u8],
     /// Whether that is written down to the disk, so that a loss of power doesn't undo it, or tear it.
     pub is_synced: bool,
 }
 
-/// What a draft is called by where the number of its process isn't known.
-const UNKNOWN: &str = "0";
-
 /// How the replacement of a text ended.
 #[derive(Clone, Copy, PartialEq, Eq)]
 pub enum Replaced {
     /// The file has the new text.
     Done,
-    /// The file had another text than it was to have before, which another process gave it. It keeps that.
+    /// The file isn't the one any more that it was, or has another text, which another process gave it. It keeps that.
     Changed,
 }
 
-impl<'a, R: Files + AllocGlobal> Place<'a, R> {
-    /// The place that a path leads to. Nothing is written.
+impl<'a, R: EditFiles + AllocGlobal> Place<'a, R> {
+    /// The place that a path leads to, and the text that is there. Nothing is written.
     ///
     /// # Errors
     ///
-    /// The lock of the file exists, so git or another edit works on it; what is there is no regular file; too many links lead there; it
-    /// can't be found out what is there; out of memory.
+    /// The lock of the file exists, so git or another edit works on it; what is there is no regular file, or can't be opened or read; too many
+    /// links lead there, or they keep changing; out of memory.
     pub fn find(files: &'a R, path: &str) -> Result<Place<'a, R>, Fault> {
-        let path = end_of_links(files, path)?;
-        let lock = lock_of(files.alloc(), path.as_str())?;
-        if is_there(files, lock.as_str())? {
-            return Err(Fault::Locked(lock));
+        let alloc = files.alloc();
+        let mut calls = System::new(files);
+        for _ in 0..LOOKS {
+            let path = end_of_links(files, path)?;
+            let lock = lock_of(alloc, &path)?;
+            check_free(&mut calls, &lock)?;
+            match sight_of(&mut calls, &path) {
+                Ok(Sight::Nothing) => return Place::new(files, path, lock, None),
+                Ok(Sight::File(file)) => match found_in(&mut calls, file) {
+                    Ok(found) => return Place::new(files, path, lock, Some(found)),
+                    Err(error) => return Err(Fault::unread(error)),
+                },
+                Ok(Sight::Irregular) => return Err(Fault::NoFile),
+                Ok(Sight::Changing) => {}
+                Err(error) => return Err(Fault::unread(error)),
+            }
         }
-        let rights = rights_of(files, path.as_str())?;
-        let folder = folder_of(files.alloc(), path.as_str())?;
+        Err(Fault::Changing)
+    }
+
+    /// The place at a path, with its lock.
+    fn new(
+        files: &'a R,
+        path: String,
+        lock: String,
+        found: Option<Found>,
+    ) -> Result<Place<'a, R>, Fault> {
+        let folder = folder_of(files.alloc(), &path)?;
         Ok(Place {
             files,
             path,
             folder,
             lock,
-            rights,
+            found,
         })
     }
 
     /// The text of the file; none if there is no such file.
-    ///
-    /// # Errors
-    ///
-    /// The file can't be opened or read; out of memory.
-    pub fn read(&self) -> Result<Option<Vec<u8>>, Fault> {
-        read(self.files, self.path.as_str())
+    pub fn text(&self) -> Option<&[u8]> {
+        match &self.found {
+            Some(found) => Some(&found.text),
+            None => None,
+        }
     }
 
-    /// Gives the file a text in place of the one that it had before, or of none. The text is written down to the disk as a draft beside the
-    /// file. Then the lock is taken, and if the file still has what it had before, the draft is renamed. Drafts that were left there by
-    /// processes that ended before are removed then. What the user has to know of is told, a line each.
+    /// Gives the file a text in place of its own, or of none. The text is written down to the disk as a draft beside the file. Then the lock is
+    /// taken, and if the file is still the one that was found, with that text, the draft is renamed. A lock that was left by a process which has
+    /// ended is removed before, and drafts that were are then. What the user has to know of is told, a line each.
     ///
     /// # Errors
     ///
     /// The draft can't be written or renamed; the lock exists or can't be made; out of memory. The file is as it was, and neither a
-    /// draft nor a lock is left. Or [`Fault::Unsynced`]: the file has the new text, but that isn't written down to the disk.
+    /// draft nor a lock is left. Or the file has the new text: [`Fault::Unsynced`], that isn't written down to the disk; or
+    /// [`Fault::Unremoved`], its lock is left.
     pub fn replace<E: Write>(&self, new: &Replacement<'_>, err: &mut E) -> Result<Replaced, Fault> {
-        let own = own_number(self.files)?;
-        let left = match &own {
-            Some(_) => left_beside(self.files, self.path.as_str())?,
-            None => Vec::new(self.files.alloc()),
+        let edit = Edit {
+            spot: Spot {
+                folder: &self.folder,
+                path: &self.path,
+                lock: &self.lock,
+            },
+            found: self.found.as_ref(),
+            new: *new,
         };
-        let replaced = self.write(own.as_deref(), new, err)?;
+        edit.carry_out(System::new(self.files), err)
+    }
+}
+
+/// The replacement of a file's text, where the file was found so, or wasn't there.
+#[derive(Clone, Copy)]
+struct Edit<'a> {
+    spot: Spot<'a>,
+    found: Option<&'a Found>,
+    new: Replacement<'a>,
+}
+
+impl Edit<'_> {
+    /// Removes a lock that was left, replaces the text, and removes drafts that were left.
+    fn carry_out<D: EditCalls, E: Write>(
+        &self,
+        mut calls: D,
+        err: &mut E,
+    ) -> Result<Replaced, Fault> {
+        let Some(process) = calls.process()? else {
+            return Ok(self.write_unheld(calls, err)?.1);
+        };
+        let drafts = drafts_beside(&mut calls, self.spot.path, &process)?;
+        remove_left_lock(&mut calls, self.spot.lock, err)?;
+        let (mut calls, replaced) = self.write(calls, &process, err)?;
         if let Replaced::Done = replaced {
-            for path in &left {
-                remove_left(self.files, path, err);
+            for path in &drafts {
+                remove_left_draft(&mut calls, path, err);
             }
         }
         Ok(replaced)
     }
 
-    /// Replaces the text by a draft of the process of a number, if that is known. A draft of that number was left by a process before, and is
-    /// removed, which is told.
-    fn write<E: Write>(
+    /// Replaces the text by a draft that the process holds; where that can't be, by one that it doesn't.
+    fn write<D: EditCalls, E: Write>(
         &self,
-        number: Option<&str>,
-        new: &Replacement<'_>,
+        mut calls: D,
+        process: &Process,
         err: &mut E,
-    ) -> Result<Replaced, Fault> {
-        let alloc = self.files.alloc();
-        let draft = draft_of(alloc, self.path.as_str(), number.unwrap_or(UNKNOWN))?;
-        let ended = match (self.write_once(number, new, err)?, number) {
-            (Ended::Drafted, Some(_)) => {
-                remove_left(self.files, draft.as_str(), err);
-                self.write_once(number, new, err)?
+    ) -> Result<(D, Replaced), Fault> {
+        let alloc = calls.alloc();
+        for _ in 0..DRAWS {
+            let Some(drawn) = calls.draw()? else {
+                break;
+            };
+            let tag = process.tag(alloc, &drawn)?;
+            // (while the file has its old text, since memory may be refused)
+            let draft = draft_of(alloc, self.spot.path, &tag)?;
+            let (after, ended) = self.write_once(calls, &tag, Some(process), err)?;
+            match ended {
+                Ended::Drafted => calls = after,
+                ended => return Ok((after, outcome(alloc, ended, self.spot.lock, &draft)?)),
             }
-            (ended, _) => ended,
-        };
-        outcome(alloc, ended, self.lock.as_str(), draft.as_str())
+        }
+        self.write_unheld(calls, err)
+    }
+
+    /// Replaces the text by a draft that nobody can tell to be left.
+    fn write_unheld<D: EditCalls, E: Write>(
+        &self,
+        mut calls: D,
+        err: &mut E,
+    ) -> Result<(D, Replaced), Fault> {
+        let alloc = calls.alloc();
+        let drawn = calls.draw()?;
+        let tag = drawn.as_deref().unwrap_or(UNKNOWN);
+        let draft = draft_of(alloc, self.spot.path, tag)?;
+        let (calls, ended) = self.write_once(calls, tag, None, err)?;
+        Ok((calls, outcome(alloc, ended, self.spot.lock, &draft)?))
     }
 
     /// Replaces the text by a draft that isn't there yet.
-    fn write_once<E: Write>(
+    fn write_once<D: EditCalls, E: Write>(
         &self,
-        number: Option<&str>,
-        new: &Replacement<'_>,
+        calls: D,
+        tag: &str,
+        process: Option<&Process>,
         err: &mut E,
-    ) -> Result<Ended, Fault> {
-        let alloc = self.files.alloc();
-        let path = self.path.as_str();
-        let folder = DiskFolder::new(self.files, self.folder.as_str(), self.rights, new.is_synced);
-        let mut folder = LoggedFolder::new(alloc, folder, path, new.before)?;
-        let number = number.unwrap_or(UNKNOWN);
-        let edited = replace(alloc, &mut folder, path, number, new.before, new.text)?;
-        let Edited {
-            ended,
-            draft: _,
-            lock,
-        } = edited;
-        if let Some(error) = lock {
-            let lock = self.lock.as_str();
-            let _ = writeln!(err, "gixcfg: {lock}: not removed: {error}");
-        }
-        if is_new(&ended) && folder.folder().owner() == Owner::Lost {
+    ) -> Result<(D, Ended), Fault> {
+        let alloc = calls.alloc();
+        let path = self.spot.path;
+        let before = match self.found {
+            Some(found) => Some(found.text.as_slice()),
+            None => None,
+        };
+        let manner = Manner {
+            is_synced: self.new.is_synced,
+            process,
+        };
+        let lock = String::from_str(alloc, self.spot.lock)?;
+        let folder = DiskFolder::new(calls, self.spot, self.found, manner);
+        let mut folder = LoggedFolder::new(alloc, folder, path, before)?;
+        let edited = replace(alloc, &mut folder, path, tag, before, self.new.text)?;
+        if is_new(&edited.ended) && folder.folder().owner() == Owner::Lost {
             let _ = writeln!(err, "gixcfg: {path}: its owner or its group isn't kept");
         }
-        Ok(ended)
+        let calls = folder.into_folder().into_calls();
+        match edited.lock {
+            Some(error) => Ok((calls, unremoved(edited.ended, lock, error, err)?)),
+            None => Ok((calls, edited.ended)),
+        }
     }
 }
 
@@ -160,7 +237,25 @@ fn is_new(ended: &Ended) -> bool {
     matches!(ended, Ended::Done | Ended::Unsynced(_))
 }
 
-/// What is told of an end. Where the draft has gone, somebody else took it for one that was left, and it is as if he had changed the file.
+/// Tells that the lock at a path can't be removed.
+///
+/// # Errors
+///
+/// The file has its new text.
+fn unremoved<E: Write>(
+    ended: Ended,
+    lock: String,
+    error: io::Error,
+    err: &mut E,
+) -> Result<Ended, Fault> {
+    if let Ended::Done = ended {
+        return Err(Fault::Unremoved(lock, error));
+    }
+    let _ = writeln!(err, "gixcfg: {lock}: not removed: {error}");
+    Ok(ended)
+}
+
+/// What is told of an end. Where the draft has gone, somebody else took it away, and it is as if he had changed the file.
 ///
 /// # Errors
 ///
@@ -171,19 +266,11 @@ fn outcome(alloc: Global, ended: Ended, lock: &str, draft: &str) -> Result<Repla
     match ended {
         Ended::Done => Ok(Replaced::Done),
         Ended::Changed => Ok(Replaced::Changed),
-        Ended::Locked => Err(Fault::Locked(String::from_str(alloc, lock)?)),
-        Ended::Drafted => Err(Fault::Locked(String::from_str(alloc, draft)?)),
+        Ended::Locked => Err(Fault::Locked(Lock::unknown(alloc, lock)?)),
+        Ended::Drafted => Err(Fault::Locked(Lock::unknown(alloc, draft)?)),
         Ended::Failed(error) => Err(Fault::unwritten(error)),
         Ended::Unsure(error) if error.kind() == ErrorKind::NotFound => Ok(Replaced::Changed),
         Ended::Unsure(error) => Err(Fault::unwritten(error)),
         Ended::Unsynced(error) => Err(Fault::Unsynced(error)),
-    }
-}
-
-/// Whether something is at a path. What can't be looked at is taken for nothing if the path leads nowhere.
-fn is_there<R: Files>(files: &R, path: &str) -> Result<bool, Fault> {
-    match look(files, path) {
-        Ok(found) => Ok(found.is_some()),
-        Err(error) => Err(Fault::unwritten(error)),
     }
 }

@@ -32,7 +32,7 @@ pub fn text_at<R: Files + AllocGlobal>(files: &R, path: &str) -> io::Result<Opti
 }
 
 /// What a file has, after what is there.
-fn read_all<F: Read + Drop>(file: F, mut text: Vec<u8>) -> io::Result<Vec<u8>> {
+pub fn read_all<F: Read + Drop>(file: F, mut text: Vec<u8>) -> io::Result<Vec<u8>> {
     file.take(MOST).read_to_end(&mut text)?;
     Ok(text)
 }

@@ -1,13 +1,27 @@
-//! Whose a file is, and who may do what with it.
+//! Which file it is, whose it is, and who may do what with it.
 
-use crate::fault::Fault;
-use std::fs;
-use std::io::ErrorKind;
+use std::fs::Metadata;
 use std::os::unix::fs::MetadataExt;
-use std::rt::Files;
+
+/// Which file it is: while it is there, or open, no other one has both numbers.
+#[derive(Clone, Copy, PartialEq, Eq)]
+pub struct Identity {
+    device: u64,
+    number: u64,
+}
+
+impl Identity {
+    /// The file of which that is said.
+    pub fn of(metadata: &Metadata) -> Identity {
+        Identity {
+            device: metadata.dev(),
+            number: metadata.ino(),
+        }
+    }
+}
 
 /// Whose a file is, and who may do what with it.
-#[derive(Clone, Copy)]
+#[derive(Clone, Copy, PartialEq, Eq)]
 pub struct Rights {
     /// The number of its owner.
     pub owner: u32,
@@ -17,20 +31,23 @@ pub struct Rights {
     pub mode: u32,
 }
 
-/// The rights of the regular file that a path leads to; none if nothing is there.
-///
-/// # Errors
-///
-/// What is there is no regular file, or can't be looked at; out of memory.
-pub fn rights_of<R: Files>(files: &R, path: &str) -> Result<Option<Rights>, Fault> {
-    match fs::metadata(files, path) {
-        Ok(metadata) if metadata.is_file() => Ok(Some(Rights {
-            owner: metadata.uid(),
-            group: metadata.gid(),
-            mode: metadata.mode(),
-        })),
-        Ok(_) => Err(Fault::NoFile),
-        Err(error) if error.kind() == ErrorKind::NotFound => Ok(None),
-        Err(error) => Err(Fault::unread(error)),
+/// The file that is edited, as it was when it was opened.
+#[derive(Clone, Copy, PartialEq, Eq)]
+pub struct Original {
+    pub identity: Identity,
+    pub rights: Rights,
+}
+
+impl Original {
+    /// The file of which that is said.
+    pub fn of(metadata: &Metadata) -> Original {
+        Original {
+            identity: Identity::of(metadata),
+            rights: Rights {
+                owner: metadata.uid(),
+                group: metadata.gid(),
+                mode: metadata.mode(),
+            },
+        }
     }
 }

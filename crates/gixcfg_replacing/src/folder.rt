@@ -9,8 +9,9 @@ use std::io;
 /// change the folder during it: but not what is ours, nor a file while we have its lock.
 ///
 /// That a folder of a disk is one can't be proved. It is taken to be one where upper and lower case count, a rename puts one file in place of
-/// the other in one step, also for a crash, and what was synced stays; where a link counts as a file whose text is where it leads; and where
-/// other programs make FILE.lock before they change FILE, and leave a lock or a draft that they didn't make.
+/// the other in one step, also for a crash, and what was synced stays; where a lock counts as empty, whatever it says of who has it; and where
+/// other programs make FILE.lock before they change FILE, and leave a lock or a draft that they didn't make. Whose a file is, and which one it
+/// is where others have the same text, isn't said here.
 pub trait Folder {
     /// What readers find, what a crash leaves, and what is whose.
     ghost disk: { Disk Self };

@@ -145,6 +145,11 @@ impl<C: FolderCalls + Drop> LoggedFolder<C> {
         &self.folder
     }
 
+    /// The folder, without the log.
+    pub fn into_folder(self) -> C {
+        self.folder
+    }
+
     /// Keeps a call.
     fn keep(&mut self, call: Call)
         requires { HasRoom self.old 1 }

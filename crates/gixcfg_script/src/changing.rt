@@ -70,7 +70,11 @@ fn has(state: &State, text: Option<&str>) -> bool {
         (Some((found, _)), Some(text)) => found == text.as_bytes(),
         (found, text) => found.is_none() && text.is_none(),
     };
-    is_text && tree.file("m.lock").is_none() && tree.file("m.gixcfg-7").is_none()
+    is_text
+        && tree.file("m.lock").is_none()
+        && tree
+            .file("m.gixcfg-3b6f0c52-91d4-4e7a-c0ffee00-1234-4abc")
+            .is_none()
 }
 
 fn is_met(alloc: Global, edit: &Edit) -> Result<bool, NoMemory> {

@@ -198,7 +198,10 @@ fn grow(alloc: Global, words: &[Word<'_>]) -> Result<(), Refusal> {
 /// `call BYTES..`: runs a call of these words.
 fn call(alloc: Global, session: &mut Session, words: &[Word<'_>]) -> Result<String, Refusal> {
     let words = words_of_call(alloc, words)?;
-    let done = session.call(&words)?;
+    let done = match &words {
+        Some(words) => session.call(words)?,
+        None => session.call_ill_formed()?,
+    };
     match (Machine {
         state: &session.state,
     })
@@ -209,14 +212,17 @@ fn call(alloc: Global, session: &mut Session, words: &[Word<'_>]) -> Result<Stri
     }
 }
 
-/// The words of a call; none if one of them isn't UTF-8, as the program has it.
-fn words_of_call<'a>(alloc: Global, words: &'a [Word<'_>]) -> Result<Vec<&'a str>, Refusal> {
+/// The words of a call, if all are UTF-8.
+fn words_of_call<'a>(
+    alloc: Global,
+    words: &'a [Word<'_>],
+) -> Result<Option<Vec<&'a str>>, Refusal> {
     let mut all = Vec::with_capacity(alloc, words.len())?;
     for word in words {
         let Ok(text) = str::from_utf8(word.bytes()?) else {
-            return Ok(Vec::new(alloc));
+            return Ok(None);
         };
         all.push(text)?;
     }
-    Ok(all)
+    Ok(Some(all))
 }

@@ -10,20 +10,26 @@ static BEFORE: &str = "[a]\n\tk = 1\n";
 
 static AFTER: &str = "[a]\n\tk = 2\n";
 
+/// The lock's other name.
+const BESIDE: &str = "m.gixcfg-3b6f0c52-91d4-4e7a-c0ffee00-1234-4abc.lock";
+
 /// What is told where the lock can't be removed.
-static LEFT: &str = "gixcfg: m.lock: not removed: Permission denied (os error 13)\n";
+static LEFT: &str =
+    "gixcfg: m: written, but m.lock can't be removed: Permission denied (os error 13)\n";
 
 /// What is told where the folder can't be synced.
 static UNSYNCED: &str =
     "gixcfg: m: written, but a loss of power may undo that: Permission denied (os error 13)\n";
 
-/// How many file operations an edit can't do without at the least: a link asked for, the lock looked for, rights asked for, the text opened
-/// and read; the draft made, looked at, given the rights, written and synced; the lock made, the text opened and read again, the draft looked
-/// at and renamed.
-const LEAST: usize = 15;
+/// How many file operations an edit can't do without at the least: a link asked for, the lock looked for, the file looked at, opened, looked at
+/// and read; the lock looked for again; the draft made, looked at, given the rights, written and synced; the lock's other name made and looked
+/// at; the file looked at, opened, looked at and read again; the draft looked for and renamed.
+const LEAST: usize = 20;
 
-/// How many it does without: the number of the process asked for, the folder opened, three names and their end read.
-const SPARED: usize = 6;
+/// How many it does without: the number of the process asked for; what was drawn at the start opened and read; the folder opened, three names and
+/// their end read; what is drawn opened and read; the draft held and looked for; the lock held, looked for, written, given its name, and its other
+/// name looked for; the lock looked for before it is removed.
+const SPARED: usize = 18;
 
 /// How many come when the file has its new text: the folder opened and synced.
 const AFTER_ALL: usize = 2;
@@ -40,6 +46,8 @@ enum Left {
     New,
     /// The new text, and the lock.
     NewLocked,
+    /// The new text, and the lock's other name, which the next edit removes.
+    NewBeside,
     /// Something else.
     Other,
 }
@@ -50,10 +58,12 @@ fn what_is_left(state: &State, count: usize) -> Left {
         return Left::Other;
     };
     let is_locked = tree.file("m.lock").is_some();
+    let is_beside = tree.file(BESIDE).is_some();
     match tree.file("m") {
         Some((text, _)) if text == BEFORE.as_bytes() && tree.count() == count => Left::Old,
         Some((text, _)) if text == AFTER.as_bytes() && tree.count() == count => Left::New,
         Some((text, _)) if text == AFTER.as_bytes() && is_locked => Left::NewLocked,
+        Some((text, _)) if text == AFTER.as_bytes() && is_beside => Left::NewBeside,
         _ => Left::Other,
     }
 }
@@ -75,6 +85,8 @@ enum End {
     Spared,
     /// The operation was to remove the lock, and the edit is done.
     Locked,
+    /// The operation was to remove the lock's other name, and the edit is done.
+    Beside,
     /// The edit is done, and it is told that it isn't written down.
     Unsynced,
     /// The operation did not come, and the edit is done.
@@ -89,7 +101,8 @@ fn end_of(has_failed: bool, done: &Done, left: Left) -> End {
         (true, 4, Left::Old) => End::Refused,
         (true, 0, Left::New) if done.is(0, "", "") => End::Spared,
         (true, 4, Left::New) if done.is(4, "", UNSYNCED) => End::Unsynced,
-        (true, 0, Left::NewLocked) if done.is(0, "", LEFT) => End::Locked,
+        (true, 4, Left::NewLocked) if done.is(4, "", LEFT) => End::Locked,
+        (true, 0, Left::NewBeside) if done.is(0, "", "") => End::Beside,
         (false, 0, Left::New) if done.is(0, "", "") => End::Done,
         _ => End::Wrong,
     }
@@ -110,6 +123,7 @@ struct Counts {
     refused: usize,
     spared: usize,
     locked: usize,
+    beside: usize,
     unsynced: usize,
 }
 
@@ -119,6 +133,7 @@ fn count_all(alloc: Global) -> Result<Option<Counts>, NoMemory> {
         refused: 0,
         spared: 0,
         locked: 0,
+        beside: 0,
         unsynced: 0,
     };
     for number in 0..MOST {
@@ -126,6 +141,7 @@ fn count_all(alloc: Global) -> Result<Option<Counts>, NoMemory> {
             End::Refused => counts.refused = counts.refused.saturating_add(1),
             End::Spared => counts.spared = counts.spared.saturating_add(1),
             End::Locked => counts.locked = counts.locked.saturating_add(1),
+            End::Beside => counts.beside = counts.beside.saturating_add(1),
             End::Unsynced => counts.unsynced = counts.unsynced.saturating_add(1),
             End::Done => return Ok(Some(counts)),
             End::Wrong => return Ok(None),
@@ -135,7 +151,7 @@ fn count_all(alloc: Global) -> Result<Option<Counts>, NoMemory> {
 }
 
 /// Whichever operation fails, the file is the old one or the new one as is reported, and nothing is left beside it but a lock of which
-/// that is told.
+/// that is told, or its other name.
 #[test]
 fn failed_operation_leaves_the_file(rt: HostRuntime) -> Result<(), Fail> {
     let counts = count_all(rt.alloc())?;
@@ -143,6 +159,7 @@ fn failed_operation_leaves_the_file(rt: HostRuntime) -> Result<(), Fail> {
         counts.is_some_and(|counts| counts.refused >= LEAST
             && counts.spared == SPARED
             && counts.locked == 1
+            && counts.beside == 1
             && counts.unsynced == AFTER_ALL)
     );
     Ok(())

@@ -9,33 +9,35 @@ use std::test::Fail;
 
 static TEXT: &str = "[a]\n\tk = 1\n";
 
-/// What is beside the file before an edit, and whether it is there after it. The process is 7, and 8 is there too.
+/// What is beside the file before an edit, and whether it is there after it. Another process holds the fourth.
 static BESIDE: [(&str, bool); 11] = [
-    ("m.gixcfg-9", false),
-    ("m.gixcfg-1234567890123456789012", false),
-    ("m.gixcfg-7", false),
-    ("m.gixcfg-8", true),
-    ("m.gixcfg-0", true),
-    ("m.gixcfg-09", true),
-    ("m.gixcfg-9x", true),
+    ("m.gixcfg-3b6f0c52-91d4-4e7a-11111111-2222-4333", false),
+    ("m.gixcfg-3b6f0c52-91d4-4e7a-c0ffee00-1234-4abc.lock", false),
+    ("m.gixcfg-3b6f0c52-91d4-4e7a-", false),
+    (HELD, true),
+    ("m.gixcfg-3b6f0c52-91d4-4e7b-11111111-2222-4333", true),
+    ("m.gixcfg-11111111-2222-4333", true),
+    ("m.gixcfg-20261129", true),
+    ("m.gixcfg-7", true),
     ("m.gixcfg-", true),
-    ("m.gixcfg-9\n", true),
-    ("n.gixcfg-9", true),
-    ("mm.gixcfg-9", true),
+    ("n.gixcfg-3b6f0c52-91d4-4e7a-11111111-2222-4333", true),
+    ("mm.gixcfg-3b6f0c52-91d4-4e7a-11111111-2222-4333", true),
 ];
 
-static TOLD: &str = "gixcfg: m.gixcfg-7: removed, left by an edit that was stopped\n\
-gixcfg: m.gixcfg-9: removed, left by an edit that was stopped\n\
-gixcfg: m.gixcfg-1234567890123456789012: removed, left by an edit that was stopped\n";
+const HELD: &str = "m.gixcfg-3b6f0c52-91d4-4e7a-44444444-5555-4666";
 
-/// The machine with the file, drafts and other files beside it, and a further process.
+static TOLD: &str =
+    "gixcfg: m.gixcfg-3b6f0c52-91d4-4e7a-11111111-2222-4333: removed, left by an edit that was stopped\n\
+gixcfg: m.gixcfg-3b6f0c52-91d4-4e7a-c0ffee00-1234-4abc.lock: removed, left by an edit that was stopped\n\
+gixcfg: m.gixcfg-3b6f0c52-91d4-4e7a-: removed, left by an edit that was stopped\n";
+
+/// The machine with the file, drafts and other files beside it.
 fn machine_with_drafts(alloc: Global) -> Result<State, NoMemory> {
     let mut state = machine(alloc, "/r/sub/m", Some(TEXT))?;
-    state.put("/proc/7", Node::Folder)?;
-    state.put("/proc/8", Node::Folder)?;
     for (name, _) in &BESIDE {
         state.put(name, Node::File(Vec::new(alloc), 0o600))?;
     }
+    state.hold(HELD)?;
     Ok(state)
 }
 
@@ -71,7 +73,7 @@ fn is_spared(alloc: Global) -> Result<bool, NoMemory> {
     Ok(done.is(0, "", "") && is_all_there(&state))
 }
 
-/// Drafts of processes that are no longer there are removed, and no other file.
+/// Drafts that nobody holds are removed, and no other file.
 #[test]
 fn drafts_that_were_left_are_removed(rt: HostRuntime) -> Result<(), Fail> {
     assert!(rt; is_removed(rt.alloc())?);

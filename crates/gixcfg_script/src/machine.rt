@@ -4,6 +4,7 @@ ghost use Rattle.std.specs.Prelude.{◌≤◌, length};
 
 use crate::refusal::Refusal;
 use crate::tree::{Node, Tree};
+use gixcfg_files::EditFiles;
 use std::alloc::{AllocError, Allocator, Global};
 use std::cell::{Cell, Ref, RefCell, RefMut};
 use std::env::FillError;
@@ -57,6 +58,8 @@ pub struct State {
     /// How many operations changed what a file or a path has.
     changes: Cell<usize>,
     other: Option<Other>,
+    /// The file at this path is held by another process.
+    held: Option<String>,
 }
 
 impl State {
@@ -70,6 +73,7 @@ impl State {
             left: Cell::new(None),
             changes: Cell::new(0),
             other: None,
+            held: None,
         }
     }
 
@@ -80,6 +84,12 @@ impl State {
             change,
             left: Cell::new(count),
         });
+        Ok(())
+    }
+
+    /// Lets another process hold the file at a path.
+    pub fn hold(&mut self, path: &str) -> Result<(), AllocError> {
+        self.held = Some(String::from_str(self.alloc, path)?);
         Ok(())
     }
 
@@ -386,6 +396,11 @@ impl<'a> Files for Machine<'a> {
         self.tree_mut()?.rename(from, to)
     }
 
+    fn hard_link(&self, original: &str, link: &str) -> io::Result<()> {
+        self.begin()?;
+        self.tree_mut()?.link(original, link)
+    }
+
     fn remove_file(&self, path: &str) -> io::Result<()> {
         self.begin()?;
         self.tree_mut()?.remove(path)
@@ -416,5 +431,19 @@ impl<'a> Files for Machine<'a> {
         }
         let tree = self.tree()?;
         Ok(PathBuf::from_str(alloc, tree.link_at(path)?)?)
+    }
+}
+
+impl EditFiles for Machine<'_> {
+    fn give(&self, _file: &Self::File, _owner: Option<u32>, _group: Option<u32>) -> io::Result<()> {
+        Err(Refusal::Unknown.error())
+    }
+
+    fn hold(&self, file: &Self::File) -> io::Result<bool> {
+        self.begin()?;
+        match &self.state.held {
+            Some(path) => Ok(self.tree()?.open(path)? != file.number),
+            None => Ok(true),
+        }
     }
 }

@@ -4,7 +4,7 @@ use crate::machine::{Machine, State};
 use crate::streams::{Source, Target};
 use crate::tree::{Node, Tree};
 use gix_config::NoMemory;
-use gixcfg_commands::{Streams, Terminal, run_words};
+use gixcfg_commands::{Streams, Terminal, run_words, tell_ill_formed};
 use std::alloc::{AllocError, Global};
 use std::mem::replace;
 
@@ -61,17 +61,34 @@ impl Session {
         };
         let machine = Machine { state: &self.state };
         let status = run_words(&machine, words, Terminal::none(), streams)?;
-        if out.lacks_memory() || err.lacks_memory() {
-            return Err(NoMemory);
-        }
-        let read = input.count();
-        Ok(Done {
-            status,
-            out,
-            err,
-            read,
-        })
+        ended(status, out, err, input.count())
     }
+
+    /// Ends a call of words of which one isn't UTF-8. Nothing is read.
+    ///
+    /// # Errors
+    ///
+    /// Those of [`Session::call`].
+    pub fn call_ill_formed(&mut self) -> Result<Done, NoMemory> {
+        drop(replace(&mut self.input, Source::of(Vec::new(self.alloc))));
+        let out = Target::new(self.alloc, self.out)?;
+        let mut err = Target::new(self.alloc, self.err)?;
+        let status = tell_ill_formed(&mut err);
+        ended(status, out, err, 0)
+    }
+}
+
+/// How a call ended that ran out of no memory around it.
+fn ended(status: u8, out: Target, err: Target, read: usize) -> Result<Done, NoMemory> {
+    if out.lacks_memory() || err.lacks_memory() {
+        return Err(NoMemory);
+    }
+    Ok(Done {
+        status,
+        out,
+        err,
+        read,
+    })
 }
 
 /// A machine that has its working folder alone.

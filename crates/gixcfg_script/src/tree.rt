@@ -315,6 +315,18 @@ impl Tree {
         }
     }
 
+    /// Gives the file at a path a second one, at which nothing is.
+    pub fn link(&mut self, from: &str, to: &str) -> io::Result<()> {
+        let path = self.whole(to)?;
+        if self.at(&path).is_some() {
+            return Err(Refusal::Taken.error());
+        }
+        let entry = self.found(from)?;
+        let (number, node) = (entry.number, copied(self.alloc, &entry.node)?);
+        self.entries.push(Entry { number, path, node })?;
+        Ok(())
+    }
+
     /// Removes what is at a path, even a link.
     pub fn remove(&mut self, path: &str) -> io::Result<()> {
         let path = self.whole(path)?;

@@ -25,7 +25,7 @@ static FOLDERS: [&str; 6] = [
     "/r/.git/refs",
 ];
 
-static FILES: [(&str, &str); 8] = [
+static FILES: [(&str, &str); 10] = [
     ("/etc/gitconfig", "[s]\n\tk = 1\n"),
     (
         "/h/.gitconfig",
@@ -37,6 +37,14 @@ static FILES: [(&str, &str); 8] = [
     ("/r/.git/config", "[l]\n\tk = 1\n[include]\n\tpath = more\n"),
     ("/r/.git/more", "[m]\n\tk = 1\n"),
     ("/r/sub/held.lock", ""),
+    (
+        "/proc/sys/kernel/random/boot_id",
+        "3b6f0c52-91d4-4e7a-8c15-0d2a6e9f4b71\n",
+    ),
+    (
+        "/proc/sys/kernel/random/uuid",
+        "c0ffee00-1234-4abc-9def-0123456789ab\n",
+    ),
 ];
 
 /// Puts a file at a path.

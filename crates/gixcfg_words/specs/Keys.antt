@@ -1,5 +1,6 @@
 -- Which key a word of a call is.
-use Rattle.std.specs.Prelude.{◌≡◌, ℕ, Bool, true, false, not, List, [], ◌∷◌, Option, Some, None, Result, Ok, Err}
+use Rattle.std.specs.Prelude.{◌≡◌, ◌==◌, ◌&&◌, ℕ, nat_eq, Bool, true, false, not, List, [], ◌∷◌, Option, Some, None, Result, Ok, Err, codes, if◌then◌else◌}
+use Rattle.std.specs.List.{list_any, starts_with}
 use Rattle.std.specs.Option.{option_map}
 use Rattle.gitconf_sources.specs.declared.key.KeyRef.{KeyRef}
 use Rattle.gitconf_sources.specs.Key.{Key, key_of, parsed_key}
@@ -22,3 +23,14 @@ IsKey word (Ok key) = (parsed_key word ≡ Some (key_of key)) × (has_section (k
 IsKey word (Err (NoKey told)) = (parsed_key word ≡ None) × (told.now ≡ word)
 IsKey word (Err Nameless) = option_map has_section (parsed_key word) ≡ Some false
 IsKey word (Err fault) = ⊥
+
+-- a word whose first dot stands behind this is an option with its value, as `--file=my.conf`: no section has such a name
+abbrev pub is_option_with_value : (name : List ℕ) → Bool
+is_option_with_value name = starts_with nat_eq name (codes "--") && list_any (λ b. b == 61) name
+
+-- the key that a word is, if it is one
+abbrev pub key_asked : (word : List ℕ) → Option Key
+key_asked word = elim (parsed_key word) [
+  | None ↦ None
+  | Some key ↦ if is_option_with_value key.section then None else Some key
+]

@@ -1,3 +1,4 @@
 pub mod Keys
 pub mod Kinds
 pub mod Plain
+pub mod Shown

@@ -2,19 +2,28 @@
 
 use crate::keys::Names;
 use crate::kinds::Kind;
-use crate::plain::Task;
+use crate::rules::Rules;
 use crate::verbs::Verb;
 use gitconf_sources::key::KeyRef;
+
+/// A call, as its words have it.
+#[derive(Drop)]
+pub struct Call<'a> {
+    /// What it asks for.
+    pub command: Command<'a>,
+    /// Whose rules it follows.
+    pub rules: Rules,
+}
 
 /// What the words of a call ask for.
 #[derive(Drop)]
 pub enum Command<'a> {
-    /// A call without options, which works on standard input or loads a file.
-    Plain(Task<'a>),
     /// Prints values.
     Get(Get<'a>),
     /// Prints all entries.
     List(List<'a>),
+    /// Prints standard input as it is read.
+    Print,
     /// Gives a key a value.
     Set(Set<'a>),
     /// Removes entries of a key.
@@ -319,8 +328,7 @@ impl Command<'_> {
     /// Whether it reads standard input without being told so by a `-` among the names of files.
     pub fn reads_input(&self) -> bool {
         match self {
-            Command::Plain(Task::OnInput(_)) => true,
-            Command::Plain(Task::Load(..)) => false,
+            Command::Print => true,
             Command::Get(get) => get.reading.is_of_input(),
             Command::List(list) => list.reading.is_of_input(),
             Command::Set(set) => set.target.is_input(),

@@ -31,7 +31,6 @@ pub(crate) struct GivenOption<'a> {
 }
 
 /// The options and the other words of a call.
-#[derive(Drop)]
 pub(crate) struct Given<'a> {
     /// What the call begins with.
     pub verb: Verb,
@@ -44,6 +43,13 @@ pub(crate) struct Given<'a> {
     pub action: Option<Action>,
     /// The words that are no options.
     pub words: Vec<&'a str>,
+}
+
+impl Drop for Given<'_> {
+    // By hand, so that each way out of a function is one call: a derived one is proved there part by part.
+    fn drop(self) {
+        drop(self.into_lists());
+    }
 }
 
 impl<'a> Given<'a> {
@@ -93,13 +99,22 @@ impl<'a> Given<'a> {
         Ok(self.words.push(word)?)
     }
 
+    /// Notes that an option is given, or taken back.
+    ///
+    /// # Errors
+    ///
+    /// Out of memory.
+    fn note(&mut self, given: GivenOption<'a>) -> Result<(), Fault<'a>> {
+        Ok(self.options.push(given)?)
+    }
+
     /// Puts in an option that has no word of its own, which is called by this name.
     ///
     /// # Errors
     ///
     /// It names a file, a type or an action, and another one is named already; only git has it; out of memory.
     pub fn put(&mut self, option: Opt, name: &'a str) -> Result<(), Fault<'a>> {
-        self.options.push(GivenOption {
+        self.note(GivenOption {
             option,
             name,
             word: None,
@@ -131,14 +146,12 @@ impl<'a> Given<'a> {
             Opt::Kind(_) | Opt::Do(_) | Opt::Alone(_) => return Err(Fault::UnknownOption(name)),
             _ => {}
         }
-        Ok(
-            self.options.push(GivenOption {
-                option,
-                name,
-                word: None,
-                is_given: false,
-            })?,
-        )
+        self.note(GivenOption {
+            option,
+            name,
+            word: None,
+            is_given: false,
+        })
     }
 
     /// Puts in an option that is called by this name, with its word.
@@ -147,41 +160,40 @@ impl<'a> Given<'a> {
     ///
     /// The word is none that the option may have; another file or type is named already; out of memory.
     pub fn put_word(&mut self, option: Opt, name: &'a str, word: &'a str) -> Result<(), Fault<'a>> {
-        self.options.push(GivenOption {
+        self.note(GivenOption {
             option,
             name,
             word: Some(word),
             is_given: true,
         })?;
-        let is_meant = match option {
-            Opt::File if !word.is_empty() => {
-                self.put_file(Named::Path(word), word)?;
-                true
-            }
-            Opt::Type => match kind_named(word) {
-                Some(kind) => {
-                    self.put_kind(kind)?;
-                    true
-                }
-                None => false,
-            },
+        match option {
+            Opt::File if !word.is_empty() => self.put_file(Named::Path(word), word),
+            Opt::Type => self.put_kind_named(word),
             option => self.put_meant(option, word),
-        };
-        if is_meant {
-            Ok(())
-        } else {
-            Err(Fault::BadWord(option, word))
         }
     }
 
-    /// Puts in what an option's word means, if not each word has a meaning; whether it has one.
-    fn put_meant(&mut self, option: Opt, word: &str) -> bool {
-        match option {
+    /// Puts in the type of a value that a word names.
+    fn put_kind_named(&mut self, word: &'a str) -> Result<(), Fault<'a>> {
+        match kind_named(word) {
+            Some(kind) => self.put_kind(kind),
+            None => Err(Fault::BadWord(Opt::Type, word)),
+        }
+    }
+
+    /// Puts in what an option's word means, if not each word has a meaning.
+    fn put_meant(&mut self, option: Opt, word: &'a str) -> Result<(), Fault<'a>> {
+        let is_meant = match option {
             Opt::File => false,
             Opt::Comment => is_comment(word),
             Opt::Indent => put_in(&mut self.indent, indent_named(word)),
             Opt::Newline => put_in(&mut self.newline, newline_named(word)),
             _ => true,
+        };
+        if is_meant {
+            Ok(())
+        } else {
+            Err(Fault::BadWord(option, word))
         }
     }
 
@@ -278,8 +290,22 @@ impl<'a> Given<'a> {
 
     /// The words, without the options.
     pub fn into_words(self) -> Vec<&'a str> {
-        let Given { words, .. } = self;
-        words
+        self.into_lists().1
+    }
+
+    /// The options and the words.
+    fn into_lists(self) -> (Vec<GivenOption<'a>>, Vec<&'a str>) {
+        let Given {
+            verb: _,
+            options,
+            file: _,
+            kind: _,
+            indent: _,
+            newline: _,
+            action: _,
+            words,
+        } = self;
+        (options, words)
     }
 
     /// The only word.

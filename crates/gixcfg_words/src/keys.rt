@@ -1,10 +1,8 @@
 //! Keys and the names of sections, as words have them.
-ghost use Rattle.std.specs.Prelude.{◌≡◌};
-ghost use Rattle.std.specs.Option.{option_copied};
-ghost use Rattle.gixcfg_words.specs.Keys as keys;
 ghost use Rattle.gixcfg_words.specs.Keys.{IsKey};
 
 use crate::fault::Fault;
+use crate::plain::is_nameless;
 use gitconf_sources::key::KeyRef;
 
 /// The names of a section.
@@ -29,13 +27,6 @@ pub fn key_of<'a>(word: &'a str) -> Result<KeyRef<'a>, Fault<'a>>
         Some(key) => Ok(key),
         None => Err(Fault::NoKey(word)),
     }
-}
-
-/// Whether a section of these names has neither a name nor a subsection. Its header would be `[]`, which no file may have.
-pub fn is_nameless(name: &str, subsection_name: Option<&[u8]>) -> bool
-    ensures { result ≡ keys.is_nameless name.now (option_copied subsection_name.entry) }
-{
-    name.is_empty() && subsection_name.is_none()
 }
 
 /// The name of a section and its subsection, which a word has with a dot between them.

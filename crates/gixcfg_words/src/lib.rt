@@ -13,6 +13,7 @@ mod of_git;
 mod options;
 pub mod plain;
 mod reading;
+pub mod rules;
 pub mod shown;
 pub mod verbs;
 mod words;

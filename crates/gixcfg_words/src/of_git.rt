@@ -60,11 +60,11 @@ fn command_of<'a>(given: &Given<'a>, action: Action) -> Result<Command<'a>, Faul
         Action::GetRegexp => get_regexp(given),
         Action::GetUrlmatch => {
             let (word, url) = given.two_words()?;
-            Ok(Command::Get(for_url(given, word, url)))
+            Ok(for_url(given, word, url))
         }
-        Action::List => Ok(Command::List(list(given)?)),
-        Action::RenameSection => Ok(Command::RenameSection(renaming(given)?)),
-        Action::RemoveSection => Ok(Command::RemoveSection(removal(given)?)),
+        Action::List => list(given),
+        Action::RenameSection => renaming(given),
+        Action::RemoveSection => removal(given),
         action => edit_of(given, action),
     }
 }
@@ -72,23 +72,34 @@ fn command_of<'a>(given: &Given<'a>, action: Action) -> Result<Command<'a>, Faul
 /// The command that edits entries which an action is.
 fn edit_of<'a>(given: &Given<'a>, action: Action) -> Result<Command<'a>, Fault<'a>> {
     match action {
-        Action::Add => {
-            let (key, value) = given.two_words()?;
-            setting(given, key, value, Placing::New)
-        }
-        Action::ReplaceAll => {
-            let (key, value, pattern) = given.two_words_and_more()?;
-            setting(given, key, value, Placing::All(given.values(pattern)?))
-        }
-        Action::Unset | Action::UnsetAll => {
-            let (key, pattern) = given.word_and_more()?;
-            unsetting(given, key, pattern, action == Action::UnsetAll)
-        }
-        _ => {
-            let (key, value, pattern) = given.two_words_and_more()?;
-            setting(given, key, value, Placing::Only(given.values(pattern)?))
-        }
+        Action::Add => add(given),
+        Action::Unset | Action::UnsetAll => unset(given, action == Action::UnsetAll),
+        _ => replace(given, action == Action::ReplaceAll),
     }
+}
+
+/// A new entry.
+fn add<'a>(given: &Given<'a>) -> Result<Command<'a>, Fault<'a>> {
+    let (key, value) = given.two_words()?;
+    setting(given, key, value, Placing::New)
+}
+
+/// A value in place of one, or of all.
+fn replace<'a>(given: &Given<'a>, is_all: bool) -> Result<Command<'a>, Fault<'a>> {
+    let (key, value, pattern) = given.two_words_and_more()?;
+    let values = given.values(pattern)?;
+    let placing = if is_all {
+        Placing::All(values)
+    } else {
+        Placing::Only(values)
+    };
+    setting(given, key, value, placing)
+}
+
+/// A key without one of its entries, or without all.
+fn unset<'a>(given: &Given<'a>, is_all: bool) -> Result<Command<'a>, Fault<'a>> {
+    let (key, pattern) = given.word_and_more()?;
+    unsetting(given, key, pattern, is_all)
 }
 
 /// The values of a key: the last one, or all.

@@ -1,16 +1,17 @@
 //! What the words of a call ask for.
 
 use crate::command::{
-    Check, Choice, Command, Diff, Files, Fmt, ForUrl, Get, List, Placing, Removal, Renaming, Set,
-    Unset, Values, Wanted,
+    Call, Check, Choice, Command, Diff, Files, Fmt, ForUrl, Get, List, Placing, Removal, Renaming,
+    Set, Unset, Values, Wanted,
 };
 use crate::fault::Fault;
 use crate::given::Given;
 use crate::keys::{key_of, names_of, new_names_of};
 use crate::of_git;
 use crate::options::{Alone, Opt};
-use crate::plain::task_of;
+use crate::plain::plain_command;
 use crate::reading::{given_by, is_option};
+use crate::rules::Rules;
 use crate::verbs::{Verb, plain_call, topic_named, verb_named};
 use std::alloc::Global;
 
@@ -19,10 +20,21 @@ use std::alloc::Global;
 /// # Errors
 ///
 /// What is wrong with the first word that isn't understood, else with their number, else with how options go together. Out of memory.
-pub fn read<'a>(alloc: Global, words: &[&'a str]) -> Result<Command<'a>, Fault<'a>> {
-    if let Some(task) = task_of(words) {
-        return Ok(Command::Plain(task));
+pub fn read<'a>(alloc: Global, words: &[&'a str]) -> Result<Call<'a>, Fault<'a>> {
+    match plain_command(words) {
+        Some(command) => Ok(Call {
+            command,
+            rules: Rules::Library,
+        }),
+        None => Ok(Call {
+            command: read_first(alloc, words)?,
+            rules: Rules::Git,
+        }),
     }
+}
+
+/// What words ask for that are a call with options.
+fn read_first<'a>(alloc: Global, words: &[&'a str]) -> Result<Command<'a>, Fault<'a>> {
     let Some((first, others)) = words.split_first() else {
         return Err(Fault::NoCommand);
     };
@@ -87,41 +99,54 @@ fn read_command<'a>(
     words: &[&'a str],
 ) -> Result<Command<'a>, Fault<'a>> {
     let given = given_by(alloc, verb, words)?;
-    if given.has(Opt::Help) {
-        return Ok(Command::Help(Some(verb)));
-    }
     match verb {
-        Verb::Get => Ok(Command::Get(get(&given)?)),
-        Verb::Set => set(&given),
-        Verb::Unset => unset(&given),
-        Verb::List => Ok(Command::List(list(&given)?)),
-        Verb::RenameSection => Ok(Command::RenameSection(renaming(&given)?)),
-        Verb::RemoveSection => Ok(Command::RemoveSection(removal(&given)?)),
-        Verb::Diff => Ok(Command::Diff(diff(&given)?)),
+        _ if given.has(Opt::Help) => Ok(Command::Help(Some(verb))),
         Verb::Fmt => fmt(given),
         Verb::Check => check(given),
-        Verb::Help | Verb::Forms => Ok(Command::Help(None)),
+        verb => command_of(&given, verb),
+    }
+}
+
+/// The command that is none on several files.
+fn command_of<'a>(given: &Given<'a>, verb: Verb) -> Result<Command<'a>, Fault<'a>> {
+    match verb {
+        Verb::Get => get(given),
+        Verb::Set => set(given),
+        Verb::Unset => unset(given),
+        Verb::List => list(given),
+        Verb::RenameSection => renaming(given),
+        Verb::RemoveSection => removal(given),
+        Verb::Diff => diff(given),
+        Verb::Fmt | Verb::Check | Verb::Help | Verb::Forms => Ok(Command::Help(None)),
     }
 }
 
 /// What `get` is asked for.
-fn get<'a>(given: &Given<'a>) -> Result<Get<'a>, Fault<'a>> {
+fn get<'a>(given: &Given<'a>) -> Result<Command<'a>, Fault<'a>> {
     let word = given.word()?;
     let choice = choice_of(given)?;
     let values = given.values(given.word_of(Opt::Value))?;
-    if let Some(url) = given.word_of(Opt::Url) {
-        return match beside_url(given) {
-            Some(option) => Err(Fault::Both(option, "--url")),
-            None => Ok(for_url(given, word, url)),
-        };
+    match (given.word_of(Opt::Url), beside_url(given)) {
+        (Some(_), Some(option)) => Err(Fault::Both(option, "--url")),
+        (Some(url), None) => Ok(for_url(given, word, url)),
+        (None, _) => getting(given, word, values, choice),
     }
-    Ok(Get {
+}
+
+/// The entries of a key, or of all in which a pattern is found, that have such values.
+fn getting<'a>(
+    given: &Given<'a>,
+    word: &'a str,
+    values: Values<'a>,
+    choice: Choice<'a>,
+) -> Result<Command<'a>, Fault<'a>> {
+    Ok(Command::Get(Get {
         reading: given.reading(),
         wanted: wanted_by(given, word)?,
         values,
         choice,
         form: given.form(given.has(Opt::ShowNames)),
-    })
+    }))
 }
 
 /// An option that doesn't go with `--url`, if one is given.
@@ -140,12 +165,12 @@ fn beside_url(given: &Given<'_>) -> Option<&'static str> {
 }
 
 /// The entries for a URL, by a word: a section, all of whose variables are meant, or a section and a variable with a dot between them.
-pub(crate) fn for_url<'a>(given: &Given<'a>, word: &'a str, url: &'a str) -> Get<'a> {
+pub(crate) fn for_url<'a>(given: &Given<'a>, word: &'a str, url: &'a str) -> Command<'a> {
     let (section_name, value_name) = match word.split_once('.') {
         Some((section_name, value_name)) => (section_name, Some(value_name)),
         None => (word, None),
     };
-    Get {
+    Command::Get(Get {
         reading: given.reading(),
         wanted: Wanted::ForUrl(ForUrl {
             url,
@@ -155,7 +180,7 @@ pub(crate) fn for_url<'a>(given: &Given<'a>, word: &'a str, url: &'a str) -> Get
         values: Values::Any,
         choice: Choice::All,
         form: given.form(value_name.is_none()),
-    }
+    })
 }
 
 /// Which of the entries `get` prints.
@@ -177,12 +202,12 @@ fn wanted_by<'a>(given: &Given<'a>, word: &'a str) -> Result<Wanted<'a>, Fault<'
 }
 
 /// All entries.
-pub(crate) fn list<'a>(given: &Given<'a>) -> Result<List<'a>, Fault<'a>> {
+pub(crate) fn list<'a>(given: &Given<'a>) -> Result<Command<'a>, Fault<'a>> {
     given.no_words()?;
-    Ok(List {
+    Ok(Command::List(List {
         reading: given.reading(),
         form: given.form(true),
-    })
+    }))
 }
 
 /// What `set` is asked for.
@@ -244,38 +269,38 @@ pub(crate) fn unsetting<'a>(
 }
 
 /// What `rename-section` is asked for.
-pub(crate) fn renaming<'a>(given: &Given<'a>) -> Result<Renaming<'a>, Fault<'a>> {
+pub(crate) fn renaming<'a>(given: &Given<'a>) -> Result<Command<'a>, Fault<'a>> {
     let (old, new) = given.two_words()?;
-    Ok(Renaming {
+    Ok(Command::RenameSection(Renaming {
         target: given.target()?,
         old: names_of(old),
         new: new_names_of(new)?,
         is_synced: given.is_synced(),
-    })
+    }))
 }
 
 /// What `remove-section` is asked for.
-pub(crate) fn removal<'a>(given: &Given<'a>) -> Result<Removal<'a>, Fault<'a>> {
+pub(crate) fn removal<'a>(given: &Given<'a>) -> Result<Command<'a>, Fault<'a>> {
     let word = given.word()?;
-    Ok(Removal {
+    Ok(Command::RemoveSection(Removal {
         target: given.target()?,
         names: names_of(word),
         is_synced: given.is_synced(),
-    })
+    }))
 }
 
 /// What `diff` is asked for.
-fn diff<'a>(given: &Given<'a>) -> Result<Diff<'a>, Fault<'a>> {
+fn diff<'a>(given: &Given<'a>) -> Result<Command<'a>, Fault<'a>> {
     let (one, other) = given.two_words()?;
     if one == "-" && other == "-" {
         return Err(Fault::TwoInputs);
     }
-    Ok(Diff {
+    Ok(Command::Diff(Diff {
         one,
         other,
         is_quiet: given.has(Opt::Quiet),
         is_null: given.has(Opt::Null),
-    })
+    }))
 }
 
 /// What `fmt` is asked for.

@@ -54,7 +54,7 @@ impl From<init::Error> for Refusal {
 impl From<includes::Error> for Refusal {
     fn from(refusal: includes::Error) -> Refusal {
         match refusal {
-            includes::Error::Parse(refusal) => Refusal::from(refusal),
+            includes::Error::Parse { source, .. } => Refusal::from(source),
             other => Refusal::Numbered(other.number()),
         }
     }
@@ -63,7 +63,7 @@ impl From<includes::Error> for Refusal {
 impl From<from_paths::Error> for Refusal {
     fn from(refusal: from_paths::Error) -> Refusal {
         match refusal {
-            from_paths::Error::Init(refusal) => Refusal::from(refusal),
+            from_paths::Error::Init { source, .. } => Refusal::from(source),
             other => Refusal::Numbered(other.number()),
         }
     }

@@ -1,31 +1,20 @@
 use Rattle.std.proofs.Common.{◌≡◌, ℕ, List, Option, Some, None, Result, Ok, Err, refl, ap, subst, ◌∙◌}
-use Rattle.std.specs.Prelude.{IfErr, IfOk, OnErr, option_map, string_bytes}
+use Rattle.std.specs.Prelude.{IfOk, OnErr, option_map, string_bytes}
 use Rattle.std.proofs.lemmas.Result.{IfOk-weaker}
 use Rattle.bstr.specs.Owned.{bstring_bytes}
 use Rattle.gitconf_state.specs.Edit.{Spacing}
 use Rattle.gitconf_state.specs.Editors.{Editor}
-use Rattle.gitconf_state.specs.Edits.{Answer, Count, DeleteAt, Done, Entry, NewSection, Number, Pop, PushSection, Raw, Remove, RemoveMarked, RemoveNumbered, SetMeta, SetTrust, answer}
+use Rattle.gitconf_state.specs.Edits.{Count, DeleteAt, Done, Entry, NewSection, Number, Pop, PushSection, Raw, Remove, RemoveMarked, RemoveNumbered, SetMeta, SetTrust, answer}
 use Rattle.gitconf_state.specs.State.{SectionState, State}
 use Rattle.gitconf_text.specs.declared.parse.section.header.Error.{Error as HeaderError}
-use Rattle.gitconf_text.specs.declared.memory.NoMemory.{NoMemory}
 use Rattle.gitconf_body.specs.Refusals.{header_refusal, span_refusal, value_refusal}
 use Rattle.gitconf_store.specs.RenameErrors.{rename_refusal}
 use Rattle.gitconf_store.specs.SetErrors.{set_refusal}
 use Rattle.gix_config_laws.specs.Headline.{Ending, Ends, IsOneEnding, no_memory}
 use Rattle.gix_config.specs.SectionEditors.{IsFoundOrMadeOf, edited, editor_at, number_of, told}
 use Rattle.gix_config.specs.declared.file.section_mut.SectionMut.{SectionMut}
-use Rattle.gix_config_laws.proofs.ReadsBack.{always_ends, is_editor_step, is_free_step, is_step}
+use Rattle.gix_config_laws.proofs.ReadsBack.{always_ends, is_editor_step, is_free_step, is_step, only_memory, same_told}
 use Rattle.gix_config_laws.proofs.calls_end_as_their_contracts_say.Goals as goal
-
--- there is one refusal for want of memory
-only_memory : {T : Type 0} (result : Result T NoMemory) → IfErr result (λ e. e ≡ no_memory)
-only_memory (Ok t) = tt
-only_memory (Err e) = refl
-
--- an answer that no result shows is the same
-same_told : {T : Type 0} (given : Answer) (result : Result T NoMemory) → IfOk result (λ _. given ≡ given)
-same_told given (Ok t) = refl
-same_told given (Err e) = tt
 
 pub returns-clause-pushes : goal.returns-clause-pushes
 returns-clause-pushes c = is_step (λ _. Done) value_refusal

@@ -32,8 +32,8 @@ returns-in-Err-clause-loaded g c =
     (subst (λ n. Loads c.args.must_exist ignores asks c.args.meta path c.args.target.now (Err n)) (sym c.refusal.ensures.number)
     (faulted c.args.must_exist ignores asks c.args.meta path c.args.target.now (load_fault c.in-Err.fault.stage) takes))
 
-pub returns-in_err-made-clause-loaded : goal.returns-in_err-made-clause-loaded
-returns-in_err-made-clause-loaded g c =
+pub returns-in-Err-resolved_text-clause-loaded : goal.returns-in-Err-resolved_text-clause-loaded
+returns-in-Err-resolved_text-clause-loaded g c =
     let table = g.F.Files.table c.args.files.now in
     let asks = asks_of c.args.options.now table in
     let ignores = c.args.options.now.ignore_io_errors in
@@ -43,18 +43,18 @@ returns-in_err-made-clause-loaded g c =
     let takes = subst (λ p. Takes c.args.must_exist ignores asks c.args.meta p c.args.target.now (Ok (Some c.in-Ok-Some.text.items))) at
     (subst (λ o. Takes c.args.must_exist ignores asks c.args.meta c.deref.result.now c.args.target.now (text_taken (Ok o))) (c.in-Ok-Some.field-0-is ∙ ap Some c.in-Ok-Some.text-is) c.in-Ok-Some.ensures.taken) in
     let whole : c.in_ok-shared.field-0.value ≡ c.args.meta = search rules in
-    let made = subst (λ m. IsMadeOf init_number asks c.in-Ok-Some.text.items m (Err c.in_err-made.field-0.0)) whole
-    (subst (λ t. IsMadeOf init_number (asks_of c.args.options.now t) c.in-Ok-Some.text.items c.in_ok-shared.field-0.value (Err c.in_err-made.field-0.0)) c.text_of.ensures.table c.in_err-made.ensures.made) in
-    of_meta c.args.must_exist ignores asks c.args.meta path c.args.target.now (left_by paths_number c.from_residual-in_err-made.result c.args.target.now) has
-    (not_made_left c.args.must_exist ignores asks c.args.meta path c.in-Ok-Some.text.items c.args.target.now c.in_err-made.field-0.0 c.from_residual-in_err-made.result takes made c.from_residual-in_err-made.ensures.1)
+    let made = subst (λ m. IsMadeOf init_number asks c.in-Ok-Some.text.items m (Err c.in-Err-resolved_text.refusal)) whole
+    (subst (λ t. IsMadeOf init_number (asks_of c.args.options.now t) c.in-Ok-Some.text.items c.in_ok-shared.field-0.value (Err c.in-Err-resolved_text.refusal)) c.text_of.ensures.table c.in-Err-resolved_text.ensures.made) in
+    of_meta c.args.must_exist ignores asks c.args.meta path c.args.target.now (Err (paths_number c.of.result)) has
+    (not_made_left c.args.must_exist ignores asks c.args.meta path c.in-Ok-Some.text.items c.args.target.now c.in_ok-at.at c.in-Err-resolved_text.refusal (Err c.of.result) takes made c.of.ensures)
 
-pub returns-in_err-made-clause-counted : goal.returns-in_err-made-clause-counted
-returns-in_err-made-clause-counted g c =
-    made_counts c.args.target.now c.in_err-made.field-0.0 c.from_residual-in_err-made.result (g.F.Files.failures c.args.files.now) (g.F.Files.failures c.text_of.new.files) (g.F.Files.failures c.resolved_text.new.files)
-    c.from_residual-in_err-made.ensures.1 c.in-Ok-Some.ensures.counted c.in_err-made.ensures.counted
+pub returns-in-Err-resolved_text-clause-counted : goal.returns-in-Err-resolved_text-clause-counted
+returns-in-Err-resolved_text-clause-counted g c =
+    made_counts c.args.target.now c.in_ok-at.at c.in-Err-resolved_text.refusal (Err c.of.result) (g.F.Files.failures c.args.files.now) (g.F.Files.failures c.text_of.new.files) (g.F.Files.failures c.resolved_text.new.files)
+    c.of.ensures c.in-Ok-Some.ensures.counted c.in-Err-resolved_text.ensures.counted
 
-pub returns-clause-loaded : goal.returns-clause-loaded
-returns-clause-loaded g c =
+pub returns-in-Ok-clause-loaded : goal.returns-in-Ok-clause-loaded
+returns-in-Ok-clause-loaded g c =
     let table = g.F.Files.table c.args.files.now in
     let asks = asks_of c.args.options.now table in
     let ignores = c.args.options.now.ignore_io_errors in
@@ -64,7 +64,7 @@ returns-clause-loaded g c =
     let takes = subst (λ p. Takes c.args.must_exist ignores asks c.args.meta p c.args.target.now (Ok (Some c.in-Ok-Some.text.items))) at
     (subst (λ o. Takes c.args.must_exist ignores asks c.args.meta c.deref.result.now c.args.target.now (text_taken (Ok o))) (c.in-Ok-Some.field-0-is ∙ ap Some c.in-Ok-Some.text-is) c.in-Ok-Some.ensures.taken) in
     let whole : c.in_ok-shared.field-0.value ≡ c.args.meta = search rules in
-    let made = subst (λ m. IsMadeOf init_number asks c.in-Ok-Some.text.items m (Ok c.in_ok-made.made)) whole
-    (subst (λ t. IsMadeOf init_number (asks_of c.args.options.now t) c.in-Ok-Some.text.items c.in_ok-shared.field-0.value (Ok c.in_ok-made.made)) c.text_of.ensures.table c.in_ok-made.ensures.made) in
+    let made = subst (λ m. IsMadeOf init_number asks c.in-Ok-Some.text.items m (Ok c.in-Ok.made)) whole
+    (subst (λ t. IsMadeOf init_number (asks_of c.args.options.now t) c.in-Ok-Some.text.items c.in_ok-shared.field-0.value (Ok c.in-Ok.made)) c.text_of.ensures.table c.in-Ok.ensures.made) in
     of_meta c.args.must_exist ignores asks c.args.meta path c.args.target.now (left_by paths_number c.join.result c.join.new.target) has
-    (put c.args.must_exist ignores asks c.args.meta path c.args.target.now c.in-Ok-Some.text.items c.in_ok-made.made (left_by paths_number c.join.result c.join.new.target) takes made c.join.ensures.joined)
+    (put c.args.must_exist ignores asks c.args.meta path c.args.target.now c.in-Ok-Some.text.items c.in-Ok.made (left_by paths_number c.join.result c.join.new.target) takes made c.join.ensures.joined)

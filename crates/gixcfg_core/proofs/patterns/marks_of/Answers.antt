@@ -1,6 +1,6 @@
-use Rattle.std.proofs.Common.{◌≡◌, Bool, List, Some, None, refl, rules, subst, sym, ℕ, map}
+use Rattle.std.proofs.Common.{Some, None, refl, rules, subst, sym}
 use Rattle.std.proofs.lemmas.Result.{IfOk-weaker}
-use Rattle.gixcfg_core.specs.Patterns.{is_negated, is_text, passes, sought, IsRegexOf, Means}
+use Rattle.gixcfg_core.specs.Patterns.{is_text, passes, Means}
 use Rattle.gixcfg_core.proofs.Negated.{means_as_told}
 use Rattle.gixcfg_core.proofs.patterns.marks_of.Goals as goal
 

@@ -1,11 +1,12 @@
 use Rattle.std.proofs.Common.{◌∙◌}
-use Rattle.gixcfg_core.proofs.LineLemmas.{first_at, first_none}
+use Rattle.gixcfg_core.proofs.LineLemmas.{all_none, ended_at}
+use Rattle.gixcfg_core.specs.Line.{is_feed}
 use Rattle.gixcfg_core.proofs.reason.first_line.Goals as goal
 
 pub returns-in-Some : goal.returns-in-Some
 returns-in-Some c =
     c.split_at.ensures.front
-    ∙ first_at c.args.text.now c.in-Some.end c.in-Some.ensures.0.high c.in-Some.ensures.0.before c.in-Some.ensures.1
+    ∙ ended_at is_feed c.args.text.now c.in-Some.end c.in-Some.ensures.0.high c.in-Some.ensures.0.before c.in-Some.ensures.1
 
 pub returns-in-None : goal.returns-in-None
-returns-in-None c = first_none c.args.text.now c.in-None.ensures
+returns-in-None c = all_none is_feed c.args.text.now c.in-None.ensures

@@ -1,0 +1,13 @@
+use Rattle.std.proofs.Common.{refl}
+use Rattle.std.specs.Option.{option_copied}
+use Rattle.gitconf_body.specs.Refusals.{value_refusal}
+use Rattle.gitconf_state.specs.Edits.{PushAfterLast}
+use Rattle.gix_config.specs.SectionEditors.{edited, editor, number_of}
+use Rattle.gix_config_laws.proofs.CallSteps.{quiet_step}
+use Rattle.gix_config_laws.proofs.steps.sections.push_after_last.Goals as goal
+
+pub returns : goal.returns
+returns c =
+    let section = c.args.section.now in
+    let call = c.push_after_last in
+    quiet_step value_refusal (PushAfterLast (number_of section) (editor section) c.args.value_name.now (option_copied c.args.value)) call.result (edited section) (edited call.new.self) refl call.ensures.done
