@@ -1,5 +1,6 @@
 //! Calls, by their words.
-ghost use Rattle.std.specs.Prelude.{◌≡◌, ◌≤◌, IfOk};
+ghost use Rattle.std.specs.Prelude.{◌≡◌, IfOk};
+ghost use Rattle.gixcfg_core.specs.Troubles.{IsStatus};
 
 use crate::checks::check;
 use crate::differing::diff;
@@ -54,7 +55,7 @@ impl Terminal {
 }
 
 /// Runs the program with the words after its name, and returns its exit status: 0 done, 1 missing, 2 usage, 3 refused, 4 input, output or a
-/// file, 5 several entries or none, or out of memory.
+/// file, 5 several entries or none, or out of memory, 128 no repository or no home folder to look in.
 ///
 /// # Errors
 ///
@@ -65,7 +66,7 @@ pub fn run_words<
     W: Write + Drop,
     E: Write + Drop,
 >(rt: &R, words: &[&str], terminal: Terminal, streams: Streams<I, W, E>) -> Result<u8, NoMemory>
-    ensures { IfOk result (λ status. status ≤ 5) }
+    ensures { IfOk result IsStatus }
 {
     let Streams {
         input,
@@ -96,7 +97,7 @@ fn do_call<'a, R: EditFiles + Env + Loads + AllocGlobal + Copy, I: Read + Drop, 
     out: &mut W,
     err: &mut E,
 ) -> u8
-    ensures { result ≤ 5 }
+    ensures { IsStatus result }
 {
     let Call { command, rules } = call;
     let mut inputs = Inputs {
@@ -117,7 +118,7 @@ fn tell_input<E: Write>(err: &mut E) {
 
 /// Tells that a word of the call isn't UTF-8, and how calls are written, and returns the status.
 pub fn tell_ill_formed<E: Write>(err: &mut E) -> u8
-    ensures { result ≤ 5 }
+    ensures { IsStatus result }
 {
     // A failed write changes no status.
     let _ = err.write_all(b"gixcfg: a word isn't UTF-8\n");
@@ -141,7 +142,7 @@ fn tell_fault<E: Write>(
     terminal: Terminal,
     err: &mut E,
 ) -> u8
-    ensures { result ≤ 5 }
+    ensures { IsStatus result }
 {
     if let Fault::Memory = fault {
         return report(&Trouble::Memory, "", Rules::Git, err);
@@ -158,7 +159,7 @@ fn tell_fault<E: Write>(
 /// Tells a program that reads standard error how calls are written, in the last line, and returns the status. Above it stands but that the first
 /// word is no command.
 fn tell_without_options<E: Write>(alloc: Global, fault: Fault<'_>, err: &mut E) -> u8
-    ensures { result ≤ 5 }
+    ensures { IsStatus result }
 {
     if let Fault::UnknownCommand(_) = fault {
         if fault::tell(alloc, fault, err).is_err() {
@@ -175,7 +176,7 @@ fn do_command<R: EditFiles + Env + Loads + AllocGlobal + Copy, I: Read + Drop, W
     out: &mut W,
     err: &mut E,
 ) -> u8
-    ensures { result ≤ 5 }
+    ensures { IsStatus result }
 {
     match command {
         Command::Help(verb) => print(help_on(verb), out, err),
@@ -199,7 +200,7 @@ fn do_command<R: EditFiles + Env + Loads + AllocGlobal + Copy, I: Read + Drop, W
 
 /// Prints a text that ends with a line feed or not.
 fn print<W: Write, E: Write>(text: &str, out: &mut W, err: &mut E) -> u8
-    ensures { result ≤ 5 }
+    ensures { IsStatus result }
 {
     match put(text.as_bytes(), out) {
         Ok(()) => 0,
@@ -214,7 +215,7 @@ fn do_reading<R: Files + Env + Loads + AllocGlobal + Copy, I: Read + Drop, W: Wr
     out: &mut W,
     err: &mut E,
 ) -> u8
-    ensures { result ≤ 5 }
+    ensures { IsStatus result }
 {
     let rules = inputs.rules;
     match located(inputs.rt, asked.source()) {
@@ -244,7 +245,7 @@ fn do_edit<R: EditFiles + Env + AllocGlobal, I: Read + Drop, W: Write, E: Write>
     out: &mut W,
     err: &mut E,
 ) -> u8
-    ensures { result ≤ 5 }
+    ensures { IsStatus result }
 {
     match located_target(inputs.rt, target) {
         Ok(place) => match carry_out(inputs, &place, call, out, err) {

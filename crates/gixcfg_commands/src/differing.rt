@@ -1,8 +1,9 @@
 //! `diff`: what two files mean differently.
-ghost use Rattle.std.specs.Prelude.{◌≡◌, ◌≤◌, ◌++◌, IfErr, IfOk, flat_map, map, option_map};
+ghost use Rattle.std.specs.Prelude.{◌≡◌, ◌++◌, IfErr, IfOk, flat_map, map, option_map};
 ghost use Rattle.std.specs.Option.{option_copied};
 ghost use Rattle.bstr.specs.Owned.{bstring_bytes};
 ghost use Rattle.gitconf_diff.specs.Differences.{different_of};
+ghost use Rattle.gixcfg_core.specs.Troubles.{IsStatus};
 ghost use Rattle.gixcfg_commands.specs.Differing.{AreDifferenceLines, difference_line};
 
 use crate::named::file_at;
@@ -29,7 +30,7 @@ pub fn diff<R: Files + AllocGlobal, I: Read + Drop, W: Write, E: Write>(
     out: &mut W,
     err: &mut E,
 ) -> u8
-    ensures { result ≤ 5 }
+    ensures { IsStatus result }
 {
     match lines_of(inputs, call, err) {
         Ok(lines) => put_lines(&lines, call.is_quiet, out, err),
@@ -43,7 +44,7 @@ fn lines_of<R: Files + AllocGlobal, I: Read + Drop, E: Write>(
     call: &Diff<'_>,
     err: &mut E,
 ) -> Result<Vec<u8>, u8>
-    ensures { IfErr result (λ status. status ≤ 5) }
+    ensures { IfErr result IsStatus }
 {
     let one = file_or_status(inputs, call.one, err)?;
     let other = file_or_status(inputs, call.other, err)?;
@@ -59,7 +60,7 @@ fn file_or_status<R: Files + AllocGlobal, I: Read + Drop, E: Write>(
     word: &str,
     err: &mut E,
 ) -> Result<File, u8>
-    ensures { IfErr result (λ status. status ≤ 5) }
+    ensures { IfErr result IsStatus }
 {
     match file_at(inputs, word) {
         Ok(file) => {
@@ -89,7 +90,7 @@ fn tell_front<E: Write>(file: &File, name: &str, err: &mut E) {
 
 /// Prints lines, unless nothing is to be printed, and returns 0 if there are none, else 1.
 fn put_lines<W: Write, E: Write>(lines: &[u8], is_quiet: bool, out: &mut W, err: &mut E) -> u8
-    ensures { result ≤ 5 }
+    ensures { IsStatus result }
 {
     if lines.is_empty() {
         return 0;

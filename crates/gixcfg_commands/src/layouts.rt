@@ -1,8 +1,9 @@
 //! `fmt`.
-ghost use Rattle.std.specs.Prelude.{◌≡◌, ◌≤◌, IfErr, IfOk};
+ghost use Rattle.std.specs.Prelude.{◌≡◌, IfErr, IfOk};
 ghost use Rattle.bstr.specs.Owned.{bstring_bytes};
 ghost use Rattle.gitconf_layout.specs.Layout.{IsLayout};
 ghost use Rattle.gixcfg_core.specs.Answers.{IsRefusedText};
+ghost use Rattle.gixcfg_core.specs.Troubles.{IsStatus};
 ghost use Rattle.gixcfg_commands.specs.Layouts.{layout_asked};
 
 use crate::edits::{Edit, carry_out};
@@ -25,7 +26,7 @@ pub fn fmt<R: EditFiles + Env + AllocGlobal, I: Read + Drop, W: Write, E: Write>
     out: &mut W,
     err: &mut E,
 ) -> u8
-    ensures { result ≤ 5 }
+    ensures { IsStatus result }
 {
     match &fmt.files {
         Files::One(target) => fmt_target(inputs, *target, fmt, out, err),
@@ -58,7 +59,7 @@ fn fmt_target<R: EditFiles + Env + AllocGlobal, I: Read + Drop, W: Write, E: Wri
     out: &mut W,
     err: &mut E,
 ) -> u8
-    ensures { result ≤ 5 }
+    ensures { IsStatus result }
 {
     match located_target(inputs.rt, target) {
         Ok(place) => match lay_out(inputs, &place, fmt, out, err) {

@@ -1,5 +1,5 @@
 -- Which trouble another fault is, and the exit status of each.
-use Rattle.std.specs.Prelude.{◌==◌, ◌&&◌, ltb, if◌then◌else◌, ℕ}
+use Rattle.std.specs.Prelude.{◌≡◌, ◌≤◌, ◌⊎◌, ◌==◌, ◌&&◌, ltb, if◌then◌else◌, ℕ}
 use Rattle.gixcfg_files.specs.declared.fault.Fault.{Fault}
 use Rattle.gixcfg_files.specs.declared.fault.Fault.TheVariants as files
 use Rattle.gixcfg_core.specs.declared.typed.Fault.{Fault as TypeFault}
@@ -10,7 +10,8 @@ use Rattle.gixcfg_core.specs.declared.trouble.Trouble.{Trouble}
 use Rattle.gixcfg_core.specs.declared.trouble.Trouble.TheVariants as kinds
 
 -- 1 for what is missing or named in a way that isn't allowed, and for a text that isn't laid out; 2 for a pattern that can't be read and for what is no URL; 3 for a
--- text, an edit or a value that is refused; 4 for a file or a stream that failed; 5 for several entries or none, and for memory
+-- text, an edit or a value that is refused; 4 for a file or a stream that failed; 5 for several entries or none, and for memory; 128 where
+-- there is no repository or no home folder
 abbrev pub status_of : Trouble → ℕ
 status_of kinds.Missing = 1
 status_of kinds.Different = 1
@@ -23,6 +24,8 @@ status_of (kinds.Refused number) = 3
 status_of kinds.Uncommented = 3
 status_of (kinds.Untyped refusal) = 3
 status_of (kinds.Unread message) = 4
+status_of (kinds.File files.NoRepository) = 128
+status_of (kinds.File files.NoHome) = 128
 status_of (kinds.File fault) = 4
 status_of kinds.NoFile = 4
 status_of kinds.Input = 4
@@ -31,6 +34,10 @@ status_of kinds.Closed = 4
 status_of kinds.Several = 5
 status_of kinds.NoEntry = 5
 status_of kinds.Memory = 5
+
+-- an exit status of a call: up to 5, or 128
+abbrev pub IsStatus : ℕ → Type 0
+IsStatus status = (status ≤ 5) ⊎ (status ≡ 128)
 
 -- the status of a refusal by the library, by its number: 5 for out of memory, 4 if a file can't be opened or read, else 3
 abbrev pub refusal_status : (number : ℕ) → ℕ

@@ -6,29 +6,33 @@ use gitconf_includes::init;
 use gitconf_values::path::interpolate;
 use gixcfg_files::Repository;
 use std::alloc::AllocGlobal;
-use std::rt::Files;
+use std::rt::{Env, Files};
 
 /// What conditions of includes are about.
 #[derive(Drop)]
 pub struct Here {
-    /// The folder of the repository, from the root.
+    /// The folder of the repository, from the root, without symbolic links.
     folder: Option<String>,
+    /// The same as the user came to it, where that is another path.
+    shown: Option<String>,
     /// The full name of its branch.
     branch: Option<String>,
 }
 
 /// What conditions are about in a repository, or outside of one.
-pub fn here_from<R: Files + AllocGlobal>(
+pub fn here_from<R: Env + Files + AllocGlobal>(
     rt: &R,
     found: Option<&Repository>,
 ) -> Result<Here, Trouble> {
     match found {
         Some(found) => Ok(Here {
             folder: Some(found.real_folder(rt)?),
+            shown: found.shown_folder(rt)?,
             branch: found.branch(rt)?,
         }),
         None => Ok(Here {
             folder: None,
+            shown: None,
             branch: None,
         }),
     }
@@ -46,7 +50,7 @@ pub fn options_of<'a>(
         home_for_user: None,
     };
     let conditions = conditional::Context {
-        git_dir: here.folder.as_deref().map(git_dir),
+        git_dir: git_dir(here),
         branch_name: here.branch.as_deref(),
     };
     init::Options {
@@ -60,10 +64,11 @@ pub fn options_of<'a>(
     }
 }
 
-/// A folder without symbolic links.
-fn git_dir(path: &str) -> conditional::GitDir<'_> {
-    conditional::GitDir {
-        path,
-        real: Ok(path),
-    }
+/// The folder of the repository, as git compares it: without symbolic links, and as the user came to it.
+fn git_dir(here: &Here) -> Option<conditional::GitDir<'_>> {
+    let real = here.folder.as_deref()?;
+    Some(conditional::GitDir {
+        path: here.shown.as_deref().unwrap_or(real),
+        real: Ok(real),
+    })
 }

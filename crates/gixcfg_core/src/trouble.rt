@@ -1,6 +1,6 @@
 //! Why a call wasn't done, and how that is reported.
 ghost use Rattle.std.specs.Prelude.{◌≡◌};
-ghost use Rattle.gixcfg_core.specs.Troubles.{of_file, of_type, of_url, status_of, trouble_of_number};
+ghost use Rattle.gixcfg_core.specs.Troubles.{of_file, of_type, of_url, status_of, trouble_of_number, IsStatus};
 ghost use Rattle.gixcfg_core.specs.declared.trouble.Trouble.TheVariants.{Memory};
 
 use crate::typed::Refusal;
@@ -15,6 +15,9 @@ use std::io::Write;
 
 /// The status if out of memory.
 pub const MEMORY: u8 = 5;
+
+/// The status where it isn't known which file is meant, as git has it.
+const NOWHERE: u8 = 128;
 
 /// Why a call wasn't done.
 #[derive(Drop)]
@@ -62,9 +65,9 @@ pub enum Trouble {
 impl Trouble {
     ghost use Rattle.gixcfg_core.specs.Troubles.{status_of};
 
-    /// The exit status: as git has it for a key that is missing, 1, for one that has several entries or none to take out, 5, and for a
-    /// file that can't be written, 4; else 1 for what isn't as it should be, 2 for words that mean nothing, 3 for a refusal, 4 for a file or a
-    /// stream that failed, 5 for memory.
+    /// The exit status: as git has it for a key that is missing, 1, for one that has several entries or none to take out, 5, for a
+    /// file that can't be written, 4, and where there is no repository or no home folder to look in, 128; else 1 for what isn't as it should be,
+    /// 2 for words that mean nothing, 3 for a refusal, 4 for a file or a stream that failed, 5 for memory.
     pub fn status(&self) -> u8
         ensures { result ≡ status_of self.now }
     {
@@ -73,6 +76,7 @@ impl Trouble {
             Trouble::BadPattern | Trouble::BadUrl(_) => 2,
             Trouble::Text(_) | Trouble::Refused(_) | Trouble::Uncommented | Trouble::Untyped(_) =>
                 3,
+            Trouble::File(files::Fault::NoRepository | files::Fault::NoHome) => NOWHERE,
             Trouble::File(_)
             | Trouble::Unread(_)
             | Trouble::NoFile
@@ -191,7 +195,8 @@ fn tell_plainly<E: Write>(trouble: &Trouble, err: &mut E) {
 
 /// Reports a trouble with the file of this name, as a call of these rules does, and returns the exit status.
 pub fn report<E: Write>(trouble: &Trouble, name: &str, rules: Rules, err: &mut E) -> u8
-    ensures { result ≡ status_of trouble.now }
+    ensures value { result ≡ status_of trouble.now }
+    ensures known { IsStatus result }
 {
     match rules {
         Rules::Git => tell(trouble, name, err),

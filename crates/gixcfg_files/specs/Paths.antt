@@ -1,5 +1,5 @@
 -- Paths that are put together, and what a file of one line names.
-use Rattle.std.specs.Prelude.{ℕ, ◌-◌, Bool, false, not, ◌≡◌, ◌==◌, ◌||◌, ◌&&◌, nat_eq, List, [], ◌∷◌, ◌++◌, length, take, drop, slice_index, count_by, Option, Some, None, if◌then◌else◌, codes}
+use Rattle.std.specs.Prelude.{ℕ, ◌-◌, ltb, Bool, false, not, ◌≡◌, ◌==◌, ◌||◌, ◌&&◌, nat_eq, List, [], ◌∷◌, ◌++◌, length, take, drop, slice_index, count_by, Option, Some, None, if◌then◌else◌, codes}
 use Rattle.std.specs.Char.{is_ascii_digit}
 use Rattle.std.specs.List.{starts_with, suffix_len, list_any}
 use Rattle.std.specs.Str.{is_utf8}
@@ -46,6 +46,16 @@ is_number (b ∷ bs) = not (b == 48) && (count_by is_ascii_digit (b ∷ bs) == l
 -- the path is from the root on
 abbrev pub is_absolute : List ℕ → Bool
 is_absolute path = slice_index path 0 == 47
+
+-- a path goes on with a slash and a name
+abbrev pub goes_on : List ℕ → Bool
+goes_on rest = ltb 1 (length rest) && (slice_index rest 0 == 47)
+
+-- how many folders there are from the one at a path up, below one that holds it: nothing if that doesn't hold it. Both paths are from the
+-- root on, and neither ends with a slash
+abbrev pub folders_below : (path folder : List ℕ) → Option ℕ
+folders_below path folder =
+    if starts_with nat_eq path folder && goes_on (drop (length folder) path) then Some (count_by is_slash (drop (length folder) path)) else None
 
 -- the path of a folder that the file at a path names: a relative one begins in the file's folder
 abbrev pub joined : (path folder : List ℕ) → List ℕ

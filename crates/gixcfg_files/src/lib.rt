@@ -6,6 +6,7 @@
 #![tactic(auto)]
 
 mod calls;
+mod ceilings;
 mod edit_files;
 mod fault;
 mod folder;

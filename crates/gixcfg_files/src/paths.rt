@@ -84,7 +84,7 @@ pub fn joined(alloc: Global, path: &str, folder: &str) -> Result<String, AllocEr
 }
 
 /// Whether a path is from the root on.
-fn is_absolute(path: &str) -> bool
+pub fn is_absolute(path: &str) -> bool
     ensures { result ≡ is_absolute_lem path.now }
 {
     matches!(path.as_bytes(), [b'/', ..])

@@ -1,17 +1,15 @@
 //! The file of the repository that the working folder is in, as git finds it.
 ghost use Rattle.std.specs.Prelude.{◌≡◌, ◌≤◌, ◌++◌, IfOk, codes, string_bytes};
 
+use crate::ceilings::searched_folders;
 use crate::fault::Fault;
-use crate::paths::{as_folder, depth_of, joined, line_of, within};
+use crate::paths::{as_folder, is_absolute, joined, line_of, within};
 use crate::reading::read;
 use crate::variables::variable;
 use std::alloc::{AllocError, AllocGlobal, Global};
 use std::fs;
 use std::io::ErrorKind;
 use std::rt::{Env, Files};
-
-/// How many bytes the path of a folder has at most.
-const LONGEST: usize = 4096;
 
 /// A repository: its folders, each with a slash at its end, or empty for the working folder.
 #[derive(Drop)]
@@ -43,6 +41,33 @@ impl Repository {
         ensures { IfOk result (λ s. string_bytes s ≡ string_bytes self.now.folder ++ codes "config.worktree") }
     {
         within(alloc, self.folder.as_str(), "config.worktree")
+    }
+
+    /// The path of its folder from the root, as the user came to it: what `GIT_DIR` names, or `.git` of the working folder, by `PWD` if that leads
+    /// there. None if it was found otherwise, or the working folder isn't known so.
+    ///
+    /// # Errors
+    ///
+    /// Out of memory.
+    pub fn shown_folder<R: Env + Files + AllocGlobal>(
+        &self,
+        rt: &R,
+    ) -> Result<Option<String>, Fault> {
+        let named = variable(rt, "GIT_DIR")?;
+        let path = named.as_deref().unwrap_or(".git");
+        let is_there = as_folder(rt.alloc(), path)?.as_str() == self.folder.as_str();
+        if !is_there {
+            return Ok(None);
+        }
+        if is_absolute(path) {
+            return Ok(Some(String::from_str(rt.alloc(), path)?));
+        }
+        match variable(rt, "PWD")? {
+            Some(pwd) if is_working_folder(rt, pwd.as_str())? => {
+                Ok(Some(format!(in rt.alloc(); "{pwd}/{path}")?))
+            }
+            _ => Ok(None),
+        }
     }
 
     /// The path of its folder from the root, without symbolic links.
@@ -100,10 +125,10 @@ pub fn repository_file<R: Env + Files + AllocGlobal>(rt: &R) -> Result<String, F
     }
 }
 
-/// The first repository from the working folder upwards.
+/// The first repository from the working folder upwards, as far as one is looked for.
 fn repository_above<R: Env + Files + AllocGlobal>(rt: &R) -> Result<Option<Repository>, Fault> {
     let mut folder = String::new(rt.alloc());
-    for _ in 0..depth(rt) + 1 {
+    for _ in 0..searched_folders(rt)? {
         if let Some(found) = repository_of(rt, folder.as_str())? {
             return Ok(Some(found));
         }
@@ -112,14 +137,23 @@ fn repository_above<R: Env + Files + AllocGlobal>(rt: &R) -> Result<Option<Repos
     Ok(None)
 }
 
-/// How many folders hold the working folder; none where that isn't known.
-fn depth<R: Env>(rt: &R) -> usize
-    ensures { result ≤ 4096 }
-{
-    let mut path = [0u8; LONGEST];
-    match rt.current_dir(&mut path) {
-        Ok(_) => depth_of(&path),
-        Err(_) => 0,
+/// Whether a path from the root on leads to the working folder.
+fn is_working_folder<R: Files + AllocGlobal>(rt: &R, path: &str) -> Result<bool, Fault> {
+    if !is_absolute(path) {
+        return Ok(false);
+    }
+    match (resolved(rt, path)?, resolved(rt, ".")?) {
+        (Some(path), Some(folder)) => Ok(path == folder),
+        _ => Ok(false),
+    }
+}
+
+/// A path from the root without symbolic links; none if it leads to nothing.
+fn resolved<R: Files + AllocGlobal>(rt: &R, path: &str) -> Result<Option<String>, Fault> {
+    match fs::canonicalize(rt, path) {
+        Ok(path) => Ok(Some(path.into_string())),
+        Err(error) if error.kind() == ErrorKind::OutOfMemory => Err(Fault::Memory),
+        Err(_) => Ok(None),
     }
 }
 
