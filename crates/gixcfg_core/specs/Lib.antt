@@ -11,6 +11,7 @@ pub mod Numbers
 pub mod Origins
 pub mod Patterns
 pub mod Posix
+pub mod Quoted
 pub mod Telling
 pub mod Troubles
 pub mod Typed

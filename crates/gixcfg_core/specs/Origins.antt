@@ -7,6 +7,7 @@ use Rattle.gitconf_sources.specs.declared.source.Source.TheVariants as sources
 use Rattle.gixcfg_words.specs.declared.command.Form.{Form}
 use Rattle.gixcfg_words.specs.declared.command.Place.{Place}
 use Rattle.gixcfg_words.specs.declared.command.Place.TheVariants as places
+use Rattle.gixcfg_core.specs.Quoted.{quoted}
 use Rattle.gixcfg_core.specs.declared.lines.Line.{Line}
 use Rattle.gixcfg_core.specs.declared.origins.Located.{Located}
 use Rattle.gixcfg_core.specs.declared.origins.Located.TheVariants.{Input, File, Effective}
@@ -38,25 +39,35 @@ scope_of meta Effective = scope_of_source meta.source
 scope_of meta (File path place) = scope_of_place place
 scope_of meta Input = codes "command"
 
+-- what a file is called: its path as it is where bytes 0 end what is printed, else as git quotes it
+abbrev pub file_named : (is_null : Bool) (path : List ℕ) → List ℕ
+file_named is_null path = codes "file:" ++ (if is_null then path else quoted path)
+
 -- what an entry without a file of its own comes from
-abbrev pub origin_read : Located → List ℕ
-origin_read Input = codes "standard input:"
-origin_read (File path place) = codes "file:" ++ string_bytes path
-origin_read Effective = codes "command line:"
+abbrev pub origin_read : (is_null : Bool) → Located → List ℕ
+origin_read is_null Input = codes "standard input:"
+origin_read is_null (File path place) = file_named is_null (string_bytes path)
+origin_read is_null Effective = codes "command line:"
 
 -- what the file is called from which something was read
-abbrev pub origin_of : Meta → Located → List ℕ
-origin_of meta read = elim meta.path [ Some path ↦ codes "file:" ++ path | None ↦ origin_read read ]
+abbrev pub origin_of : (is_null : Bool) → Meta → Located → List ℕ
+origin_of is_null meta read = elim meta.path [ Some path ↦ file_named is_null path | None ↦ origin_read is_null read ]
 
 -- what ends that
 abbrev pub end_of : Form → ℕ
 end_of form = if form.is_null then 0 else 9
 
+-- a text with its end, if it is asked for
+abbrev pub ended_if : (is_asked : Bool) → Form → (text : List ℕ) → List ℕ
+ended_if is_asked form text = if is_asked then text ++ end_of form ∷ [] else []
+
 -- what is printed before an entry: its scope and where it comes from, as far as that is asked for
 abbrev pub before_of : Form → Meta → Located → List ℕ
-before_of form meta read =
-    (if form.has_scope then scope_of meta read ++ end_of form ∷ [] else [])
-    ++ (if form.has_origin then origin_of meta read ++ end_of form ∷ [] else [])
+before_of form meta read = ended_if form.has_scope form (scope_of meta read) ++ ended_if form.has_origin form (origin_of form.is_null meta read)
+
+-- what is printed before a value that the call itself gives
+abbrev pub before_given : Form → List ℕ
+before_given form = ended_if form.has_scope form (codes "command") ++ ended_if form.has_origin form (codes "command line:")
 
 -- how `diff` prints entries: all of them
 abbrev pub differences_line : (is_null : Bool) → Line

@@ -22,6 +22,7 @@ pub mod patterns;
 mod place;
 pub mod places;
 mod posix;
+mod quoted;
 mod reason;
 pub mod refusals;
 pub mod streams;

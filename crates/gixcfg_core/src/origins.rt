@@ -1,7 +1,8 @@
 //! Where entries come from.
-ghost use Rattle.std.specs.Prelude.{◌≡◌, ◌++◌, ◌∷◌, [], IfOk, codes, if◌then◌else◌};
+ghost use Rattle.std.specs.Prelude.{◌≡◌, ◌++◌, IfOk};
 ghost use Rattle.gixcfg_core.specs.Origins as origins;
 
+use crate::quoted::add_quoted;
 use gitconf_sources::meta::Metadata;
 use gitconf_sources::source::Source;
 use gitconf_text::NoMemory;
@@ -61,12 +62,34 @@ pub fn before_of(
     ensures { IfOk result (λ before. before.items ≡ origins.before_of form.now meta.now read.now) }
 {
     let mut before = Vec::new(alloc);
-    if form.has_scope {
-        before.extend_from_slice(scope_of(meta, read).as_bytes())?;
-        before.push(end_of(form))?;
-    }
+    add_if(&mut before, form.has_scope, form, scope_of(meta, read))?;
     add_origin_if(&mut before, meta, form, read)?;
     Ok(before)
+}
+
+/// What is printed before a value that the call itself gives.
+///
+/// # Errors
+///
+/// Out of memory.
+pub fn before_given(alloc: Global, form: &Form) -> Result<Vec<u8>, NoMemory>
+    ensures { IfOk result (λ before. before.items ≡ origins.before_given form.now) }
+{
+    let mut before = Vec::new(alloc);
+    add_if(&mut before, form.has_scope, form, "command")?;
+    add_if(&mut before, form.has_origin, form, "command line:")?;
+    Ok(before)
+}
+
+/// Adds a text and its end, if it is asked for.
+fn add_if(before: &mut Vec<u8>, is_asked: bool, form: &Form, text: &str) -> Result<(), NoMemory>
+    ensures { IfOk result (λ _. before.new.items ≡ before.old.items ++ origins.ended_if is_asked form.now text.now) }
+{
+    if is_asked {
+        before.extend_from_slice(text.as_bytes())?;
+        before.push(end_of(form))?;
+    }
+    Ok(())
 }
 
 /// What ends the scope and what ends the file.
@@ -84,10 +107,10 @@ fn add_origin_if(
     read: &Located,
 ) -> Result<(), NoMemory>
     ensures { IfOk result (λ _. before.new.items
-        ≡ before.old.items ++ (if form.now.has_origin then origins.origin_of meta.now read.now ++ origins.end_of form.now ∷ [] else [])) }
+        ≡ before.old.items ++ origins.ended_if form.now.has_origin form.now (origins.origin_of form.now.is_null meta.now read.now)) }
 {
     if form.has_origin {
-        add_origin(before, meta, read)?;
+        add_origin(before, meta, read, form.is_null)?;
         before.push(end_of(form))?;
     }
     Ok(())
@@ -121,22 +144,31 @@ fn scope_of_source(source: Source) -> &'static str
 }
 
 /// Adds what the file is called from which something was read.
-fn add_origin(before: &mut Vec<u8>, meta: &Metadata, read: &Located) -> Result<(), NoMemory>
-    ensures { IfOk result (λ _. before.new.items ≡ before.old.items ++ origins.origin_of meta.now read.now) }
+fn add_origin(
+    before: &mut Vec<u8>,
+    meta: &Metadata,
+    read: &Located,
+    is_null: bool,
+) -> Result<(), NoMemory>
+    ensures { IfOk result (λ _. before.new.items ≡ before.old.items ++ origins.origin_of is_null meta.now read.now) }
 {
     match (&meta.path, read) {
-        (Some(path), _) => add_file(before, path.as_str()),
-        (None, Located::File(path, _)) => add_file(before, path.as_str()),
+        (Some(path), _) => add_file(before, path.as_str(), is_null),
+        (None, Located::File(path, _)) => add_file(before, path.as_str(), is_null),
         (None, Located::Input) => Ok(before.extend_from_slice(b"standard input:")?),
         (None, Located::Effective) => Ok(before.extend_from_slice(b"command line:")?),
     }
 }
 
-/// Adds what a file is called.
-fn add_file(before: &mut Vec<u8>, path: &str) -> Result<(), NoMemory>
-    ensures { IfOk result (λ _. before.new.items ≡ before.old.items ++ (codes "file:" ++ path.now)) }
+/// Adds what a file is called: its path as it is where bytes 0 end what is printed, else as git quotes it.
+fn add_file(before: &mut Vec<u8>, path: &str, is_null: bool) -> Result<(), NoMemory>
+    ensures { IfOk result (λ _. before.new.items ≡ before.old.items ++ origins.file_named is_null path.now) }
 {
     before.extend_from_slice(b"file:")?;
-    before.extend_from_slice(path.as_bytes())?;
+    if is_null {
+        before.extend_from_slice(path.as_bytes())?;
+    } else {
+        add_quoted(before, path.as_bytes())?;
+    }
     Ok(())
 }

@@ -7,13 +7,16 @@ ghost use Rattle.gixcfg_core.specs.Telling.{default_line as default_line_lem, fo
 use crate::c_strings::c_string;
 use crate::entries::Found;
 use crate::lines::{Line, add_entry};
+use crate::origins::before_given;
 use crate::trouble::Trouble;
-use crate::typed::typed;
-use gixcfg_words::command::{Choice, Form};
+use crate::typed::{Fault, Refusal, typed};
+use bstr::BString;
+use gixcfg_words::command::{Choice, Fallback, Form};
+use gixcfg_words::kinds::Kind;
+use gixcfg_words::shown::Shown;
 use std::alloc::Global;
 
-/// The lines of the entries that `get` found: of all of them, or of the last one; or the value that is given if there is none, with
-/// these names.
+/// The lines of the entries that `get` found: of all of them, or of the last one; or of what is given if there is none.
 ///
 /// # Errors
 ///
@@ -29,8 +32,8 @@ pub fn lines_of_found(
 {
     match choice {
         Choice::Last {
-            default: Some(value),
-        } if found.is_empty() => default_line(alloc, value, form, home),
+            default: Some(default),
+        } if found.is_empty() => default_line(alloc, default, form, home),
         _ if found.is_empty() => Err(Trouble::Missing),
         Choice::Last { default: _ } => lines_of(alloc, last_of(found), form, home),
         Choice::All => lines_of(alloc, found, form, home),
@@ -66,28 +69,64 @@ fn last_of(found: &[Found]) -> &[Found]
     found.split_at(found.len().saturating_sub(1)).1
 }
 
-/// The value that is given for a key that is missing, on a line.
+/// What is given for an entry that is missing, on a line.
 fn default_line(
     alloc: Global,
-    value: &str,
+    default: Fallback<'_>,
     form: &Form,
     home: Option<&str>,
 ) -> Result<Vec<u8>, Trouble>
-    ensures { form.now.kind ≡ None → Answers (λ lines. lines.items) result (Ok (default_line_lem form.now value.now)) }
+    ensures { form.now.kind ≡ None → Answers (λ lines. lines.items) result (Ok (default_line_lem form.now default.entry)) }
 {
-    let line = Line {
-        has_names: false,
-        ..Line::of_values(form)
-    };
+    let before = before_given(alloc, form)?;
+    let line = Line::of_values(form);
+    let (names, value) = (default.word.as_bytes(), default.value.as_bytes());
     let mut lines = Vec::new(alloc);
     match form.kind {
-        None => add_entry(&mut lines, &line, b"", b"", Some(value.as_bytes()))?,
+        None => add_entry(&mut lines, &line, &before, names, Some(value))?,
         Some(kind) => {
-            let value = typed(alloc, Some(value.as_bytes()), kind, home)?;
-            add_entry(&mut lines, &line, b"", b"", Some(value.as_bytes()))?;
+            let value = typed_default(alloc, default, kind, home)?;
+            add_entry(&mut lines, &line, &before, names, Some(value.as_bytes()))?;
         }
     }
     Ok(lines)
+}
+
+/// The value of what is given for an entry that is missing, in a type.
+fn typed_default(
+    alloc: Global,
+    default: Fallback<'_>,
+    kind: Kind,
+    home: Option<&str>,
+) -> Result<BString, Trouble> {
+    match typed(alloc, Some(default.value.as_bytes()), kind, home) {
+        Ok(value) => Ok(value),
+        Err(Fault::Memory) => Err(Trouble::Memory),
+        Err(Fault::Refused(refusal)) => Err(refused_default(alloc, default, refusal)),
+    }
+}
+
+/// The trouble that such a value is which isn't of the type. It is told in git's words, since no file is to blame.
+fn refused_default(alloc: Global, default: Fallback<'_>, refusal: Refusal) -> Trouble {
+    let (word, value) = (Shown(default.word), Shown(default.value));
+    let message = match refusal {
+        Refusal::Boolean => {
+            format!(in alloc; "gixcfg: bad boolean config value '{value}' for '{word}' [E11]\n")
+        }
+        Refusal::Integer | Refusal::BooleanOrInteger => {
+            format!(in alloc; "gixcfg: bad numeric config value '{value}' for '{word}' [E11]\n")
+        }
+        refusal => {
+            let reason = refusal.reason();
+            format!(in alloc;
+                "gixcfg: failed to format default config value: {value}: {reason} [E11]\n"
+            )
+        }
+    };
+    match message {
+        Ok(message) => Trouble::Text(message),
+        Err(_) => Trouble::Memory,
+    }
 }
 
 /// Entries, a line each, their values in the type that is asked for.

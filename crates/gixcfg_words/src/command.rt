@@ -125,13 +125,22 @@ pub struct ForUrl<'a> {
 /// Which of the entries that are found are printed.
 #[derive(Clone, Copy)]
 pub enum Choice<'a> {
-    /// The last one; or a value if there is none.
+    /// The last one; or what is printed if there is none.
     Last {
-        /// The value if there is none.
-        default: Option<&'a str>,
+        /// What is printed if there is none.
+        default: Option<Fallback<'a>>,
     },
     /// All.
     All,
+}
+
+/// What is printed in place of an entry that isn't there.
+#[derive(Clone, Copy)]
+pub struct Fallback<'a> {
+    /// What the entry was asked for by, as it was written.
+    pub word: &'a str,
+    /// The value.
+    pub value: &'a str,
 }
 
 /// What of an entry is printed.

@@ -18,8 +18,10 @@ pub enum Fault<'a> {
     UnknownCommand(&'a str),
     /// The first word is called without options alone: it, and how it is called.
     NoOptions(&'a str, &'static str),
-    /// A word that begins with a dash is no option.
+    /// A word that begins with two dashes is no option.
     UnknownOption(&'a str),
+    /// A letter behind one dash is no option.
+    UnknownLetter(char),
     /// It may be the beginning of several options, of which these are two.
     Ambiguous(&'a str, &'static str, &'static str),
     /// The command doesn't take this option.
@@ -177,10 +179,17 @@ fn tell_together<W: Write>(fault: Fault<'_>, err: &mut W) -> io::Result<()> {
 fn tell_option<W: Write>(fault: Fault<'_>, err: &mut W) -> io::Result<()> {
     match fault {
         Fault::UnknownOption(word) => {
-            let word = Shown(word);
+            let name = Shown(word.strip_prefix("--").unwrap_or(word));
             writeln!(
                 err,
-                "gixcfg: not an option: {word}; put -- before words that begin with a dash"
+                "gixcfg: unknown option `{name}'; put -- before words that begin with a dash"
+            )
+        }
+        Fault::UnknownLetter(letter) => {
+            let letter = Shown(letter);
+            writeln!(
+                err,
+                "gixcfg: unknown switch `{letter}'; put -- before words that begin with a dash"
             )
         }
         Fault::Ambiguous(word, one, other) => {

@@ -7,7 +7,7 @@ use crate::keys::key_of;
 use crate::options::{Action, Opt, goes_with};
 use crate::reading::{given_by, is_option};
 use crate::verbs::Verb;
-use crate::words::{for_url, list, removal, renaming, setting, unsetting};
+use crate::words::{for_url, last, list, removal, renaming, setting, unsetting};
 use std::alloc::Global;
 
 /// Whether a call may begin with a word: it is an option, or a key.
@@ -109,9 +109,7 @@ fn get<'a>(given: &Given<'a>, is_all: bool) -> Result<Command<'a>, Fault<'a>> {
     let choice = if is_all {
         Choice::All
     } else {
-        Choice::Last {
-            default: given.word_of(Opt::Default),
-        }
+        last(given, key)
     };
     Ok(Command::Get(Get {
         reading: given.reading(),

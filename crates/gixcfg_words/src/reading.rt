@@ -168,7 +168,7 @@ fn read_letters<'a>(given: &mut Given<'a>, word: &'a str) -> Result<Next<'a>, Fa
     let _ = letters.next();
     while let Some(letter) = letters.next() {
         let Some(option) = option_of_letter(given.verb, letter) else {
-            return Err(unknown_letter(given.verb, word));
+            return Err(unknown_letter(given.verb, word, letter));
         };
         if takes_word(option) {
             return read_last(given, option, word, letters.as_str());
@@ -193,9 +193,9 @@ fn read_last<'a>(
 }
 
 /// The fault of a letter that the command doesn't have.
-fn unknown_letter<'a>(verb: Verb, word: &'a str) -> Fault<'a> {
+fn unknown_letter<'a>(verb: Verb, word: &'a str, letter: char) -> Fault<'a> {
     match verb {
         Verb::Check | Verb::Diff if word.starts_with("-f") => Fault::NotItsOption(verb, word),
-        _ => Fault::UnknownOption(word),
+        _ => Fault::UnknownLetter(letter),
     }
 }

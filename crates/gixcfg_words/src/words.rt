@@ -1,8 +1,8 @@
 //! What the words of a call ask for.
 
 use crate::command::{
-    Call, Check, Choice, Command, Diff, Files, Fmt, ForUrl, Get, List, Placing, Removal, Renaming,
-    Set, Unset, Values, Wanted,
+    Call, Check, Choice, Command, Diff, Fallback, Files, Fmt, ForUrl, Get, List, Placing, Removal,
+    Renaming, Set, Unset, Values, Wanted,
 };
 use crate::fault::Fault;
 use crate::given::Given;
@@ -124,7 +124,7 @@ fn command_of<'a>(given: &Given<'a>, verb: Verb) -> Result<Command<'a>, Fault<'a
 /// What `get` is asked for.
 fn get<'a>(given: &Given<'a>) -> Result<Command<'a>, Fault<'a>> {
     let word = given.word()?;
-    let choice = choice_of(given)?;
+    let choice = choice_of(given, word)?;
     let values = given.values(given.word_of(Opt::Value))?;
     match (given.word_of(Opt::Url), beside_url(given)) {
         (Some(_), Some(option)) => Err(Fault::Both(option, "--url")),
@@ -183,12 +183,22 @@ pub(crate) fn for_url<'a>(given: &Given<'a>, word: &'a str, url: &'a str) -> Com
     })
 }
 
-/// Which of the entries `get` prints.
-fn choice_of<'a>(given: &Given<'a>) -> Result<Choice<'a>, Fault<'a>> {
+/// Which of the entries `get` prints that are asked for by a word.
+fn choice_of<'a>(given: &Given<'a>, word: &'a str) -> Result<Choice<'a>, Fault<'a>> {
     match (given.has(Opt::All), given.word_of(Opt::Default)) {
         (true, Some(_)) => Err(Fault::Both("--all", "--default")),
         (true, None) => Ok(Choice::All),
-        (false, default) => Ok(Choice::Last { default }),
+        (false, _) => Ok(last(given, word)),
+    }
+}
+
+/// The last of the entries that are asked for by a word, or what is given as `--default`.
+pub(crate) fn last<'a>(given: &Given<'a>, word: &'a str) -> Choice<'a> {
+    Choice::Last {
+        default: match given.word_of(Opt::Default) {
+            Some(value) => Some(Fallback { word, value }),
+            None => None,
+        },
     }
 }
 
