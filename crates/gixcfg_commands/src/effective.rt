@@ -2,7 +2,7 @@
 
 use crate::loads::Loads;
 use crate::parameters;
-use crate::parameters::{Parameter, parameters_of};
+use crate::parameters::{Parameter, has_count, parameters_of};
 use crate::paths::has_worktree_file;
 use crate::placing::refused_paths;
 use bstr::BString;
@@ -74,7 +74,11 @@ fn variables_of<R: Env + Loads + AllocGlobal>(
     rt: &R,
     options: init::Options<'_>,
 ) -> Result<Option<File>, Trouble> {
-    let counted = counted_of(rt, options)?;
+    let counted = if has_count(rt)? {
+        counted_of(rt, options)?
+    } else {
+        None
+    };
     match variable(rt, "GIT_CONFIG_PARAMETERS")? {
         Some(text) => with_parameters(rt.alloc(), counted, text.as_bytes()),
         None => Ok(counted),

@@ -1,8 +1,12 @@
-//! What `git -c KEY=VALUE` hands to the programs that git starts: the variable `GIT_CONFIG_PARAMETERS`.
+//! What `git -c KEY=VALUE` hands to the programs that git starts: the variable `GIT_CONFIG_PARAMETERS`. And whether there are entries that
+//! `GIT_CONFIG_COUNT` counts.
 
 use bstr::BString;
 use gitconf_text::NoMemory;
-use std::alloc::Global;
+use gixcfg_core::trouble::Trouble;
+use gixcfg_files::variable;
+use std::alloc::{AllocGlobal, Global};
+use std::rt::Env;
 
 /// An entry of the variable. Without `=` it has no value.
 #[derive(Drop)]
@@ -25,6 +29,18 @@ pub enum Fault {
 impl From<NoMemory> for Fault {
     fn from(_: NoMemory) -> Fault {
         Fault::Memory
+    }
+}
+
+/// Whether `GIT_CONFIG_COUNT` is set to something. For git it counts as not set if it is empty, which the library refuses as no number.
+///
+/// # Errors
+///
+/// Out of memory.
+pub fn has_count<R: Env + AllocGlobal>(rt: &R) -> Result<bool, Trouble> {
+    match variable(rt, "GIT_CONFIG_COUNT")? {
+        Some(count) => Ok(!count.is_empty()),
+        None => Ok(false),
     }
 }
 
