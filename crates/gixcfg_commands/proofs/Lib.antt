@@ -5,3 +5,4 @@ mod MeantLemmas
 mod Unsetting
 mod SettingLemmas
 mod CleanEdits
+mod LastMark

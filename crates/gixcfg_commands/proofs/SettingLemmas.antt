@@ -1,5 +1,5 @@
 -- What becomes of a key's entries when it gets a value.
-use Rattle.std.proofs.Common.{◌≡◌, inl, inr, ◌+◌, ◌++◌, ◌&&◌, ◌||◌, ℕ, Bool, true, false, List, [], ◌∷◌, map, Option, Some, None, Result, Ok, Err, refl, sym, ap, ◌∙◌, subst, Bor}
+use Rattle.std.proofs.Common.{◌≡◌, inl, inr, ◌+◌, ◌-◌, ◌++◌, ◌&&◌, ◌||◌, ℕ, Bool, true, false, List, [], ◌∷◌, map, Option, Some, None, Result, Ok, Err, refl, sym, ap, ◌∙◌, subst, Bor}
 use Rattle.std.specs.Prelude.{◌==◌, IfOk, OnOk, not, unwrap_or}
 use Rattle.std.specs.List.{list_all}
 use Rattle.std.specs.Option.{option_map}
@@ -31,8 +31,8 @@ use Rattle.gixcfg_core.specs.Troubles.{trouble_of_number}
 use Rattle.gixcfg_core.specs.declared.trouble.Trouble.{Trouble}
 use Rattle.gixcfg_commands.specs.Answered.{IsCarriedOut}
 use Rattle.gixcfg_commands.specs.Comments.{IsEditedText, IsTextWith}
-use Rattle.gixcfg_commands.specs.Meant.{IsMeant, plain_holder, removals, spared, values_of_key, without_marked}
-use Rattle.gixcfg_commands.specs.Setting.{IsPushed, IsRewritten, IsSetIn, IsUnwritten, setting, added, adding, section_of_key, setting_of, trouble_of_cause, unadded, with_made, with_section, writing}
+use Rattle.gixcfg_commands.specs.Meant.{IsMeant, count_marked, plain_holder, removals, spared, values_of_key, without_marked}
+use Rattle.gixcfg_commands.specs.Setting.{IsGivenText, IsPushed, IsRewritten, IsSetIn, IsUnwritten, setting, added, adding, section_of_key, setting_of, trouble_of_cause, unadded, with_made, with_section, writing}
 use Rattle.gixcfg_commands.specs.declared.edits.Setting.{Setting}
 use Rattle.gixcfg_commands.specs.declared.meant.Meant.{Meant}
 use Rattle.gixcfg_commands.proofs.Editing.{but_used}
@@ -68,12 +68,16 @@ not_added_text comment before (Some other) done old new trouble (inl memory) = i
 not_added_text None before None done old new trouble (inl memory) = inl memory
 not_added_text (Some comment) before None done old new trouble (inl memory) = inl memory
 
--- the file without the others that are meant
-pub alone_file : (key : Key) (means : Option (List ℕ) → Bool) (at : ℕ) (old new : State) (found others : Meant) → IsMeant key means old found → others.marks.items ≡ spared found.marks.items at
-    → others.holders ≡ found.holders → new ≡ apply_all (removals key.name others.marks.items (map plain_holder others.holders.items)) old
-    → new ≡ without_marked key (spared (map means (values_of_key key old)) at) old
-alone_file key means at old new found others is marks holders done =
-    done ∙ (λ i. apply_all (removals key.name (marks i) (map plain_holder (holders i).items)) old) ∙ (λ i. apply_all (removals key.name (spared (is.marks i) at) (is.holders i)) old)
+-- the text of the file without the others that are meant
+pub alone_text_so : (comment : Option (Bor (List ℕ))) (key : Key) (means : Option (List ℕ) → Bool) (at : ℕ) (value before : List ℕ) (old : State) (found others : Meant)
+    (result : Result BString Trouble) → IsMeant key means old found → others.marks.items ≡ spared found.marks.items at → others.holders ≡ found.holders
+    → IsGivenText comment key (at - count_marked others.marks.items) value before (apply_all (removals key.name others.marks.items (map plain_holder others.holders.items)) old) result
+    → IsGivenText comment key (at - count_marked (spared (map means (values_of_key key old)) at)) value before (without_marked key (spared (map means (values_of_key key old)) at) old) result
+alone_text_so comment key means at value before old found others result is marks holders given =
+    subst (λ hs. IsGivenText comment key (at - count_marked (spared (map means (values_of_key key old)) at)) value before
+    (apply_all (removals key.name (spared (map means (values_of_key key old)) at) hs) old) result) (ap (λ hs. map plain_holder hs.items) holders ∙ is.holders)
+    (subst (λ ms. IsGivenText comment key (at - count_marked ms) value before (apply_all (removals key.name ms (map plain_holder others.holders.items)) old) result)
+    (marks ∙ ap (λ ms. spared ms at) is.marks) given)
 
 pub others_stand : (key : Key) (means : Option (List ℕ) → Bool) (old : State) (found others : Meant) → IsMeant key means old found → others.holders ≡ found.holders
     → list_all (λ h. has_number h.0 old) (map plain_holder others.holders.items) ≡ true

@@ -42,6 +42,16 @@ ByMeant values said result =
 abbrev pub count_marked : List Bool → ℕ
 count_marked marks = length (filter (λ mark. mark) marks)
 
+-- the place of the last mark, with a first one before others of which that is the last
+abbrev last_from : (mark : Bool) (behind : Option ℕ) → Option ℕ
+last_from mark (Some at) = Some (at + 1)
+last_from mark None = if mark then Some 0 else None
+
+-- the place of the last mark
+unfoldable pub last_marked : List Bool → Option ℕ
+last_marked [] = None
+last_marked (mark ∷ marks) = last_from mark (last_marked marks)
+
 -- the marks without the one at a place
 abbrev pub spared : (marks : List Bool) (at : ℕ) → List Bool
 spared marks at = set marks at false

@@ -1,6 +1,6 @@
 -- What `set` makes of a file.
 -- Source: the manual page of `git-config`, `set`, `--all`, `--append`, `--value` and `--type`.
-use Rattle.std.specs.Prelude.{◌≡◌, ◌⊎◌, ◌==◌, ◌&&◌, ◌++◌, ℕ, Bool, true, false, not, List, map, position, Option, Some, None, Result, Ok, Err, if◌then◌else◌, slice_get, unwrap_or, is_some}
+use Rattle.std.specs.Prelude.{◌≡◌, ◌⊎◌, ◌-◌, ◌==◌, ◌&&◌, ◌++◌, ℕ, Bool, true, false, not, List, map, Option, Some, None, Result, Ok, Err, if◌then◌else◌, slice_get, unwrap_or, is_some}
 use Rattle.std.specs.Borrow.{Bor}
 use Rattle.std.specs.Option.{option_eq, option_map}
 use Rattle.std.specs.Str.{bytes_eq}
@@ -34,7 +34,7 @@ use Rattle.gixcfg_core.specs.declared.trouble.Trouble.TheVariants.{BadName, Memo
 use Rattle.gixcfg_core.specs.declared.typed.Fault.TheVariants as types
 use Rattle.gixcfg_core.specs.declared.typed.Refusal.{Refusal}
 use Rattle.gixcfg_commands.specs.Comments.{IsEditedText, IsTextWith}
-use Rattle.gixcfg_commands.specs.Meant.{ByMeant, count_marked, holders_of, last_at, spared, values_of_key, without_marked}
+use Rattle.gixcfg_commands.specs.Meant.{ByMeant, count_marked, holders_of, last_at, last_marked, spared, values_of_key, without_marked}
 use Rattle.gixcfg_commands.specs.declared.edits.Setting.{Setting}
 use Rattle.gixcfg_commands.specs.declared.edits.Setting.TheVariants.{Add, Keep, Give, GiveAlone}
 
@@ -80,19 +80,19 @@ unadded key value file =
 abbrev pub has_value : (values : List (Option (List ℕ))) (at : ℕ) (value : List ℕ) → Bool
 has_value values at value = option_eq bytes_eq (unwrap_or (slice_get values at) None) (Some value)
 
--- what becomes of several entries that are meant, of which this is the first
-abbrev pub setting_of_several : (is_all : Bool) (first : ℕ) → Result Setting Trouble
-setting_of_several is_all first = if is_all then Ok (GiveAlone first) else Err Several
+-- what becomes of several entries that are meant, of which this is the last
+abbrev pub setting_of_several : (is_all : Bool) (last : ℕ) → Result Setting Trouble
+setting_of_several is_all last = if is_all then Ok (GiveAlone last) else Err Several
 
 -- what becomes of one that is meant, at this place: it stays if it has the value, and no comment is to come behind it
-abbrev pub setting_of_one : (is_commented : Bool) (value : List ℕ) (values : List (Option (List ℕ))) (first : ℕ) → Setting
-setting_of_one is_commented value values first = if not is_commented && has_value values first value then Keep else Give first
+abbrev pub setting_of_one : (is_commented : Bool) (value : List ℕ) (values : List (Option (List ℕ))) (at : ℕ) → Setting
+setting_of_one is_commented value values at = if not is_commented && has_value values at value then Keep else Give at
 
--- What becomes of a key's entries when it gets a value: if none is meant, one is added; one that is meant gets it; of several the first, if they all are to go.
+-- What becomes of a key's entries when it gets a value: if none is meant, one is added; one that is meant gets it; of several the last, if they all are to go.
 abbrev pub setting_of : (is_all is_commented : Bool) (value : List ℕ) (marks : List Bool) (values : List (Option (List ℕ))) → Result Setting Trouble
-setting_of is_all is_commented value marks values = elim (position (λ mark. mark) marks) [
+setting_of is_all is_commented value marks values = elim (last_marked marks) [
   | None ↦ Ok Add
-  | Some first ↦ if count_marked marks == 1 then Ok (setting_of_one is_commented value values first) else setting_of_several is_all first
+  | Some last ↦ if count_marked marks == 1 then Ok (setting_of_one is_commented value values last) else setting_of_several is_all last
 ]
 
 -- the entry at a place among those of a key is rewritten, and else only the bytes of the buffer change; entries are counted in the order of the numbers of their sections
@@ -131,7 +131,7 @@ IsSetText comment (Ok Add) key value marks before file result = IsEditedText com
 IsSetText comment (Ok Keep) key value marks before file result = Answers bstring_bytes result (Ok before)
 IsSetText comment (Ok (Give at)) key value marks before file result = IsGivenText comment key at value before file result
 IsSetText comment (Ok (GiveAlone at)) key value marks before file result =
-    IsGivenText comment key at value before (without_marked key (spared marks at) file) result
+    let others = spared marks at in IsGivenText comment key (at - count_marked others) value before (without_marked key others file) result
 
 -- the text in which a key has a value in place of the only entry that is meant, or of all that are
 abbrev pub IsPutText : (comment : Option (Bor (List ℕ))) (is_all : Bool) → Values → Key → (value before : List ℕ) → State → Result BString Trouble → Type 0

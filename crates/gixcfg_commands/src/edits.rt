@@ -1,5 +1,5 @@
 //! Edits: `set`, `unset`, `rename-section`, `remove-section` and `fmt`.
-ghost use Rattle.std.specs.Prelude.{◌≡◌, List, length, map, option_map, is_some, true, IfErr, IfOk, None, Ok, OnOk};
+ghost use Rattle.std.specs.Prelude.{◌≡◌, ◌-◌, List, length, map, option_map, is_some, true, IfErr, IfOk, None, Ok, OnOk};
 ghost use Rattle.std.specs.Option.{option_copied};
 ghost use Rattle.bstr.specs.Owned.{bstring_bytes};
 ghost use Rattle.gitconf_text.specs.Document.{IsText};
@@ -265,7 +265,7 @@ enum Setting {
     Keep,
     /// There is one, at this place among all of the key, and it gets the value.
     Give(usize),
-    /// There are several; the first one, at this place among all of the key, gets the value, and the others are removed.
+    /// There are several; the last one, at this place among all of the key, gets the value, and the others are removed.
     GiveAlone(usize),
 }
 
@@ -328,30 +328,30 @@ fn setting_of(
 ) -> Result<Setting, Trouble>
     ensures { result ≡ setting_of is_all is_commented value.now meant.now.marks.items (map (option_map bstring_bytes) meant.now.values.items) }
 {
-    match meant.first() {
-        Some(first) if meant.count() == 1 => Ok(setting_of_one(meant, value, is_commented, first)),
-        Some(first) => setting_of_several(is_all, first),
+    match meant.last() {
+        Some(at) if meant.count() == 1 => Ok(setting_of_one(meant, value, is_commented, at)),
+        Some(last) => setting_of_several(is_all, last),
         None => Ok(Setting::Add),
     }
 }
 
 /// What becomes of the only one, which is at this place.
-fn setting_of_one(meant: &Meant, value: &[u8], is_commented: bool, first: usize) -> Setting
-    ensures { result ≡ setting_of_one is_commented value.now (map (option_map bstring_bytes) meant.now.values.items) first }
+fn setting_of_one(meant: &Meant, value: &[u8], is_commented: bool, at: usize) -> Setting
+    ensures { result ≡ setting_of_one is_commented value.now (map (option_map bstring_bytes) meant.now.values.items) at }
 {
-    if !is_commented && meant.is_at(first, value) {
+    if !is_commented && meant.is_at(at, value) {
         Setting::Keep
     } else {
-        Setting::Give(first)
+        Setting::Give(at)
     }
 }
 
-/// What becomes of several, of which the first is at this place.
-fn setting_of_several(is_all: bool, first: usize) -> Result<Setting, Trouble>
-    ensures { result ≡ setting_of_several is_all first }
+/// What becomes of several, of which the last is at this place.
+fn setting_of_several(is_all: bool, last: usize) -> Result<Setting, Trouble>
+    ensures { result ≡ setting_of_several is_all last }
 {
     if is_all {
-        Ok(Setting::GiveAlone(first))
+        Ok(Setting::GiveAlone(last))
     } else {
         Err(Trouble::Several)
     }
@@ -390,7 +390,7 @@ fn given_text(
     }
 }
 
-/// The same, without the others that are meant. All entries before that one stay.
+/// The same, without the others that are meant, which are all before it.
 fn alone_text(
     alloc: Global,
     file: &mut File,
@@ -399,15 +399,15 @@ fn alone_text(
     at: usize,
 ) -> Result<BString, Trouble>
     ensures { let set = giving.now.set.now in let key = key_of set.key in (means : _) → IsMeant key means file.old meant →
-        let marks = map means (values_of_key key file.old) in
-        IsGivenText set.comment key at giving.now.value.now giving.now.before.now (without_marked key (spared marks at) file.old) result }
+        let others = spared (map means (values_of_key key file.old)) at in
+        IsGivenText set.comment key (at - count_marked others) giving.now.value.now giving.now.before.now (without_marked key others file.old) result }
 {
     let mut others = meant;
     others.spare(at);
     text_without_others(alloc, file, giving, &others, at)
 }
 
-/// The same, without the entries that are marked.
+/// The same, without other entries, which are all before it.
 fn text_without_others(
     alloc: Global,
     file: &mut File,
@@ -416,12 +416,12 @@ fn text_without_others(
     at: usize,
 ) -> Result<BString, Trouble>
     ensures { let set = giving.now.set.now in let key = key_of set.key in let holders = map plain_holder others.now.holders.items in
-        list_all (λ h. has_number h.0 file.old) holders ≡ true →
-        IsGivenText set.comment key at giving.now.value.now giving.now.before.now (apply_all (removals key.name others.now.marks.items holders) file.old) result }
+        list_all (λ h. has_number h.0 file.old) holders ≡ true → let marks = others.now.marks.items in
+        IsGivenText set.comment key (at - count_marked marks) giving.now.value.now giving.now.before.now (apply_all (removals key.name marks holders) file.old) result }
 {
     let key = giving.set.key;
     match remove_meant(file, key.value_name, others) {
-        Ok(()) => given_text(alloc, file, giving, at),
+        Ok(()) => given_text(alloc, file, giving, at.saturating_sub(others.count())),
         Err(trouble) => Err(trouble),
     }
 }

@@ -1,5 +1,5 @@
 //! The entries of a key whose values are meant, and what becomes of them.
-ghost use Rattle.std.specs.Prelude.{◌≡◌, ◌⊎◌, ◌++◌, [], true, map, length, option_map, position, take, drop, unwrap_or, IfErr, IfOk, OnOk, Some};
+ghost use Rattle.std.specs.Prelude.{◌≡◌, ◌⊎◌, ◌++◌, [], true, map, length, option_map, take, drop, unwrap_or, IfErr, IfOk, OnOk, Some};
 ghost use Rattle.std.specs.List.{list_all};
 ghost use Rattle.std.specs.Option.{option_eq};
 ghost use Rattle.std.specs.Str.{bytes_eq};
@@ -14,7 +14,7 @@ ghost use Rattle.gixcfg_core.specs.Patterns.{MeansNothing};
 ghost use Rattle.gixcfg_core.specs.declared.trouble.Trouble.TheVariants as kinds;
 ghost use Rattle.gixcfg_commands.specs.Meant as spec;
 ghost use Rattle.gixcfg_commands.specs.Setting.{has_value};
-ghost use Rattle.gixcfg_commands.specs.Meant.{are_named, count_marked, holders_of, last_at, plain_holder, removals, spared, values_of_key, IsMeant, MeansEntries};
+ghost use Rattle.gixcfg_commands.specs.Meant.{are_named, count_marked, holders_of, last_at, last_marked, plain_holder, removals, spared, values_of_key, IsMeant, MeansEntries};
 
 use bstr::BString;
 use gitconf_text::NoMemory;
@@ -45,11 +45,11 @@ pub struct Meant {
 }
 
 impl Meant {
-    /// The place of the first one that is meant, among all.
-    pub fn first(&self) -> Option<usize>
-        ensures { result ≡ position (λ mark. mark) self.now.marks.items }
+    /// The place of the last one that is meant, among all.
+    pub fn last(&self) -> Option<usize>
+        ensures { result ≡ last_marked self.now.marks.items }
     {
-        self.marks.iter().position(|mark| *mark)
+        self.marks.iter().rposition(|mark| *mark)
     }
 
     /// How many are meant.

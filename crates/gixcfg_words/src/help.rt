@@ -72,7 +72,7 @@ Gives a key a value, in its place if it is there, else in the last section of it
     --system          the system's file: /etc/gitconfig
     --local           the repository's file: .git/config
     --worktree        the file of the working tree, if each has one of its own, else the repository's
-    --all             one entry in place of all entries of the key, where the first of them is
+    --all             one entry in place of all entries of the key, where the last of them is
     --append          one more entry, at the end of the last section of the name
     --value PATTERN   only of entries in whose value the pattern is found, or isn't if ! is before it; one more if there is none
     --fixed-value     only of entries whose value is that text
