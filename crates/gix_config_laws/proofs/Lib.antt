@@ -6,3 +6,4 @@ mod OneConfiguration
 mod ReadsBack
 mod CallSteps
 mod ReadsAfterLemmas
+mod LoadedFiles

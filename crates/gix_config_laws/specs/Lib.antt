@@ -1,3 +1,4 @@
 pub mod Headline
 pub mod Steps
 pub mod Programs
+pub mod Beginnings

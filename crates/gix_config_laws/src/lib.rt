@@ -2,6 +2,7 @@
 //! the gate proves it.
 #![tactic(auto)]
 
+pub mod beginnings;
 pub mod programs;
 pub mod steps;
 
@@ -197,8 +198,7 @@ pub fn calls_end_as_their_contracts_say()
 ///
 /// The calls are all edits, values set and sections renamed whatever a filter answers, values of existing entries set, one or several, entries
 /// deleted, and includes resolved. The file was loaded,
-/// whole or lossy, or has items such as a text may have and is clean: so is one that a loader made ([`files_of_variables_are_clean`], [`repositories_are_clean`], and
-/// [`loaders`]). Of the calls it is asked that edits are handed what the library makes ([`new_editors_are_editors`]); that no header has an empty
+/// whole or lossy, or has items such as a text may have and is clean: so is one that a loader made ([`beginnings`]). Of the calls it is asked that edits are handed what the library makes ([`new_editors_are_editors`]); that no header has an empty
 /// name and no subsection; that blanks before names that were set are spaces and tabs; and that no file that is appended, or that a section names, has an
 /// entry before its first section. Then the file after them is such a one again, the text that is written of it has exactly its
 /// document, and a file that is loaded from this text has the same document and is equal to it.
