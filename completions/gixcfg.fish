@@ -52,7 +52,7 @@ complete -c gixcfg -n '__gixcfg_is get list' -l no-includes -d 'not what is incl
 complete -c gixcfg -n '__gixcfg_is get list' -l show-names -d 'the key before each value'
 complete -c gixcfg -n '__gixcfg_is get' -l name-only -d 'the key without the value'
 complete -c gixcfg -n '__gixcfg_is set' -s f -l file -rF -d 'the file, which is changed in place, and made if it isn\'t there'
-complete -c gixcfg -n '__gixcfg_is set' -l all -d 'one entry in place of all entries of the key, where the first of them is'
+complete -c gixcfg -n '__gixcfg_is set' -l all -d 'one entry in place of all entries of the key, where the last of them is'
 complete -c gixcfg -n '__gixcfg_is set' -l append -d 'one more entry, at the end of the last section of the name'
 complete -c gixcfg -n '__gixcfg_is set' -l value -x -d 'only of entries in whose value the pattern is found, or isn\'t if ! is before it'
 complete -c gixcfg -n '__gixcfg_is set' -l fixed-value -d 'only of entries whose value is that text'
