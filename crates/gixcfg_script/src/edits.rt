@@ -41,7 +41,7 @@ static EDITS: [Edit; 20] = [
         Some("[a]\n\tk = 1\n[a]\n\tk = 2\n\tj = 1\n"),
         0,
         "",
-        Some("[a]\n\tk = 3\n[a]\n\tj = 1\n"),
+        Some("[a]\n[a]\n\tk = 3\n\tj = 1\n"),
     ),
     (
         "set -f m --append a.k 2",
