@@ -392,6 +392,77 @@ typedef struct gix_config_assigned {
     gix_config_text value;
 } gix_config_assigned;
 
+/* Where some bytes lie in the text of a view. */
+typedef struct gix_config_part {
+    /* The place of the first one, from 0. */
+    size_t at;
+    /* How many they are. */
+    size_t len;
+} gix_config_part;
+
+/* An entry in a view. */
+typedef struct gix_config_entry_row {
+    /* Its name, as it is spelled. */
+    gix_config_part name;
+    /* What the value means, if there is one. */
+    gix_config_part value;
+    /* Whether there is a value: not for an entry without `=`. */
+    bool has_value;
+} gix_config_entry_row;
+
+/* Where sections in a view come from. */
+typedef struct gix_config_origin_row {
+    /* The path of their file, if there is one. */
+    gix_config_part path;
+    /* Whether they come from a file with a path. */
+    bool has_path;
+    /* The place that they were read from: one of the sources' numbers. */
+    uint32_t source;
+    /* How many includes led to their file: 0 for a file that was not included. */
+    uint32_t level;
+    /* How far they are trusted: one of the numbers of trust. */
+    uint32_t trust;
+} gix_config_origin_row;
+
+/* A section in a view. */
+typedef struct gix_config_section_row {
+    /* Its name, as it is spelled. */
+    gix_config_part name;
+    /* The subsection's name, if there is one. */
+    gix_config_part subsection;
+    /* Whether there is a subsection. */
+    bool has_subsection;
+    /* The place of its origin among the view's, from 0. */
+    size_t origin;
+    /* The place of its first entry among the view's, from 0. */
+    size_t entries_at;
+    /* How many entries it has: they stand one after the other. */
+    size_t entries_len;
+} gix_config_section_row;
+
+/* All sections and entries of a file as it was when the view was made. They are the program's to read until it
+ * frees the view. {0} at first; never copied; freed with gix_config_view_free. */
+typedef struct gix_config_view {
+    /* The sections, in order. */
+    const gix_config_section_row *sections;
+    /* How many they are. */
+    size_t sections_len;
+    /* The entries of all sections, in order. */
+    const gix_config_entry_row *entries;
+    /* How many they are. */
+    size_t entries_len;
+    /* Where sections come from. */
+    const gix_config_origin_row *origins;
+    /* How many they are. */
+    size_t origins_len;
+    /* The bytes of names, values and paths. */
+    const uint8_t *text;
+    /* How many they are. */
+    size_t text_len;
+    /* The owner of all these. */
+    void *owner;
+} gix_config_view;
+
 /* Appends a copy of another file: its sections come after those of the file, and what is before its first
  * section after the file's last. The other file stays as it is.
  *
@@ -883,6 +954,15 @@ uint32_t gix_config_told_place(gix_config_told *told, const uint8_t *path, size_
 /* Tells the version of the library that a program runs with, such as `0.1.0`; that of the header is
  * GIX_CONFIG_VERSION. The text stays for good. */
 void gix_config_version(gix_config_text *text);
+
+/* Fills in the sections and entries of a file as arrays, in one pass. They stay as they are whatever becomes of
+ * the file. What the view had is freed. Entries before the first section are not among them: no key names them.
+ *
+ * 102 if the handle has no file, 27 when out of memory; the view is then as it was. */
+uint32_t gix_config_view_file(gix_config_file *file, gix_config_view *view);
+
+/* Frees what a view has; an empty one stays empty. */
+void gix_config_view_free(gix_config_view *view);
 
 #ifdef __cplusplus
 }

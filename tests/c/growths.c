@@ -15,6 +15,7 @@ static int calls(bool lossy)
 {
     gix_config_file file = { NULL }, other_file = { NULL };
     gix_config_list list = { NULL };
+    gix_config_view view = { NULL, 0, NULL, 0, NULL, 0, NULL, 0, NULL };
     gix_config_bytes bytes = { NULL, 0, NULL }, name = { NULL, 0, NULL };
     gix_config_place place = { 0, 0, 0 };
     gix_config_key editor = key_of("core", NULL, "editor"), url = key_of("remote", "or\"igin", "url"), made = key_of("made", "x", "k");
@@ -39,6 +40,7 @@ static int calls(bool lossy)
         count += refused(gix_config_file_text_filter(&file, &all, &bytes));
         count += refused(gix_config_path(&file, &editor, &folders, &bytes));
         count += refused(gix_config_sections(&file, &list));
+        count += refused(gix_config_view_file(&file, &view));
         count += refused(gix_config_normalize((const uint8_t *)TEXT, strlen(TEXT), &layout, &bytes, &place));
         count += refused(gix_config_wildmatch((const uint8_t *)"/a/**/x", 7, (const uint8_t *)"/a/b/x", 6, false, &had));
         count += refused(gix_config_file_clone(&file, &other_file));
@@ -76,6 +78,7 @@ static int calls(bool lossy)
     gix_config_bytes_free(&name);
     gix_config_bytes_free(&bytes);
     gix_config_list_close(&list);
+    gix_config_view_free(&view);
     gix_config_file_close(&file);
     gix_config_file_close(&other_file);
     return count;

@@ -20,10 +20,11 @@ HANDLES = {
 STRUCTS = {"Block": "bytes", "Span": "text", "Key": "key", "SectionKey": "section", "EntryPlace": "entry", "SectionPlace": "listed_section",
            "DifferencePlace": "difference", "Fault": "place", "Filter": "filter", "Folders": "folders", "Layout": "layout", "Includes": "includes",
            "Load": "load", "TextMeta": "metadata", "KnownPlaces": "places", "Repository": "repository", "Origin": "origin", "Line": "line",
-           "Assigned": "assigned"}
+           "Assigned": "assigned", "Part": "part", "EntryRow": "entry_row", "OriginRow": "origin_row", "SectionRow": "section_row", "View": "view"}
 
 # What is said of a struct besides what the source says of it.
-MORE = {"Block": " {0} at first; never copied; freed with gix_config_bytes_free."}
+MORE = {"Block": " {0} at first; never copied; freed with gix_config_bytes_free.",
+        "View": " {0} at first; never copied; freed with gix_config_view_free."}
 
 NUMBERS = {"u8", "u32", "i64", "usize", "bool"}
 
@@ -125,8 +126,8 @@ def field(where: str, it: rattle.Value) -> Value:
     says = " ".join(it.says)
     if it.type == rattle.Named("Slot"):
         return Value(it.name, Kind("owner"), None, says)
-    if isinstance(it.type, rattle.Pointer) and it.type.is_raw and number(it.type.to):
-        return Value(it.name, number(it.type.to) or refuse(where, it.type), "mut" if it.type.is_mut else "const", says)
+    if isinstance(it.type, rattle.Pointer) and it.type.is_raw:
+        return Value(it.name, named(it.type.to) or refuse(where, it.type), "mut" if it.type.is_mut else "const", says)
     return Value(it.name, text_of(it.type) or named(it.type) or refuse(f"{where}.{it.name}", it.type), None, says)
 
 

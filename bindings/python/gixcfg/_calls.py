@@ -427,6 +427,97 @@ class Assigned(Structure):
     ]
 
 
+class Part(Structure):
+    """Where some bytes lie in the text of a view."""
+
+    at: int
+    len: int
+
+    _fields_ = [
+        ("at", c_size_t),
+        ("len", c_size_t),
+    ]
+
+
+class EntryRow(Structure):
+    """An entry in a view."""
+
+    name: Part
+    value: Part
+    has_value: bool
+
+    _fields_ = [
+        ("name", Part),
+        ("value", Part),
+        ("has_value", c_bool),
+    ]
+
+
+class OriginRow(Structure):
+    """Where sections in a view come from."""
+
+    path: Part
+    has_path: bool
+    source: int
+    level: int
+    trust: int
+
+    _fields_ = [
+        ("path", Part),
+        ("has_path", c_bool),
+        ("source", c_uint32),
+        ("level", c_uint32),
+        ("trust", c_uint32),
+    ]
+
+
+class SectionRow(Structure):
+    """A section in a view."""
+
+    name: Part
+    subsection: Part
+    has_subsection: bool
+    origin: int
+    entries_at: int
+    entries_len: int
+
+    _fields_ = [
+        ("name", Part),
+        ("subsection", Part),
+        ("has_subsection", c_bool),
+        ("origin", c_size_t),
+        ("entries_at", c_size_t),
+        ("entries_len", c_size_t),
+    ]
+
+
+class View(Structure):
+    """All sections and entries of a file as it was when the view was made. They are the program's to read until it frees the view. {0} at first;
+    never copied; freed with gix_config_view_free."""
+
+    sections: Optional[int]
+    sections_len: int
+    entries: Optional[int]
+    entries_len: int
+    origins: Optional[int]
+    origins_len: int
+    text: Optional[int]
+    text_len: int
+    owner: Optional[int]
+
+    _fields_ = [
+        ("sections", c_void_p),
+        ("sections_len", c_size_t),
+        ("entries", c_void_p),
+        ("entries_len", c_size_t),
+        ("origins", c_void_p),
+        ("origins_len", c_size_t),
+        ("text", c_void_p),
+        ("text_len", c_size_t),
+        ("owner", c_void_p),
+    ]
+
+
 # The calls: what each takes, and what it answers.
 CALLS: Dict[str, Tuple[Sequence[Any], Any]] = {
     "gix_config_file_append": ([POINTER(File), POINTER(File)], c_uint32),
@@ -499,4 +590,6 @@ CALLS: Dict[str, Tuple[Sequence[Any], Any]] = {
     "gix_config_text_values": ([c_char_p, c_size_t, POINTER(Key), POINTER(List), POINTER(Place)], c_uint32),
     "gix_config_told_place": ([POINTER(Told), c_char_p, c_size_t, POINTER(Place)], c_uint32),
     "gix_config_version": ([POINTER(Span)], None),
+    "gix_config_view_file": ([POINTER(File), POINTER(View)], c_uint32),
+    "gix_config_view_free": ([POINTER(View)], None),
 }

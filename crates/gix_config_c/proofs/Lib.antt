@@ -8,3 +8,4 @@ pub mod FaultLemmas
 pub mod ValueLemmas
 pub mod HostLemmas
 pub mod KeyLemmas
+pub mod ViewLemmas

@@ -37,3 +37,5 @@ pub mod Lines
 pub mod ExistingValues
 pub mod Metas
 pub mod TextMetas
+pub mod Views
+pub mod Laying

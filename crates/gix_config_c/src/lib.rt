@@ -52,6 +52,8 @@ pub mod told_list;
 mod told_places;
 pub mod variables;
 mod version;
+pub mod view;
+mod viewing;
 
 /// The call is done.
 pub const DONE: u32 = 0;

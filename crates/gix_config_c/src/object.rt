@@ -4,6 +4,7 @@ use crate::difference::Difference;
 use crate::entry::Entry;
 use crate::section::Section;
 use crate::told::Told;
+use crate::view::Arrays;
 use gix_config::File;
 
 /// What a handle can hold.
@@ -23,4 +24,6 @@ pub enum Object {
     Differences(Vec<Difference>),
     /// What a program told of files.
     Told(Told),
+    /// The sections and entries of a file, laid out in arrays.
+    View(Arrays),
 }

@@ -426,6 +426,86 @@ pub(crate) struct Assigned<'a> {
     pub(crate) value: Text<'a>,
 }
 
+/// Where some bytes lie in the text of a view.
+#[repr(C)]
+#[derive(Clone, Copy, Default)]
+pub(crate) struct Part {
+    /// The place of the first one, from 0.
+    pub(crate) at: usize,
+    /// How many they are.
+    pub(crate) len: usize,
+}
+
+/// An entry in a view.
+#[repr(C)]
+#[derive(Clone, Copy)]
+pub(crate) struct EntryRow {
+    /// Its name, as it is spelled.
+    pub(crate) name: Part,
+    /// What the value means, if there is one.
+    pub(crate) value: Part,
+    /// Whether there is a value: not for an entry without `=`.
+    pub(crate) has_value: bool,
+}
+
+/// Where sections in a view come from.
+#[repr(C)]
+#[derive(Clone, Copy)]
+pub(crate) struct OriginRow {
+    /// The path of their file, if there is one.
+    pub(crate) path: Part,
+    /// Whether they come from a file with a path.
+    pub(crate) has_path: bool,
+    /// The place that they were read from: one of the sources' numbers.
+    pub(crate) source: u32,
+    /// How many includes led to their file: 0 for a file that was not included.
+    pub(crate) level: u32,
+    /// How far they are trusted: one of the numbers of trust.
+    pub(crate) trust: u32,
+}
+
+/// A section in a view.
+#[repr(C)]
+#[derive(Clone, Copy)]
+pub(crate) struct SectionRow {
+    /// Its name, as it is spelled.
+    pub(crate) name: Part,
+    /// The subsection's name, if there is one.
+    pub(crate) subsection: Part,
+    /// Whether there is a subsection.
+    pub(crate) has_subsection: bool,
+    /// The place of its origin among the view's, from 0.
+    pub(crate) origin: usize,
+    /// The place of its first entry among the view's, from 0.
+    pub(crate) entries_at: usize,
+    /// How many entries it has: they stand one after the other.
+    pub(crate) entries_len: usize,
+}
+
+/// All sections and entries of a file as it was when the view was made. They are the program's to
+/// read until it frees the view. {0} at first; never copied; freed with gix_config_view_free.
+#[repr(C)]
+pub(crate) struct View {
+    /// The sections, in order.
+    pub(super) sections: *const SectionRow,
+    /// How many they are.
+    pub(super) sections_len: usize,
+    /// The entries of all sections, in order.
+    pub(super) entries: *const EntryRow,
+    /// How many they are.
+    pub(super) entries_len: usize,
+    /// Where sections come from.
+    pub(super) origins: *const OriginRow,
+    /// How many they are.
+    pub(super) origins_len: usize,
+    /// The bytes of names, values and paths.
+    pub(super) text: *const u8,
+    /// How many they are.
+    pub(super) text_len: usize,
+    /// The owner of all these.
+    pub(super) owner: *mut c_void,
+}
+
 extern "C" {
     pub(super) fn gix_config_file_append(file: *mut File, other_file: *mut File) -> u32;
     pub(super) fn gix_config_file_equal(
@@ -731,4 +811,6 @@ extern "C" {
         place: *mut Place,
     ) -> u32;
     pub(super) fn gix_config_version(text: *mut Text<'static>);
+    pub(super) fn gix_config_view_file(file: *mut File, view: *mut View) -> u32;
+    pub(super) fn gix_config_view_free(view: *mut View);
 }
