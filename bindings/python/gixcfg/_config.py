@@ -5,18 +5,19 @@ import os
 import pickle
 import weakref
 from types import TracebackType
-from typing import (Any, Callable, Dict, Iterable, Iterator, List, MutableMapping, NamedTuple, Optional, Sequence, Tuple, Type, TypeVar, Union,
-                    cast, overload)
+from typing import (Any, Callable, Dict, ItemsView, Iterable, Iterator, List, MutableMapping, NamedTuple, Optional, Sequence, Tuple, Type,
+                    TypeVar, Union, ValuesView, cast, overload)
 
 from gixcfg import _calls as c
 from gixcfg._errors import NotOfType, ParseError
 from gixcfg._including import Asked, alone
-from gixcfg._library import LIBRARY, bytes_at
-from gixcfg._names import (Entry, Key, Name, decoded, done, done_of, encoded, entries_of, entry_of, is_key, is_missing, key_of, listed, names_of,
-                           path_of, refuse, refuse_text, section_of, taken, text_at, text_of, texts_of)
+from gixcfg._library import LIBRARY
+from gixcfg._names import (Entry, Key, Name, decoded, done, done_of, encoded, entry_of, is_key, is_missing, key_of, listed, names_of,
+                           path_of, refuse, refuse_text, section_of, taken, text_of, texts_of)
 from gixcfg._saving import Lock, PathName
 from gixcfg._section import SectionEditor, Value, written
 from gixcfg._sources import SOURCES, Includes, Origin, Section, Source, folders, includes_of, origin_of, places_of
+from gixcfg._view import View
 
 T = TypeVar("T")
 
@@ -261,9 +262,11 @@ class Config(MutableMapping[Key, str]):
 
     def _value(self, key: Key, sources: Optional[Iterable[Source]], trusted_only: bool) -> Tuple[int, Optional[str]]:
         """The answer of a look-up of the last value, and the value: empty where the key has just entries without `=`."""
-        block = c.Bytes()
-        kept = None if sources is None else list(sources)
-        number = self._found("value", key, kept, trusted_only, block)
+        block, kept = c.Bytes(), None if sources is None else list(sources)
+        if kept is None and not trusted_only:
+            number = LIBRARY.gix_config_value(self._file, key_of(key), block)
+        else:
+            number = self._found("value", key, kept, trusted_only, block)
         if number == c.DONE:
             return number, decoded(taken(block))
         is_there = is_missing(number) and self.get_all(key, sources=kept, trusted_only=trusted_only)
@@ -351,51 +354,33 @@ class Config(MutableMapping[Key, str]):
 
     def __iter__(self) -> Iterator[Name]:
         """The keys as they are now, each once, in the order in which they first occur."""
-        return iter(dict.fromkeys(it.key for it in self.entries()))
+        return iter(View(self._file).names())
 
     def __len__(self) -> int:
         """How many keys there are."""
-        return len(dict.fromkeys(it.key for it in self.entries()))
+        return len(View(self._file).names())
+
+    def items(self) -> ItemsView[Key, str]:
+        """The keys with their last values, as they are when a loop begins."""
+        return _Items(self)
+
+    def values(self) -> ValuesView[str]:
+        """The last values of the keys, as they are when a loop begins."""
+        return _Values(self)
 
     def entries(self) -> List[Entry]:
         """All entries, in the file's order."""
-        return self._entries_of(self._file)
-
-    @staticmethod
-    def _entries_of(file: c.File) -> List[Entry]:
-        entries = c.List()
-        done(LIBRARY.gix_config_entries(file, entries))
-        return entries_of(entries)
+        return View(self._file).entries()
 
     def sections(self, name: Optional[str] = None) -> List[Section]:
         """All sections, in the file's order, also those without entries and those of a name that others have too; with a name those that have
         it, with any subsection or none."""
-        # (a copy, so that no other thread's edit comes between the two lists)
-        still, sections = c.File(), c.List()
-        try:
-            done(LIBRARY.gix_config_file_clone(self._file, still))
-            done(LIBRARY.gix_config_sections(still, sections))
-            entries = iter(self._entries_of(still))
-        finally:
-            LIBRARY.gix_config_file_close(still)
-        found, section = [], c.ListedSection()
-        for place in listed(sections):
-            LIBRARY.gix_config_list_section(sections, place, section)
-            subsection = text_at(section.subsection) if section.has_subsection else None
-            own = [next(entries) for _ in range(section.entries)]
-            found.append(Section(text_at(section.name), subsection, own, origin_of(section, bytes_at(section.path)), place))
+        found = View(self._file).sections()
         return found if name is None else [it for it in found if encoded(it.name).lower() == encoded(name).lower()]
 
     def _places(self, name: str, subsection: Optional[str]) -> List[int]:
         """The places of the sections of the names."""
-        sections, section, found = c.List(), c.ListedSection(), []
-        done(LIBRARY.gix_config_sections(self._file, sections))
-        wanted = encoded(name).lower(), None if subsection is None else encoded(subsection)
-        for place in listed(sections):
-            LIBRARY.gix_config_list_section(sections, place, section)
-            if wanted == (bytes_at(section.name).lower(), bytes_at(section.subsection) if section.has_subsection else None):
-                found.append(place)
-        return found
+        return View(self._file).places(name, subsection)
 
     def append(self, other: "Config") -> None:
         """Appends a copy of another file, whose sections then come after all others, so that their values count."""
@@ -538,6 +523,24 @@ class Config(MutableMapping[Key, str]):
         if number == c.NOTHING_THERE:
             raise IndexError(f"no section is at {place}")
         done(number)
+
+
+class _Items(ItemsView[Key, str]):
+    """The keys of a file with their last values."""
+
+    _mapping: Config
+
+    def __iter__(self) -> Iterator[Tuple[Key, str]]:
+        return iter(View(self._mapping._file).values().items())
+
+
+class _Values(ValuesView[str]):
+    """The last values of a file's keys."""
+
+    _mapping: Config
+
+    def __iter__(self) -> Iterator[str]:
+        return iter(View(self._mapping._file).values().values())
 
 
 def _pickled(kind: Type[Config], text: bytes, origin: Origin, trusted: List[bool], path: Optional[str]) -> Config:

@@ -1,4 +1,5 @@
 """Texts and keys as the library takes them, and what its numbers say."""
+import functools
 import os
 from typing import Dict, Iterator, List, NamedTuple, NoReturn, Optional, Tuple, Type, Union, cast
 
@@ -79,7 +80,9 @@ def is_key(key: object) -> bool:
     return isinstance(key, tuple) and len(key) in (2, 3) and all(isinstance(it, str) or (it is None and at == 1 and len(key) == 3) for at, it in enumerate(key))
 
 
+@functools.lru_cache(maxsize=1024)
 def key_of(key: Key) -> c.Key:
+    """A key as the library takes it, which only reads it: so that of a key that is asked for again is the same."""
     section, subsection, name = names_of(key)
     return c.Key(text_of(section), subsection is not None, text_of(subsection or ""), text_of(name))
 

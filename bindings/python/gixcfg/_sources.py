@@ -1,7 +1,7 @@
 """Where configuration comes from, and what is known of places and folders."""
 import enum
 import os
-from typing import List, NamedTuple, Optional, Union
+from typing import List, NamedTuple, Optional
 
 from gixcfg import _calls as c
 from gixcfg._names import Entry, text_of
@@ -58,8 +58,8 @@ class Origin(NamedTuple):
     """Its path, if it has one."""
 
 
-def origin_of(origin: Union[c.Origin, c.ListedSection], path: bytes) -> Origin:
-    """Where a file or a section comes from, of what the library tells of it."""
+def origin_of(origin: c.Origin, path: bytes) -> Origin:
+    """Where a file comes from, of what the library tells of it."""
     return Origin(SOURCES[origin.source.bit_length() - 1], origin.level, origin.trust == c.TRUST_FULL, os.fsdecode(path) if origin.has_path else None)
 
 

@@ -32,6 +32,18 @@ class Mapping(unittest.TestCase):
         self.assertEqual([config[key] for key in config.keys()], [value for _key, value in config.items()])
         self.assertEqual([it.key for it in config.entries()][-2:], [("remote", "o.x", "url")] * 2)
 
+    def test_items_are_what_look_ups_find(self) -> None:
+        # (an entry without `=` that is its section's last leaves the value to the sections before)
+        config = Config.parse("[a]\n\tk = 1\n[A]\n\tK\n[a]\n\tb\n\tk = 2\n\tk\n[c]\n\tn\n[c \"S\"]\n\tn = x\n[C]\n\tn = y\n")
+        items = [(("a", None, "k"), "1"), (("a", None, "b"), ""), (("c", None, "n"), "y"), (("c", "S", "n"), "x")]
+        self.assertEqual(list(config.items()), items)
+        self.assertEqual([(key, config[key]) for key in config], items)
+        self.assertEqual((list(config.values()), len(config.items()), len(config.values())), (["1", "", "y", "x"], 4, 4))
+        self.assertTrue((Name("c", "S", "n"), "x") in config.items() and "y" in config.values() and "2" not in config.values())
+        found = config.items()
+        config["a.k"] = "3"
+        self.assertEqual((list(found)[0], list(Config().items())), ((("a", None, "k"), "3"), []))
+
     def test_changes(self) -> None:
         config = self.config
         self.assertEqual((config.pop("remote.o.x.url"), config.pop("remote.o.x.url", None)), ("2", None))

@@ -150,6 +150,11 @@ class Texts(unittest.TestCase):
     def test_bytes_that_are_no_text_are_kept(self) -> None:
         config = Config.parse(b"[a \"\xff\"]\nk = \xfe\n")
         self.assertEqual(config["a", "\udcff", "k"], "\udcfe")
+        told = Config.parse(b"[A \"\xff\xc3\x84\"]\n\tK = \xfe\xc3\x84\n\tbare\n[b]\n\tk = 1\n")
+        entries = [("a", "\udcff\xc4", "k", "\udcfe\xc4"), ("a", "\udcff\xc4", "bare", None), ("b", None, "k", "1")]
+        self.assertEqual(told.entries(), entries)
+        self.assertEqual([(it.name, it.subsection, it.entries) for it in told.sections()], [("A", "\udcff\xc4", entries[:2]), ("b", None, entries[2:])])
+        self.assertEqual((list(told.items())[0], told.edit("A", "\udcff\xc4").section.place), ((entries[0][:3], "\udcfe\xc4"), 0))
         with self.assertRaises(Refused) as caught:
             config["a\udcff", "k"]
         self.assertEqual(caught.exception.number, 101)
