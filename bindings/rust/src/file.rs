@@ -18,6 +18,7 @@ pub use crate::includes;
 pub use crate::meta::Metadata;
 pub use crate::section::{self, Section, SectionMut};
 pub use crate::text::{AsBStr, AsBStrOpt, IntoBStringOpt};
+pub use crate::view::{BodyRef, BodyRefIter, HeaderRef, SectionRef};
 
 /// Files that are made.
 pub mod init {
@@ -313,7 +314,7 @@ impl File {
     /// How many entries the sections have.
     #[must_use]
     pub fn num_values(&self) -> usize {
-        self.sys.num_entries()
+        self.sys.seen().num_entries()
     }
 
     /// Where the file comes from; its sections may come from others.
@@ -324,62 +325,41 @@ impl File {
         Metadata::of(path, origin.source, origin.level, origin.trust)
     }
 
-    /// The sections in the file's order, each as it is now.
-    pub fn sections(&self) -> impl Iterator<Item = Section> {
-        let mut left = self.sys.entries().into_iter();
-        let listed = self.sys.sections(|_, _| true).into_iter();
-        listed.map(move |(_, listed)| Section {
-            entries: left.by_ref().take(listed.entries).collect(),
-            header: listed.header,
-            meta: listed.meta,
+    /// The sections in the file's order. The first call after an edit takes a pass over the file; the others take none.
+    pub fn sections(&self) -> impl DoubleEndedIterator<Item = SectionRef<'_>> + ExactSizeIterator {
+        self.sys.seen().sections()
+    }
+
+    /// The sections of the names, one or more, in order.
+    pub(crate) fn named<'a>(
+        &'a self,
+        name: &str,
+        subsection_name: Option<&BStr>,
+    ) -> Result<impl DoubleEndedIterator<Item = SectionRef<'a>>, lookup::existing::Error> {
+        let seen = self.sys.seen();
+        let named = seen.of_names(name, subsection_name);
+        if named.len() > 0 {
+            return Ok(named);
+        }
+        Err(if seen.of_name(name).is_empty() {
+            lookup::existing::Error::SectionMissing
+        } else {
+            lookup::existing::Error::SubSectionMissing
         })
     }
 
-    /// The section at a place, of which the rest is known.
-    fn section_of(&self, place: usize, listed: section::Listed) -> Section {
-        Section {
-            header: listed.header,
-            meta: listed.meta,
-            entries: self.sys.entries_at(place),
-        }
-    }
-
-    /// The section at a place, where there is one.
-    pub(crate) fn section_at(&self, place: usize) -> Section {
-        self.section_of(place, self.sys.section_at(place))
-    }
-
-    /// What is known of the sections of the names, one or more, with their places.
-    fn named(
-        &self,
-        name: &str,
-        subsection_name: Option<&BStr>,
-    ) -> Result<Vec<(usize, section::Listed)>, lookup::existing::Error> {
-        let mut named = self
-            .sys
-            .sections(|it, _| it.eq_ignore_ascii_case(name.as_bytes()));
-        if named.is_empty() {
-            return Err(lookup::existing::Error::SectionMissing);
-        }
-        named.retain(|(_, listed)| listed.header.subsection_name() == subsection_name);
-        if named.is_empty() {
-            return Err(lookup::existing::Error::SubSectionMissing);
-        }
-        Ok(named)
-    }
-
-    /// The last section of the names whose metadata a filter keeps, if it keeps one, with its place. The filter is asked from the last on.
+    /// The last section of the names whose metadata a filter keeps, if it keeps one. The filter is asked from the last on.
     fn last_of(
         &self,
         name: &str,
         subsection_name: Option<&BStr>,
         mut filter: impl FnMut(&Metadata) -> bool,
-    ) -> Result<Option<(usize, section::Listed)>, lookup::existing::Error> {
-        let named = self.named(name, subsection_name)?.into_iter();
-        Ok(named.rev().find(|it| filter(&it.1.meta)))
+    ) -> Result<Option<SectionRef<'_>>, lookup::existing::Error> {
+        let mut named = self.named(name, subsection_name)?;
+        Ok(named.rfind(|it| filter(it.meta())))
     }
 
-    /// The last section that has the name, without ASCII case, and exactly the subsection, as it is now.
+    /// The last section that has the name, without ASCII case, and exactly the subsection.
     ///
     /// # Errors
     ///
@@ -397,7 +377,7 @@ impl File {
         &self,
         name: impl AsRef<str>,
         subsection_name: impl AsBStrOpt,
-    ) -> Result<Section, lookup::existing::Error> {
+    ) -> Result<SectionRef<'_>, lookup::existing::Error> {
         self.section_filter(name, subsection_name, |_| true)?
             .ok_or(lookup::existing::Error::SectionMissing)
     }
@@ -412,9 +392,8 @@ impl File {
         name: impl AsRef<str>,
         subsection_name: impl AsBStrOpt,
         filter: impl FnMut(&Metadata) -> bool,
-    ) -> Result<Option<Section>, lookup::existing::Error> {
-        let last = self.last_of(name.as_ref(), subsection_name.as_bstr_opt(), filter)?;
-        Ok(last.map(|(place, listed)| self.section_of(place, listed)))
+    ) -> Result<Option<SectionRef<'_>>, lookup::existing::Error> {
+        self.last_of(name.as_ref(), subsection_name.as_bstr_opt(), filter)
     }
 
     /// As [`File::section`], by the section's key, such as `remote.origin`.
@@ -425,7 +404,7 @@ impl File {
     pub fn section_by_key(
         &self,
         section_key: impl AsBStr,
-    ) -> Result<Section, lookup::existing::Error> {
+    ) -> Result<SectionRef<'_>, lookup::existing::Error> {
         let key = section_key_of(&section_key)?;
         self.section(key.section_name, key.subsection_name)
     }
@@ -439,14 +418,17 @@ impl File {
         &self,
         section_key: impl AsBStr,
         filter: impl FnMut(&Metadata) -> bool,
-    ) -> Result<Option<Section>, lookup::existing::Error> {
+    ) -> Result<Option<SectionRef<'_>>, lookup::existing::Error> {
         let key = section_key_of(&section_key)?;
         self.section_filter(key.section_name, key.subsection_name, filter)
     }
 
     /// The sections that have the name, without ASCII case, and any subsection or none, in the file's order; `None` if there are none.
     #[must_use]
-    pub fn sections_by_name(&self, name: impl AsRef<str>) -> Option<impl Iterator<Item = Section>> {
+    pub fn sections_by_name(
+        &self,
+        name: impl AsRef<str>,
+    ) -> Option<impl Iterator<Item = SectionRef<'_>>> {
         self.sections_by_name_and_filter(name, |_| true)
     }
 
@@ -456,13 +438,12 @@ impl File {
         &self,
         name: impl AsRef<str>,
         mut filter: impl FnMut(&Metadata) -> bool,
-    ) -> Option<impl Iterator<Item = Section>> {
-        let mut named: Vec<_> = self.sections().collect();
-        named.retain(|section| section.header.is_named(name.as_ref()));
+    ) -> Option<impl Iterator<Item = SectionRef<'_>>> {
+        let mut named = self.sys.seen().of_name(name.as_ref());
         if named.is_empty() {
             return None;
         }
-        named.retain(|section| filter(&section.meta));
+        named.retain(|section| filter(section.meta()));
         Some(named.into_iter())
     }
 
@@ -492,7 +473,8 @@ impl File {
         filter: impl FnMut(&Metadata) -> bool,
     ) -> Result<Option<SectionMut<'_>>, lookup::existing::Error> {
         let last = self.last_of(name.as_ref(), subsection_name.as_bstr_opt(), filter)?;
-        Ok(last.map(|(place, _)| SectionMut::at(self, place)))
+        let place = last.map(|it| it.place());
+        Ok(place.map(move |place| SectionMut::at(self, place)))
     }
 
     /// As [`File::section_mut`], by the section's key, such as `remote.origin`.
@@ -535,7 +517,7 @@ impl File {
         let subsection_name = subsection_name.into_bstring_opt();
         let names = section_names(name.as_ref(), subsection_name.as_ref().map(AsBStr::as_bstr));
         self.sys.new_section(&names).map_err(header::Error::of)?;
-        let last = self.sys.num_sections() - 1;
+        let last = self.sections().len() - 1;
         Ok(SectionMut::at(self, last))
     }
 
@@ -564,9 +546,10 @@ impl File {
         filter: impl FnMut(&Metadata) -> bool,
     ) -> Result<SectionMut<'_>, header::Error> {
         let (name, subsection_name) = (name.as_ref(), subsection_name.as_bstr_opt());
-        match self.last_of(name, subsection_name, filter) {
-            Ok(Some((place, _))) => Ok(SectionMut::at(self, place)),
-            _ => self.new_section(name, subsection_name.map(BString::from)),
+        let last = self.last_of(name, subsection_name, filter);
+        match last.ok().flatten().map(|it| it.place()) {
+            Some(place) => Ok(SectionMut::at(self, place)),
+            None => self.new_section(name, subsection_name.map(BString::from)),
         }
     }
 
@@ -587,8 +570,8 @@ impl File {
         filter: impl FnMut(&Metadata) -> bool,
     ) -> Option<Section> {
         let last = self.last_of(name.as_ref(), subsection_name.as_bstr_opt(), filter);
-        let (place, listed) = last.ok()??;
-        let removed = self.section_of(place, listed);
+        let last = last.ok()??;
+        let (place, removed) = (last.place(), last.to_owned());
         self.sys.remove_section_at(place);
         Some(removed)
     }
@@ -615,7 +598,7 @@ impl File {
         options: includes::Options<'_>,
         files: &mut impl includes::Files,
     ) -> Result<File, includes::Error> {
-        let file = File::empty();
+        let mut file = File::empty();
         let real = options.real_git_dir();
         let load = sys::Load {
             path: sys::Text::of(includes::bytes(path)),
@@ -625,7 +608,7 @@ impl File {
         };
         let mut files = includes::Followed::of(files, 1, &options);
         includes::Host::new(&mut files, &mut includes::Process)
-            .load(&file.sys, Wanted::File(&load))?;
+            .load(&mut file.sys, Wanted::File(&load))?;
         Ok(file)
     }
 
@@ -655,8 +638,8 @@ impl File {
         files: &mut impl includes::Files,
         variables: &mut impl includes::Variables,
     ) -> Result<File, includes::Error> {
-        let (file, given) = (File::empty(), places.given());
-        includes::Host::new(files, variables).load(&file.sys, Wanted::Globals(&given))?;
+        let (mut file, given) = (File::empty(), places.given());
+        includes::Host::new(files, variables).load(&mut file.sys, Wanted::Globals(&given))?;
         Ok(file)
     }
 
@@ -681,11 +664,11 @@ impl File {
         files: &mut impl includes::Files,
         variables: &mut impl includes::Variables,
     ) -> Result<Option<File>, includes::Error> {
-        let (file, real) = (File::empty(), options.real_git_dir());
+        let (mut file, real) = (File::empty(), options.real_git_dir());
         let given = options.given(real.as_bstr());
         let mut files = includes::Followed::of(files, 0, &options);
         let host = includes::Host::new(&mut files, variables);
-        let is_set = host.load(&file.sys, Wanted::Variables(&given))?;
+        let is_set = host.load(&mut file.sys, Wanted::Variables(&given))?;
         Ok(is_set.then_some(file))
     }
 
@@ -727,14 +710,15 @@ impl File {
         files: &mut impl includes::Files,
         variables: &mut impl includes::Variables,
     ) -> Result<File, includes::Error> {
-        let file = File::empty();
+        let mut file = File::empty();
         let real = fs::canonicalize(dir).unwrap_or_else(|_| dir.to_owned());
         let repository = sys::Repository {
             git_folder: sys::Text::of(includes::bytes(dir)),
             real_git_folder: sys::Text::of(includes::bytes(&real)),
             places: places.given(),
         };
-        includes::Host::new(files, variables).load(&file.sys, Wanted::Repository(&repository))?;
+        includes::Host::new(files, variables)
+            .load(&mut file.sys, Wanted::Repository(&repository))?;
         Ok(file)
     }
 
@@ -766,7 +750,7 @@ impl File {
         let real = options.real_git_dir();
         let given = options.given(real.as_bstr());
         includes::Host::new(files, &mut includes::Process)
-            .load(&self.sys, Wanted::Included(&given))?;
+            .load(&mut self.sys, Wanted::Included(&given))?;
         Ok(())
     }
 
@@ -829,7 +813,8 @@ impl File {
         // (a name that can't be a value's is refused before a section is made)
         File::default().set_raw_value_by("a", None, key.value_name, "")?;
         let (name, subsection_name) = (key.section_name, key.subsection_name);
-        if let Ok(Some((place, _))) = self.last_of(name, subsection_name, filter) {
+        let last = self.last_of(name, subsection_name, filter);
+        if let Some(place) = last.ok().flatten().map(|it| it.place()) {
             return Ok(SectionMut::at(self, place).set(key.value_name, new_value)?);
         }
         let mut made = self.clone();
@@ -980,11 +965,10 @@ impl File {
         subsection_name: impl AsBStrOpt,
         new_name: impl AsRef<str>,
         new_subsection_name: impl IntoBStringOpt,
-        mut filter: impl FnMut(&Metadata) -> bool,
+        filter: impl FnMut(&Metadata) -> bool,
     ) -> Result<(), rename_section::Error> {
-        let mut places = Vec::new();
-        let named = self.named(name.as_ref(), subsection_name.as_bstr_opt())?;
-        places.extend(named.iter().filter(|it| filter(&it.1.meta)).map(|it| it.0));
+        let kept = self.kept(name.as_ref(), subsection_name.as_bstr_opt(), filter)?;
+        let places: Vec<_> = kept.iter().map(SectionRef::place).collect();
         if places.is_empty() {
             return Err(lookup::existing::Error::KeyMissing.into());
         }

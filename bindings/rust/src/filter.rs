@@ -2,22 +2,23 @@
 use std::borrow::Cow;
 use std::io;
 
-use bstr::BString;
+use bstr::{BStr, BString};
 
-use crate::file::{key_of, names, typed, File};
+use crate::file::{key_of, File};
 use crate::key::AsKey;
 use crate::meta::Metadata;
-use crate::section::Section;
+use crate::section::SectionRef;
 use crate::source::Trust;
-use crate::text::AsBStrOpt;
-use crate::{lookup, sys, value};
+use crate::text::{AsBStr, AsBStrOpt};
+use crate::value::{self, Boolean};
+use crate::{lookup, sys};
 
-/// What a program's filter says of a section: its place, where it comes from, and whether it is kept.
-type Answer = (usize, Metadata, bool);
+/// What a program's filter says of a section of a file: whether it is kept.
+type Answer<'a> = (SectionRef<'a>, bool);
 
 /// The library's filter that says the same, if there is one.
-fn same(answers: &[Answer]) -> Option<sys::Filter> {
-    let kept = answers.iter().filter(|it| it.2).map(|it| &it.1);
+fn same(answers: &[Answer<'_>]) -> Option<sys::Filter> {
+    let kept = answers.iter().filter(|it| it.1).map(|it| it.0.meta());
     // (no filter that keeps these keeps fewer others)
     let filter = sys::Filter {
         sources: kept.clone().fold(0, |sum, meta| sum | meta.source.number()),
@@ -30,7 +31,9 @@ fn same(answers: &[Answer]) -> Option<sys::Filter> {
     let keeps = |meta: &Metadata| {
         filter.sources & meta.source.number() != 0 && meta.trust.number() >= filter.least_trust
     };
-    let is_same = answers.iter().all(|(_, meta, kept)| keeps(meta) == *kept);
+    let is_same = answers
+        .iter()
+        .all(|(section, kept)| keeps(section.meta()) == *kept);
     is_same.then_some(filter)
 }
 
@@ -43,16 +46,16 @@ struct Kept<'a> {
 impl<'a> Kept<'a> {
     /// Those of the answers: in the file itself if a filter of the library says the same, else in a copy where of these sections they alone
     /// are trusted.
-    fn of(file: &'a File, answers: &[Answer]) -> Self {
+    fn of(file: &'a File, answers: &[Answer<'_>]) -> Self {
         if let Some(filter) = same(answers) {
             let file = Cow::Borrowed(file);
             return Kept { file, filter };
         }
         let mut copy = file.clone();
-        for (place, meta, kept) in answers {
+        for (section, kept) in answers {
             let trust = if *kept { Trust::Full } else { Trust::Reduced };
-            if meta.trust != trust {
-                copy.sys.set_trust_at(*place, trust.number());
+            if section.meta().trust != trust {
+                copy.sys.set_trust_at(section.place(), trust.number());
             }
         }
         let filter = sys::Filter {
@@ -62,29 +65,22 @@ impl<'a> Kept<'a> {
         let file = Cow::Owned(copy);
         Kept { file, filter }
     }
+}
 
-    /// Those of a key's section and subsection whose metadata a filter keeps: a lookup of the key asks no others.
-    fn of_key(
-        file: &'a File,
-        key: &sys::Key<'_>,
+impl File {
+    /// The sections of the names whose metadata a filter keeps, in order. It is asked of each once, in order.
+    pub(crate) fn kept(
+        &self,
+        section_name: &str,
+        subsection_name: Option<&BStr>,
         mut filter: impl FnMut(&Metadata) -> bool,
-    ) -> Self {
-        let named = file.sys.sections_of(key).into_iter();
-        let answers = named.map(|(place, listed)| {
-            let kept = filter(&listed.meta);
-            (place, listed.meta, kept)
-        });
-        Kept::of(file, &answers.collect::<Vec<_>>())
-    }
-
-    fn value(&self, key: &sys::Key<'_>) -> Result<BString, lookup::existing::Error> {
-        let value = self.file.sys.value(key, Some(&self.filter));
-        Ok(value.map_err(lookup::existing::Error::of)?.copy())
+    ) -> Result<Vec<SectionRef<'_>>, lookup::existing::Error> {
+        let named = self.named(section_name, subsection_name)?;
+        Ok(named.filter(|it| filter(it.meta())).collect())
     }
 }
 
-/// Lookups in the sections whose metadata a filter keeps. It is asked of each section of the key's names once, in order, before the lookup;
-/// one that goes by more than sources and trust takes a copy of the file.
+/// Lookups in the sections whose metadata a filter keeps. It is asked of each section of the key's names once, in order, before the lookup.
 impl File {
     /// As [`File::raw_value`], in the sections whose metadata the filter keeps.
     ///
@@ -118,8 +114,11 @@ impl File {
         filter: impl FnMut(&Metadata) -> bool,
     ) -> Result<BString, lookup::existing::Error> {
         let subsection_name = subsection_name.as_bstr_opt();
-        let key = names(section_name.as_ref(), subsection_name, value_name.as_ref());
-        Kept::of_key(self, &key, filter).value(&key)
+        let kept = self.kept(section_name.as_ref(), subsection_name, filter)?;
+        // (the last one with a value decides, so that an entry without one leaves it to the sections before)
+        let mut values = kept.iter().rev().map(|it| it.value(value_name.as_ref()));
+        let found = values.find_map(|value| value);
+        found.ok_or(lookup::existing::Error::KeyMissing)
     }
 
     /// As [`File::raw_values`], in the sections whose metadata the filter keeps.
@@ -154,10 +153,13 @@ impl File {
         filter: impl FnMut(&Metadata) -> bool,
     ) -> Result<Vec<BString>, lookup::existing::Error> {
         let subsection_name = subsection_name.as_bstr_opt();
-        let key = names(section_name.as_ref(), subsection_name, value_name.as_ref());
-        let kept = Kept::of_key(self, &key, filter);
-        let values = kept.file.sys.values(&key, Some(&kept.filter));
-        values.map_err(lookup::existing::Error::of)
+        let kept = self.kept(section_name.as_ref(), subsection_name, filter)?;
+        let values = kept.iter().flat_map(|it| it.values(value_name.as_ref()));
+        let values: Vec<_> = values.collect();
+        if values.is_empty() {
+            return Err(lookup::existing::Error::KeyMissing);
+        }
+        Ok(values)
     }
 
     /// As [`File::string`], in the sections whose metadata the filter keeps.
@@ -251,12 +253,14 @@ impl File {
         filter: impl FnMut(&Metadata) -> bool,
     ) -> Result<Option<bool>, value::Error> {
         let subsection_name = subsection_name.as_bstr_opt();
-        let key = names(section_name.as_ref(), subsection_name, value_name.as_ref());
-        let kept = Kept::of_key(self, &key, filter);
-        let found = kept.file.sys.boolean(&key, Some(&kept.filter));
-        typed(found, "not a boolean", || {
-            kept.value(&key).unwrap_or_default()
-        })
+        let kept = self.kept(section_name.as_ref(), subsection_name, filter);
+        let kept = kept.unwrap_or_default();
+        let mut values = kept.iter().rev();
+        match values.find_map(|it| it.value_implicit(value_name.as_ref())) {
+            Some(Some(value)) => Ok(Some(Boolean::try_from(value)?.0)),
+            Some(None) => Ok(Some(true)),
+            None => Ok(None),
+        }
     }
 
     /// As [`File::integer`], in the sections whose metadata the filter keeps.
@@ -292,13 +296,9 @@ impl File {
         value_name: impl AsRef<str>,
         filter: impl FnMut(&Metadata) -> bool,
     ) -> Result<Option<i64>, value::Error> {
-        let subsection_name = subsection_name.as_bstr_opt();
-        let key = names(section_name.as_ref(), subsection_name, value_name.as_ref());
-        let kept = Kept::of_key(self, &key, filter);
-        let found = kept.file.sys.integer(&key, Some(&kept.filter));
-        typed(found, "not an integer", || {
-            kept.value(&key).unwrap_or_default()
-        })
+        let found = self.string_filter_by(section_name, subsection_name, value_name, filter);
+        let found = found.map(|value| value::integer_of(value.as_bstr()));
+        found.transpose()
     }
 
     /// Writes the text of what comes before the first section, and of the sections that the filter keeps, which is asked of each once, in
@@ -310,12 +310,9 @@ impl File {
     pub fn write_to_filter(
         &self,
         mut out: impl io::Write,
-        mut filter: impl FnMut(&Section) -> bool,
+        mut filter: impl FnMut(&SectionRef<'_>) -> bool,
     ) -> io::Result<()> {
-        let answers = self.sections().enumerate().map(|(place, section)| {
-            let kept = filter(&section);
-            (place, section.meta, kept)
-        });
+        let answers = self.sections().map(|it| (it, filter(&it)));
         let kept = Kept::of(self, &answers.collect::<Vec<_>>());
         out.write_all(kept.file.sys.text(Some(&kept.filter)).bytes())
     }

@@ -346,7 +346,7 @@ impl<'a> Host<'a> {
     }
 
     /// Loads again and again, each time with one file or variable more, until none is asked for. Returns whether there is what was wanted.
-    pub(crate) fn load(mut self, file: &sys::File, wanted: Wanted<'_>) -> Result<bool, Error> {
+    pub(crate) fn load(mut self, file: &mut sys::File, wanted: Wanted<'_>) -> Result<bool, Error> {
         loop {
             let (answer, asked) = file.load(&mut self.told, wanted);
             let about = asked.bytes();

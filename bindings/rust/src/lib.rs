@@ -28,6 +28,7 @@ mod sys;
 mod text;
 mod typed;
 pub mod value;
+mod view;
 
 pub use file::File;
 pub use key::{AsKey, KeyRef};

@@ -11,107 +11,44 @@ use crate::source::Trust;
 use crate::sys;
 use crate::text::{AsBStr, AsBStrOpt, IntoBStringOpt};
 
-/// The header of a section.
-#[derive(Clone, Debug, PartialEq, Eq)]
-pub struct Header {
-    pub(crate) name: BString,
-    pub(crate) subsection_name: Option<BString>,
-}
+use crate::view::{is_named, lookups};
+pub use crate::view::{BodyRef, BodyRefIter, HeaderRef, SectionRef};
 
-impl Header {
-    /// The section's name, as it is spelled.
-    #[must_use]
-    pub fn name(&self) -> &BStr {
-        self.name.as_bstr()
-    }
-
-    /// The subsection's name, if there is one.
-    #[must_use]
-    pub fn subsection_name(&self) -> Option<&BStr> {
-        self.subsection_name.as_ref().map(|name| name.as_bstr())
-    }
-
-    /// Whether the section has the name, without ASCII case.
-    pub(crate) fn is_named(&self, name: &str) -> bool {
-        self.name.eq_ignore_ascii_case(name.as_bytes())
-    }
-}
-
-/// What is known of a section besides its entries.
-pub(crate) struct Listed {
-    pub(crate) header: Header,
-    pub(crate) meta: Metadata,
-    /// How many entries it has.
-    pub(crate) entries: usize,
-}
-
-/// An entry of a section: its name in lower case, and what it means; `None` for one without `=`.
-pub(crate) type Entry = (BString, Option<BString>);
-
-/// A section of a file, as it was when it was asked for. Equal ones have the same header, entries and metadata.
+/// A section that was taken out of a file, or copied. Equal ones have the same header, entries and metadata.
 #[derive(Clone, Debug, PartialEq, Eq)]
 pub struct Section {
-    pub(crate) header: Header,
+    pub(crate) name: BString,
+    pub(crate) subsection_name: Option<BString>,
     pub(crate) meta: Metadata,
-    pub(crate) entries: Vec<Entry>,
+    pub(crate) entries: Vec<(BString, Option<BString>)>,
 }
 
 impl Section {
     /// The section's header.
     #[must_use]
-    pub fn header(&self) -> &Header {
-        &self.header
+    pub fn header(&self) -> HeaderRef<'_> {
+        HeaderRef {
+            name: self.name.as_bstr(),
+            subsection_name: self.subsection_name.as_ref().map(AsBStr::as_bstr),
+        }
     }
 
-    /// Where the section comes from.
+    /// Where the section came from.
     #[must_use]
     pub fn meta(&self) -> &Metadata {
         &self.meta
     }
 
-    fn named<'a>(&'a self, value_name: &'a str) -> impl DoubleEndedIterator<Item = &'a Entry> {
-        self.entries
-            .iter()
-            .filter(move |(name, _)| name.eq_ignore_ascii_case(value_name.as_bytes()))
+    fn pairs(&self) -> impl DoubleEndedIterator<Item = (&BStr, Option<&BStr>)> {
+        let entries = self.entries.iter();
+        entries.map(|(name, value)| (name.as_bstr(), value.as_ref().map(AsBStr::as_bstr)))
     }
 
-    /// What the last entry of the name means; `None` if there is none, or if it has no `=`.
-    #[must_use]
-    pub fn value(&self, value_name: impl AsRef<str>) -> Option<BString> {
-        self.value_implicit(value_name.as_ref()).flatten()
-    }
+    lookups!();
 
-    /// As [`Section::value`], but `Some(None)` for an entry without `=`.
-    #[must_use]
-    pub fn value_implicit(&self, value_name: &str) -> Option<Option<BString>> {
-        self.named(value_name)
-            .next_back()
-            .map(|(_, value)| value.clone())
-    }
-
-    /// What all entries of the name mean, in order; one without `=` is empty.
-    #[must_use]
-    pub fn values(&self, value_name: &str) -> Vec<BString> {
-        self.named(value_name)
-            .map(|(_, value)| value.clone().unwrap_or_default())
-            .collect()
-    }
-
-    /// The names of the entries in lower case, in order, each as often as it occurs.
-    pub fn value_names(&self) -> impl Iterator<Item = &BStr> {
-        self.entries.iter().map(|(name, _)| name.as_bstr())
-    }
-
-    /// Whether there is an entry of the name.
-    #[must_use]
-    pub fn contains_value_name(&self, value_name: &str) -> bool {
-        self.named(value_name).next().is_some()
-    }
-
-    /// How many entries there are.
-    #[must_use]
-    pub fn num_values(&self) -> usize {
-        self.entries.len()
+    /// The names of the entries, as they are spelled, in order, each as often as it occurs.
+    pub fn value_names(&self) -> impl DoubleEndedIterator<Item = &BStr> {
+        self.pairs().map(|(name, _)| name)
     }
 }
 
@@ -170,37 +107,37 @@ impl<'a> SectionMut<'a> {
         SectionMut { file, place }
     }
 
-    /// The section as it is now.
+    /// The section as it is until the next edit.
     #[must_use]
-    pub fn section(&self) -> Section {
-        self.file.section_at(self.place)
+    pub fn section(&self) -> SectionRef<'_> {
+        self.file.sys.seen().section(self.place)
     }
 
-    /// [`Section::value`] of the section as it is now.
+    /// [`BodyRef::value`] of the section as it is now.
     #[must_use]
     pub fn value(&self, value_name: impl AsRef<str>) -> Option<BString> {
         self.section().value(value_name)
     }
 
-    /// [`Section::value_implicit`] of the section as it is now.
+    /// [`BodyRef::value_implicit`] of the section as it is now.
     #[must_use]
     pub fn value_implicit(&self, value_name: &str) -> Option<Option<BString>> {
         self.section().value_implicit(value_name)
     }
 
-    /// [`Section::values`] of the section as it is now.
+    /// [`BodyRef::values`] of the section as it is now.
     #[must_use]
     pub fn values(&self, value_name: &str) -> Vec<BString> {
         self.section().values(value_name)
     }
 
-    /// [`Section::contains_value_name`] of the section as it is now.
+    /// [`BodyRef::contains_value_name`] of the section as it is now.
     #[must_use]
     pub fn contains_value_name(&self, value_name: &str) -> bool {
         self.section().contains_value_name(value_name)
     }
 
-    /// [`Section::num_values`] of the section as it is now.
+    /// [`BodyRef::num_values`] of the section as it is now.
     #[must_use]
     pub fn num_values(&self) -> usize {
         self.section().num_values()

@@ -11,16 +11,16 @@ use std::mem::MaybeUninit;
 use bstr::BString;
 
 use crate::includes::Found;
-use crate::meta::Metadata;
-use crate::section;
+use crate::view::Seen;
 
 // (as tools/c_header writes it)
 #[rustfmt::skip]
 mod raw;
 
 pub(crate) use raw::{
-    Assigned, Filter, Folders, Includes, Key, Layout, Line, Load, Origin, Place, Places,
-    Repository, Section, Text, NOTHING_THERE, NOT_TOLD, NOT_UTF8, SOURCES_ALL, VARIABLE_NOT_TOLD,
+    Assigned, EntryRow, Filter, Folders, Includes, Key, Layout, Line, Load, Origin, OriginRow,
+    Part, Place, Places, Repository, Section, SectionRow, Text, NOTHING_THERE, NOT_TOLD, NOT_UTF8,
+    SOURCES_ALL, VARIABLE_NOT_TOLD,
 };
 
 /// The number of a refusal.
@@ -153,52 +153,88 @@ impl List {
             .map(|index| text(&mut self, index))
             .collect()
     }
-
-    /// Copies of the names and values of entries.
-    fn entries(mut self) -> Vec<section::Entry> {
-        let entry = |list: &mut List, index| {
-            // SAFETY: an entry may be all zeros, and its parts lie in the list.
-            unsafe {
-                list.one(index, raw::gix_config_list_entry, |entry| {
-                    let value = entry.has_value.then(|| entry.value.bytes().into());
-                    (entry.name.bytes().into(), value)
-                })
-            }
-        };
-        (0..self.len())
-            .map(|index| entry(&mut self, index))
-            .collect()
-    }
-
-    /// A copy of what is said of the section at a place, if its name and its subsection are wanted.
-    fn section(
-        &mut self,
-        place: usize,
-        is_wanted: impl Fn(&[u8], Option<&[u8]>) -> bool,
-    ) -> Option<section::Listed> {
-        // SAFETY: a section may be all zeros, and its parts lie in the list.
-        unsafe {
-            self.one(place, raw::gix_config_list_section, |found| {
-                let name = found.name.bytes();
-                let subsection = found.has_subsection.then(|| found.subsection.bytes());
-                let path = found.has_path.then(|| found.path.bytes());
-                is_wanted(name, subsection).then(|| section::Listed {
-                    header: section::Header {
-                        name: name.into(),
-                        subsection_name: subsection.map(BString::from),
-                    },
-                    meta: Metadata::of(path, found.source, found.level, found.trust),
-                    entries: found.entries,
-                })
-            })
-        }
-    }
 }
 
 impl Drop for List {
     fn drop(&mut self) {
         // SAFETY: the handle is empty, or was filled by a call.
         unsafe { raw::gix_config_list_close(&mut self.0) }
+    }
+}
+
+/// The sections and entries of a file as arrays, which are freed with this.
+pub(crate) struct View(raw::View);
+
+impl View {
+    /// An array of the view.
+    ///
+    /// # Safety
+    ///
+    /// It is as long as is said, or that is 0.
+    unsafe fn array<T>(&self, at: *const T, len: usize) -> &[T] {
+        if len == 0 {
+            return &[];
+        }
+        std::slice::from_raw_parts(at, len)
+    }
+
+    pub(crate) fn sections(&self) -> &[SectionRow] {
+        // SAFETY: a call filled the view.
+        unsafe { self.array(self.0.sections, self.0.sections_len) }
+    }
+
+    pub(crate) fn entries(&self) -> &[EntryRow] {
+        // SAFETY: a call filled the view.
+        unsafe { self.array(self.0.entries, self.0.entries_len) }
+    }
+
+    pub(crate) fn origins(&self) -> &[OriginRow] {
+        // SAFETY: a call filled the view.
+        unsafe { self.array(self.0.origins, self.0.origins_len) }
+    }
+
+    /// The bytes of a part.
+    pub(crate) fn part(&self, part: Part) -> &[u8] {
+        // SAFETY: a call filled the view.
+        let text = unsafe { self.array(self.0.text, self.0.text_len) };
+        &text[part.at..][..part.len]
+    }
+}
+
+impl Drop for View {
+    fn drop(&mut self) {
+        // SAFETY: a call filled the view.
+        unsafe { raw::gix_config_view_free(&mut self.0) }
+    }
+}
+
+/// A value that is made when it is first asked for.
+pub(crate) struct Lazy<T>(UnsafeCell<Option<Box<T>>>);
+
+impl<T> Default for Lazy<T> {
+    fn default() -> Self {
+        Lazy(UnsafeCell::new(None))
+    }
+}
+
+impl<T> Lazy<T> {
+    pub(crate) fn get(&self, make: impl FnOnce() -> T) -> &T {
+        // SAFETY: what is borrowed is never changed: it is put where nothing was, and taken away by `clear` alone, for which nothing is
+        // borrowed. No other thread has it, as it isn't `Sync`.
+        unsafe {
+            if (*self.0.get()).is_none() {
+                let made = Box::new(make());
+                // (which may have asked for it, too)
+                if (*self.0.get()).is_none() {
+                    *self.0.get() = Some(made);
+                }
+            }
+            (*self.0.get()).as_deref().expect("it was just made")
+        }
+    }
+
+    fn clear(&mut self) {
+        *self.0.get_mut() = None;
     }
 }
 
@@ -302,6 +338,8 @@ pub(crate) enum Wanted<'a> {
 pub(crate) struct File {
     // (a call has the handle for itself, also one that only reads)
     handle: UnsafeCell<raw::File>,
+    /// Its sections, until it is edited.
+    seen: Lazy<Seen>,
 }
 
 impl File {
@@ -311,11 +349,38 @@ impl File {
             handle: UnsafeCell::new(raw::File {
                 at: std::ptr::null_mut(),
             }),
+            seen: Lazy::default(),
         }
     }
 
     fn at(&self) -> *mut raw::File {
         self.handle.get()
+    }
+
+    /// The handle for a call that edits the file.
+    fn edited(&mut self) -> *mut raw::File {
+        self.seen.clear();
+        self.at()
+    }
+
+    /// The sections, as they are until the file is edited.
+    pub(crate) fn seen(&self) -> &Seen {
+        self.seen.get(|| {
+            let mut view = View(raw::View {
+                sections: std::ptr::null(),
+                sections_len: 0,
+                entries: std::ptr::null(),
+                entries_len: 0,
+                origins: std::ptr::null(),
+                origins_len: 0,
+                text: std::ptr::null(),
+                text_len: 0,
+                owner: std::ptr::null_mut(),
+            });
+            // SAFETY: the handle has a file, which no other call has now, and the view is a new one.
+            surely(unsafe { raw::gix_config_view_file(self.at(), &mut view.0) });
+            Seen::of(view)
+        })
     }
 
     /// The file of a text; else the number, and where the text is refused.
@@ -332,8 +397,12 @@ impl File {
     }
 
     /// Loads into the file, of what was told. Returns the path or the name that the call hands out, too.
-    pub(crate) fn load(&self, told: &mut Told, wanted: Wanted<'_>) -> (Result<(), Number>, Bytes) {
-        let (told, file, mut asked) = (&mut told.0, self.at(), Bytes::empty());
+    pub(crate) fn load(
+        &mut self,
+        told: &mut Told,
+        wanted: Wanted<'_>,
+    ) -> (Result<(), Number>, Bytes) {
+        let (told, file, mut asked) = (&mut told.0, self.edited(), Bytes::empty());
         let about = &mut asked.0;
         // SAFETY: what is told is another handle than the file's, which no other call has now.
         let answer = unsafe {
@@ -367,7 +436,7 @@ impl File {
     /// Appends a copy of another file.
     pub(crate) fn append(&mut self, other: &File) -> Result<(), Number> {
         // SAFETY: both handles have files, and they are two, since this one is borrowed alone.
-        done(unsafe { raw::gix_config_file_append(self.at(), other.at()) })
+        done(unsafe { raw::gix_config_file_append(self.edited(), other.at()) })
     }
 
     pub(crate) fn is_equal(&self, other: &File) -> bool {
@@ -464,68 +533,6 @@ impl File {
         Ok(path)
     }
 
-    fn listed(&self) -> List {
-        let mut list = List::empty();
-        // SAFETY: the handle has a file, which no other call has now.
-        surely(unsafe { raw::gix_config_sections(self.at(), &mut list.0) });
-        list
-    }
-
-    /// How many sections there are.
-    pub(crate) fn num_sections(&self) -> usize {
-        self.listed().len()
-    }
-
-    /// What is known of the section at a place, where there is one.
-    pub(crate) fn section_at(&self, place: usize) -> section::Listed {
-        let found = self.listed().section(place, |_, _| true);
-        found.expect("each section is wanted")
-    }
-
-    /// What is known of the sections whose name and subsection are wanted, in order, with their places.
-    pub(crate) fn sections(
-        &self,
-        is_wanted: impl Fn(&[u8], Option<&[u8]>) -> bool,
-    ) -> Vec<(usize, section::Listed)> {
-        let mut list = self.listed();
-        (0..list.len())
-            .filter_map(|place| Some((place, list.section(place, &is_wanted)?)))
-            .collect()
-    }
-
-    /// What is known of the sections of a key's section and subsection, in order, with their places.
-    pub(crate) fn sections_of(&self, key: &Key<'_>) -> Vec<(usize, section::Listed)> {
-        // SAFETY: the key borrows the bytes of its names.
-        let (name, subsection) = unsafe { (key.section.bytes(), key.subsection.bytes()) };
-        let wanted = key.has_subsection.then_some(subsection);
-        self.sections(|it, subsection| it.eq_ignore_ascii_case(name) && subsection == wanted)
-    }
-
-    fn listed_entries(&self) -> List {
-        let mut list = List::empty();
-        // SAFETY: the handle has a file, which no other call has now.
-        surely(unsafe { raw::gix_config_entries(self.at(), &mut list.0) });
-        list
-    }
-
-    /// How many entries all sections have.
-    pub(crate) fn num_entries(&self) -> usize {
-        self.listed_entries().len()
-    }
-
-    /// The entries of all sections, in order.
-    pub(crate) fn entries(&self) -> Vec<section::Entry> {
-        self.listed_entries().entries()
-    }
-
-    /// The entries of the section at a place, in order.
-    pub(crate) fn entries_at(&self, place: usize) -> Vec<section::Entry> {
-        let mut list = List::empty();
-        // SAFETY: the handle has a file, which no other call has now.
-        surely(unsafe { raw::gix_config_section_entries(self.at(), place, &mut list.0) });
-        list.entries()
-    }
-
     /// Sets a value, and returns the raw text of the one that was there, if there was an entry.
     pub(crate) fn set_value(
         &mut self,
@@ -536,7 +543,7 @@ impl File {
         let (at, len) = (value.as_ptr(), value.len());
         // SAFETY: the handle has a file, and the value is as long as is said.
         let answer =
-            unsafe { raw::gix_config_set_value(self.at(), key, at, len, &mut had, &mut old.0) };
+            unsafe { raw::gix_config_set_value(self.edited(), key, at, len, &mut had, &mut old.0) };
         done(answer)?;
         Ok(had.then(|| old.copy()))
     }
@@ -544,7 +551,7 @@ impl File {
     pub(crate) fn set_existing_value(&mut self, key: &Key<'_>, value: &[u8]) -> Result<(), Number> {
         let (at, len) = (value.as_ptr(), value.len());
         // SAFETY: the handle has a file, and the value is as long as is said.
-        done(unsafe { raw::gix_config_set_existing_value(self.at(), key, at, len) })
+        done(unsafe { raw::gix_config_set_existing_value(self.edited(), key, at, len) })
     }
 
     pub(crate) fn set_existing_values(
@@ -554,12 +561,12 @@ impl File {
     ) -> Result<(), Number> {
         let (at, len) = (values.as_ptr(), values.len());
         // SAFETY: the handle has a file, and there are as many values as is said, which lie there until the call is done.
-        done(unsafe { raw::gix_config_set_existing_values(self.at(), key, at, len) })
+        done(unsafe { raw::gix_config_set_existing_values(self.edited(), key, at, len) })
     }
 
     pub(crate) fn new_section(&mut self, names: &Section<'_>) -> Result<(), Number> {
         // SAFETY: the handle has a file.
-        done(unsafe { raw::gix_config_section_new(self.at(), names) })
+        done(unsafe { raw::gix_config_section_new(self.edited(), names) })
     }
 
     pub(crate) fn rename_section(
@@ -568,13 +575,13 @@ impl File {
         new_names: &Section<'_>,
     ) -> Result<(), Number> {
         // SAFETY: the handle has a file.
-        done(unsafe { raw::gix_config_section_rename(self.at(), names, new_names) })
+        done(unsafe { raw::gix_config_section_rename(self.edited(), names, new_names) })
     }
 
     /// Removes the section at a place, where there is one.
     pub(crate) fn remove_section_at(&mut self, place: usize) {
         // SAFETY: the handle has a file.
-        surely(unsafe { raw::gix_config_section_remove_at(self.at(), place) });
+        surely(unsafe { raw::gix_config_section_remove_at(self.edited(), place) });
     }
 
     pub(crate) fn rename_section_at(
@@ -583,18 +590,18 @@ impl File {
         names: &Section<'_>,
     ) -> Result<(), Number> {
         // SAFETY: the handle has a file.
-        done(unsafe { raw::gix_config_section_rename_at(self.at(), place, names) })
+        done(unsafe { raw::gix_config_section_rename_at(self.edited(), place, names) })
     }
 
     /// Sets the trust of the section at a place, where there is one.
     pub(crate) fn set_trust_at(&mut self, place: usize, trust: u32) {
         // SAFETY: the handle has a file.
-        surely(unsafe { raw::gix_config_section_set_trust_at(self.at(), place, trust) });
+        surely(unsafe { raw::gix_config_section_set_trust_at(self.edited(), place, trust) });
     }
 
     pub(crate) fn push_line_at(&mut self, place: usize, line: &Line<'_>) -> Result<(), Number> {
         // SAFETY: the handle has a file.
-        done(unsafe { raw::gix_config_push_line_at(self.at(), place, line) })
+        done(unsafe { raw::gix_config_push_line_at(self.edited(), place, line) })
     }
 
     pub(crate) fn push_below_last_at(
@@ -603,12 +610,12 @@ impl File {
         assigned: &Assigned<'_>,
     ) -> Result<(), Number> {
         // SAFETY: the handle has a file.
-        done(unsafe { raw::gix_config_push_below_last_at(self.at(), place, assigned) })
+        done(unsafe { raw::gix_config_push_below_last_at(self.edited(), place, assigned) })
     }
 
     pub(crate) fn push_newline_at(&mut self, place: usize) -> Result<(), Number> {
         // SAFETY: the handle has a file.
-        done(unsafe { raw::gix_config_push_newline_at(self.at(), place) })
+        done(unsafe { raw::gix_config_push_newline_at(self.edited(), place) })
     }
 
     /// Sets a value in the section at a place, and returns the raw text of the one that was there, if there was an entry.
@@ -620,7 +627,7 @@ impl File {
         let (mut had, mut old) = (false, Bytes::empty());
         // SAFETY: the handle has a file.
         let answer = unsafe {
-            raw::gix_config_set_value_at(self.at(), place, assigned, &mut had, &mut old.0)
+            raw::gix_config_set_value_at(self.edited(), place, assigned, &mut had, &mut old.0)
         };
         done(answer)?;
         Ok(had.then(|| old.copy()))
@@ -631,7 +638,9 @@ impl File {
         let mut old = Bytes::empty();
         let (at, len) = (name.as_ptr(), name.len());
         // SAFETY: the handle has a file, and the name is as long as is said.
-        done(unsafe { raw::gix_config_remove_value_at(self.at(), place, at, len, &mut old.0) })?;
+        done(unsafe {
+            raw::gix_config_remove_value_at(self.edited(), place, at, len, &mut old.0)
+        })?;
         Ok(old.copy())
     }
 
@@ -640,7 +649,7 @@ impl File {
         let mut count = 0;
         let (at, len) = (name.as_ptr(), name.len());
         let (marks, marks_len) = (marks.as_ptr(), marks.len());
-        let file = self.at();
+        let file = self.edited();
         // SAFETY: the handle has a file, and name and marks are as long as is said.
         surely(unsafe {
             raw::gix_config_remove_marked_at(file, place, at, len, marks, marks_len, &mut count)
@@ -651,7 +660,7 @@ impl File {
     /// Removes the last entry from the section at a place, and returns its name and value.
     pub(crate) fn pop_value_at(&mut self, place: usize) -> Result<(BString, BString), Number> {
         let (mut name, mut value) = (Bytes::empty(), Bytes::empty());
-        let file = self.at();
+        let file = self.edited();
         // SAFETY: the handle has a file.
         done(unsafe { raw::gix_config_pop_value_at(file, place, &mut name.0, &mut value.0) })?;
         Ok((name.copy(), value.copy()))

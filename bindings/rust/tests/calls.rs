@@ -4,7 +4,7 @@ use gix_config::file::Metadata;
 use gix_config::includes::{Error, Files, Found, Options, Places, Variables};
 use gix_config::parse::section::header;
 use gix_config::path::interpolate::Context;
-use gix_config::section::Section;
+use gix_config::section::{Section, SectionRef};
 use gix_config::source::Kind;
 use gix_config::{lookup, AsKey, Boolean, File, KeyRef, Source, Trust};
 use std::io;
@@ -153,6 +153,102 @@ fn sections() {
         ["j".as_bytes().as_bstr()]
     );
     assert_eq!(sections[2].value("j"), Some("3".into()));
+}
+
+#[test]
+fn sections_are_borrowed() {
+    let text = "k = 0\n[A \"x\"]\n\tK = 1\n\tbare\n\tk = \"2\" ; c\n[b]\n";
+    let mut file = File::try_from(text).expect("a text");
+    let (a, b) = {
+        let mut sections = file.sections();
+        assert_eq!(sections.len(), 2);
+        let b = sections.next_back().expect("a section");
+        let a = sections.next().expect("a section");
+        assert!(sections.next().is_none());
+        (a, b)
+    };
+    assert_eq!(
+        (a.header().name(), b.header().name()),
+        ("A".into(), "b".into())
+    );
+    let entries: Vec<_> = a.body().into_iter().collect();
+    let (one, two): (&BStr, &BStr) = ("1".into(), "2".into());
+    let named = |name: &'static str, value| (name.into(), value);
+    let wanted = [
+        named("K", Some(one)),
+        named("bare", None),
+        named("k", Some(two)),
+    ];
+    assert_eq!(entries, wanted);
+    assert_eq!(a.into_iter().len(), 3);
+    assert!(a.body().into_iter().rev().eq(wanted.into_iter().rev()));
+    assert_eq!(b.body().into_iter().next(), None);
+    assert!(std::ptr::eq(a.meta(), b.meta()));
+    assert_eq!(a, file.section("a", "x").expect("a section"));
+    assert_ne!(a, b);
+    let kept = a.to_owned();
+    assert_eq!((kept.num_values(), file.num_values()), (3, 3));
+
+    // (what is seen after an edit is the file as it is then)
+    file.set_raw_value("a.x.k", "3").expect("a section");
+    let a = file.section("a", "x").expect("a section");
+    assert_eq!(a.values("k"), ["1", "3"]);
+    assert_eq!(kept.values("K"), ["1", "2"]);
+    assert_eq!(kept.header().subsection_name(), Some("x".into()));
+    assert_eq!(kept.value_implicit("bare"), Some(None));
+    let names: Vec<_> = kept.value_names().collect();
+    assert_eq!(names, ["K".as_bytes(), b"bare", b"k"]);
+    let mut other = file.clone();
+    other
+        .append(File::try_from("[c]\n\tn = 1\n").expect("a text"))
+        .expect("room");
+    assert_eq!((file.sections().len(), other.sections().len()), (2, 3));
+    assert_eq!(other.string_filter("c.n", |_| true), Some("1".into()));
+}
+
+#[test]
+fn lookups_by_closures() {
+    // (an entry without `=` that is its section's last leaves the value to the sections before)
+    let text = "[a]\n\tk = 1\n[A]\n\tk = 2\n\tk\n[a]\n\tn = 2k\n\tt = x\n[a \"s\"]\n\tk = 4\n";
+    let mut file = File::try_from(text).expect("a text");
+    file.section_mut("a", None)
+        .expect("a section")
+        .set_trust(Trust::Reduced);
+    let mut asked = 0;
+    let by_place = |places: &'static [usize]| {
+        let mut place = 0;
+        move |_: &Metadata| {
+            place += 1;
+            places.contains(&(place - 1))
+        }
+    };
+    assert_eq!(
+        file.string_filter("a.k", by_place(&[0, 1, 2])),
+        Some("1".into())
+    );
+    assert_eq!(file.string_filter("a.k", by_place(&[1, 2])), None);
+    let missing = |key: &str, places| file.raw_value_filter(key, by_place(places));
+    let key = Err(lookup::existing::Error::KeyMissing);
+    assert_eq!(
+        (missing("a.k", &[1]), missing("a.k", &[])),
+        (key.clone(), key)
+    );
+    let values = file.raw_values_filter("a.k", by_place(&[0, 1]));
+    assert_eq!(values, Ok(texts(&["1", "2", ""])));
+    assert_eq!(
+        file.boolean_filter("a.k", by_place(&[0, 1])),
+        Ok(Some(true))
+    );
+    assert_eq!(file.boolean_filter("a.k", by_place(&[0])), Ok(Some(true)));
+    assert_eq!(file.boolean_filter("a.k", by_place(&[])), Ok(None));
+    assert_eq!(file.integer_filter("a.n", by_place(&[2])), Ok(Some(2048)));
+    let refused = file.integer_filter("a.t", by_place(&[2]));
+    assert_eq!(refused.map_err(|it| it.input), Err("x".into()));
+    let found = file.string_filter("a.s.k", |_| {
+        asked += 1;
+        true
+    });
+    assert_eq!((found, asked), (Some("4".into()), 1));
 }
 
 #[test]
@@ -565,7 +661,7 @@ fn typed_values_in_some_sections() {
 #[test]
 fn some_sections_are_written() {
     let file = File::try_from("# mine\n[a]\n\tk = 1\n[b]\n\tk = 2\n[A]\n").expect("a text");
-    let written = |filter: &dyn Fn(&Section) -> bool| {
+    let written = |filter: &dyn Fn(&SectionRef<'_>) -> bool| {
         let mut out = Vec::new();
         file.write_to_filter(&mut out, filter).expect("room");
         BString::from(out)
@@ -595,7 +691,8 @@ fn sections_by_their_names() {
         lookup::existing::Error::SectionMissing,
         lookup::existing::Error::SubSectionMissing,
     );
-    let value = |section: Section| section.value("k").unwrap_or_default();
+    let value = |section: SectionRef<'_>| section.value("k").unwrap_or_default();
+    let value_of = |section: Section| section.value("k").unwrap_or_default();
     let x: Option<&BStr> = Some("x".into());
     assert_eq!(file.section("core", None).map(value), Ok("2".into()));
     assert_eq!(file.section("CoRe", x).map(value), Ok("3".into()));
@@ -634,11 +731,11 @@ fn sections_by_their_names() {
     let refused = file.section_mut_filter("core", b"y".as_bstr(), trusted);
     assert_eq!(refused.err(), Some(lacks_subsection));
     let removed = file.remove_section_filter("core", None, trusted);
-    assert_eq!(removed.map(value), Some("new".into()));
+    assert_eq!(removed.map(value_of), Some("new".into()));
     assert!(file.remove_section_filter("core", None, trusted).is_none());
     assert!(file.remove_section_filter("nope", None, trusted).is_none());
     let removed = file.remove_section("core", x);
-    assert_eq!(removed.map(value), Some("3".into()));
+    assert_eq!(removed.map(value_of), Some("3".into()));
     assert_eq!(file.to_string(), "[core \"x\"]\n\tk = 1\n[CORE]\n\tk = 2\n");
 }
 

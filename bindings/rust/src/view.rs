@@ -1,0 +1,326 @@
+//! The sections of a file as they are seen until its next edit.
+use std::cmp::Ordering;
+use std::fmt;
+use std::ops::Deref;
+
+use bstr::{BStr, BString, ByteSlice};
+
+use crate::meta::Metadata;
+use crate::section::Section;
+use crate::sys::{self, EntryRow, Lazy, Part, SectionRow};
+
+/// All sections and entries of a file, as one call tells them.
+pub(crate) struct Seen {
+    rows: sys::View,
+    metas: Vec<Metadata>,
+    /// The places of the sections, by their names.
+    by_names: Lazy<Vec<usize>>,
+}
+
+/// The order of sections by their names, without ASCII case.
+fn by_name(one: &[u8], other: &[u8]) -> Ordering {
+    let folded = |name: &[u8]| name.to_ascii_lowercase();
+    folded(one).cmp(&folded(other))
+}
+
+impl Seen {
+    pub(crate) fn of(rows: sys::View) -> Self {
+        let metas = rows.origins().iter().map(|it| {
+            let path = it.has_path.then(|| rows.part(it.path));
+            Metadata::of(path, it.source, it.level, it.trust)
+        });
+        let metas = metas.collect();
+        let by_names = Lazy::default();
+        Seen {
+            rows,
+            metas,
+            by_names,
+        }
+    }
+
+    pub(crate) fn num_entries(&self) -> usize {
+        self.rows.entries().len()
+    }
+
+    /// The section at a place, where there is one.
+    pub(crate) fn section(&self, place: usize) -> SectionRef<'_> {
+        let row = &self.rows.sections()[place];
+        let entries = &self.rows.entries()[row.entries_at..][..row.entries_len];
+        let seen = self;
+        let body = BodyRef { seen, entries };
+        SectionRef { row, place, body }
+    }
+
+    /// All sections, in order.
+    pub(crate) fn sections(
+        &self,
+    ) -> impl DoubleEndedIterator<Item = SectionRef<'_>> + ExactSizeIterator {
+        (0..self.rows.sections().len()).map(move |place| self.section(place))
+    }
+
+    /// The places of the sections of which this is the order in which they are sorted: those of one name, or of one name and subsection.
+    fn places(&self, order: impl Fn(&HeaderRef<'_>) -> Ordering) -> &[usize] {
+        let sorted = self.by_names.get(|| {
+            let mut places: Vec<_> = (0..self.rows.sections().len()).collect();
+            places.sort_by_cached_key(|place| {
+                let header = self.section(*place).header();
+                (header.name.to_ascii_lowercase(), header.subsection_name)
+            });
+            places
+        });
+        let order = |place: &usize| order(&self.section(*place).header());
+        let begin = sorted.partition_point(|it| order(it) == Ordering::Less);
+        let end = sorted.partition_point(|it| order(it) != Ordering::Greater);
+        &sorted[begin..end]
+    }
+
+    /// The sections of a name, in order.
+    pub(crate) fn of_name(&self, name: &str) -> Vec<SectionRef<'_>> {
+        let mut places = self.places(|it| by_name(it.name, name.as_bytes())).to_vec();
+        places.sort_unstable();
+        places.into_iter().map(|it| self.section(it)).collect()
+    }
+
+    /// The sections of a name and a subsection, or none, in order.
+    pub(crate) fn of_names<'a>(
+        &'a self,
+        name: &str,
+        subsection_name: Option<&BStr>,
+    ) -> impl DoubleEndedIterator<Item = SectionRef<'a>> + ExactSizeIterator + 'a {
+        let places = self.places(|it| {
+            let first = by_name(it.name, name.as_bytes());
+            first.then(it.subsection_name.cmp(&subsection_name))
+        });
+        places.iter().map(move |place| self.section(*place))
+    }
+
+    fn part(&self, part: Part) -> &BStr {
+        self.rows.part(part).as_bstr()
+    }
+}
+
+/// A section of a file, as it is until the file is edited: its header, where it comes from, and its entries, those of a [`BodyRef`]. Equal ones
+/// have the same header, entries and metadata.
+#[derive(Clone, Copy)]
+pub struct SectionRef<'a> {
+    row: &'a SectionRow,
+    place: usize,
+    body: BodyRef<'a>,
+}
+
+impl<'a> SectionRef<'a> {
+    /// The section's header.
+    #[must_use]
+    pub fn header(&self) -> HeaderRef<'a> {
+        let (seen, row) = (self.body.seen, self.row);
+        HeaderRef {
+            name: seen.part(row.name),
+            subsection_name: row.has_subsection.then(|| seen.part(row.subsection)),
+        }
+    }
+
+    /// The section's entries.
+    #[must_use]
+    pub fn body(&self) -> BodyRef<'a> {
+        self.body
+    }
+
+    /// Where the section comes from. Sections that stand one after the other and come from the same place have one between them.
+    #[must_use]
+    pub fn meta(&self) -> &'a Metadata {
+        &self.body.seen.metas[self.row.origin]
+    }
+
+    /// Its place among the sections of the file, from 0.
+    pub(crate) fn place(&self) -> usize {
+        self.place
+    }
+
+    /// A copy that stays when the file is edited.
+    #[must_use]
+    pub fn to_owned(&self) -> Section {
+        let header = self.header();
+        let entries = self.body.into_iter();
+        Section {
+            name: header.name.into(),
+            subsection_name: header.subsection_name.map(BString::from),
+            meta: self.meta().clone(),
+            entries: entries
+                .map(|(name, value)| (name.into(), value.map(BString::from)))
+                .collect(),
+        }
+    }
+}
+
+impl<'a> Deref for SectionRef<'a> {
+    type Target = BodyRef<'a>;
+
+    fn deref(&self) -> &BodyRef<'a> {
+        &self.body
+    }
+}
+
+impl PartialEq for SectionRef<'_> {
+    fn eq(&self, other: &Self) -> bool {
+        (self.header(), self.meta(), self.body) == (other.header(), other.meta(), other.body)
+    }
+}
+
+impl Eq for SectionRef<'_> {}
+
+impl fmt::Debug for SectionRef<'_> {
+    fn fmt(&self, f: &mut fmt::Formatter<'_>) -> fmt::Result {
+        f.debug_struct("SectionRef")
+            .field("header", &self.header())
+            .field("meta", self.meta())
+            .field("body", &self.body)
+            .finish()
+    }
+}
+
+/// The header of a section.
+#[derive(Clone, Copy, Debug, PartialEq, Eq)]
+pub struct HeaderRef<'a> {
+    pub(crate) name: &'a BStr,
+    pub(crate) subsection_name: Option<&'a BStr>,
+}
+
+impl<'a> HeaderRef<'a> {
+    /// The section's name, as it is spelled.
+    #[must_use]
+    pub fn name(&self) -> &'a BStr {
+        self.name
+    }
+
+    /// The subsection's name, if there is one.
+    #[must_use]
+    pub fn subsection_name(&self) -> Option<&'a BStr> {
+        self.subsection_name
+    }
+}
+
+/// The entries of a section, as they are until the file is edited. Looked through they are pairs of a name, as it is spelled, and what the
+/// value means; `None` for an entry without `=`.
+#[derive(Clone, Copy)]
+pub struct BodyRef<'a> {
+    seen: &'a Seen,
+    entries: &'a [EntryRow],
+}
+
+/// Lookups in what has entries as `pairs`.
+macro_rules! lookups {
+    () => {
+        /// What the last entry of the name means; `None` if there is none, or if it has no `=`.
+        #[must_use]
+        pub fn value(&self, value_name: impl AsRef<str>) -> Option<BString> {
+            self.value_implicit(value_name.as_ref()).flatten()
+        }
+
+        /// As `value`, but `Some(None)` for an entry without `=`.
+        #[must_use]
+        pub fn value_implicit(&self, value_name: &str) -> Option<Option<BString>> {
+            let last = self.pairs().rfind(|it| is_named(it.0, value_name))?;
+            Some(last.1.map(BString::from))
+        }
+
+        /// What all entries of the name mean, in order; one without `=` is empty.
+        #[must_use]
+        pub fn values(&self, value_name: &str) -> Vec<BString> {
+            let named = self.pairs().filter(|it| is_named(it.0, value_name));
+            named.map(|it| it.1.unwrap_or_default().into()).collect()
+        }
+
+        /// Whether there is an entry of the name.
+        #[must_use]
+        pub fn contains_value_name(&self, value_name: &str) -> bool {
+            self.pairs().any(|it| is_named(it.0, value_name))
+        }
+
+        /// How many entries there are.
+        #[must_use]
+        pub fn num_values(&self) -> usize {
+            self.entries.len()
+        }
+    };
+}
+
+pub(crate) use lookups;
+
+/// Whether an entry has the name, without ASCII case.
+pub(crate) fn is_named(name: &BStr, value_name: &str) -> bool {
+    name.eq_ignore_ascii_case(value_name.as_bytes())
+}
+
+impl<'a> BodyRef<'a> {
+    fn pairs(&self) -> BodyRefIter<'a> {
+        self.into_iter()
+    }
+
+    lookups!();
+
+    /// The names of the entries, as they are spelled, in order, each as often as it occurs.
+    pub fn value_names(&self) -> impl DoubleEndedIterator<Item = &'a BStr> + ExactSizeIterator {
+        self.pairs().map(|(name, _)| name)
+    }
+}
+
+impl<'a> IntoIterator for BodyRef<'a> {
+    type Item = (&'a BStr, Option<&'a BStr>);
+    type IntoIter = BodyRefIter<'a>;
+
+    fn into_iter(self) -> BodyRefIter<'a> {
+        let left = self.entries.iter();
+        let seen = self.seen;
+        BodyRefIter { seen, left }
+    }
+}
+
+impl PartialEq for BodyRef<'_> {
+    fn eq(&self, other: &Self) -> bool {
+        self.into_iter().eq(*other)
+    }
+}
+
+impl Eq for BodyRef<'_> {}
+
+impl fmt::Debug for BodyRef<'_> {
+    fn fmt(&self, f: &mut fmt::Formatter<'_>) -> fmt::Result {
+        f.debug_list().entries(*self).finish()
+    }
+}
+
+/// The entries of a section, one after the other.
+#[derive(Clone)]
+pub struct BodyRefIter<'a> {
+    seen: &'a Seen,
+    left: std::slice::Iter<'a, EntryRow>,
+}
+
+impl<'a> BodyRefIter<'a> {
+    fn entry(&self, row: &EntryRow) -> (&'a BStr, Option<&'a BStr>) {
+        let value = row.has_value.then(|| self.seen.part(row.value));
+        (self.seen.part(row.name), value)
+    }
+}
+
+impl<'a> Iterator for BodyRefIter<'a> {
+    type Item = (&'a BStr, Option<&'a BStr>);
+
+    fn next(&mut self) -> Option<Self::Item> {
+        let row = self.left.next()?;
+        Some(self.entry(row))
+    }
+
+    fn size_hint(&self) -> (usize, Option<usize>) {
+        self.left.size_hint()
+    }
+}
+
+impl DoubleEndedIterator for BodyRefIter<'_> {
+    fn next_back(&mut self) -> Option<Self::Item> {
+        let row = self.left.next_back()?;
+        Some(self.entry(row))
+    }
+}
+
+impl ExactSizeIterator for BodyRefIter<'_> {}
