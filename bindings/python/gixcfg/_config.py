@@ -64,7 +64,7 @@ class Config(MutableMapping[Key, str]):
         what is included is missing."""
         load = c.Load(path_of(path), Source(source).number, c.TRUST_FULL, includes_of(Includes()))
         asked = Asked(lambda told, block: int(LIBRARY.gix_config_load_told(told, load, self._file, block)), alone(text))
-        if asked.number in (13, 14, c.NOT_UTF8):
+        if asked.number in (c.PATH_NOT_UTF8, c.USER_NOT_UTF8, c.NOT_UTF8):
             # (a path that isn't UTF-8, of the file or of an include, can't be told)
             self._read(text)
         elif asked.place is not None:
@@ -345,7 +345,7 @@ class Config(MutableMapping[Key, str]):
         number = LIBRARY.gix_config_path(self._file, key_of(key), folders(prefix, home), block)
         if number == c.NOTHING_THERE:
             return default
-        if number in (12, 13, 14):
+        if number in (c.MISSING_FOLDER, c.PATH_NOT_UTF8, c.USER_NOT_UTF8):
             refuse(number, str(names_of(key)), NotOfType)
         done_of(number, key)
         return os.fsdecode(taken(block))
@@ -505,7 +505,7 @@ class Config(MutableMapping[Key, str]):
         """The editor of the last section of a name and a subsection, or none. Raises KeyNotFound."""
         places = self._places(name, subsection)
         if not places:
-            refuse(8 if self.sections(name) else 7, name if subsection is None else f"{name}.{subsection}")
+            refuse(c.SUBSECTION_MISSING if self.sections(name) else c.SECTION_MISSING, name if subsection is None else f"{name}.{subsection}")
         return SectionEditor(self, places[-1])
 
     def new_section(self, name: str, subsection: Optional[str] = None) -> SectionEditor:

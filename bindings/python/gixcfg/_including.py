@@ -75,7 +75,7 @@ class Asked:
                     self.number = tell_variable(told, self.about)
                 else:
                     break
-            if self.number in (1, 2):
+            if self.number in (c.UNEXPECTED_TOKEN, c.INPUT_TOO_LARGE):
                 self._find_place(told)
         finally:
             LIBRARY.gix_config_told_close(told)

@@ -11,8 +11,10 @@ from gixcfg._library import LIBRARY, bytes_at, words_of
 Key = Union[str, Tuple[str, str], Tuple[str, Optional[str], str]]
 
 KINDS: Dict[int, Type[ConfigError]] = {
-    7: KeyNotFound, 8: KeyNotFound, 9: KeyNotFound, c.NOTHING_THERE: KeyNotFound, 11: NotOfType,
-    **{number: IncludeError for number in (12, 13, 14, 15, 16, 17, 18, 19, 20, 21)}, **{number: VariableError for number in (22, 23, 24, 25, 26)},
+    **dict.fromkeys([c.SECTION_MISSING, c.SUBSECTION_MISSING, c.KEY_MISSING, c.NOTHING_THERE], KeyNotFound), c.BAD_VALUE: NotOfType,
+    **dict.fromkeys([c.MISSING_FOLDER, c.PATH_NOT_UTF8, c.USER_NOT_UTF8, c.INCLUDE_DEPTH_EXCEEDED, c.MISSING_CONFIG_PATH, c.MISSING_GIT_DIR,
+                     c.REALPATH, c.INCLUDE_NOT_OPENED, c.INCLUDE_NOT_READ, c.FILE_NOT_READ], IncludeError),
+    **dict.fromkeys([c.ILLFORMED_VARIABLE, c.INVALID_CONFIG_COUNT, c.INVALID_KEY_ID, c.INVALID_KEY_VALUE, c.INVALID_VALUE_ID], VariableError),
 }
 
 

@@ -17,10 +17,14 @@ pub(crate) struct Seen {
     by_names: Lazy<Vec<usize>>,
 }
 
+/// A name without ASCII case.
+fn folded(name: &[u8]) -> impl Iterator<Item = u8> + '_ {
+    name.iter().map(u8::to_ascii_lowercase)
+}
+
 /// The order of sections by their names, without ASCII case.
 fn by_name(one: &[u8], other: &[u8]) -> Ordering {
-    let folded = |name: &[u8]| name.to_ascii_lowercase();
-    folded(one).cmp(&folded(other))
+    folded(one).cmp(folded(other))
 }
 
 impl Seen {
