@@ -2,22 +2,27 @@
 
 use crate::loads::Loads;
 use crate::parameters;
-use crate::parameters::{Parameter, has_count, parameters_of};
+use crate::parameters::{Parameter, parameters_of};
 use crate::paths::has_worktree_file;
-use crate::placing::refused_paths;
+use crate::placing::{refused_includes, refused_paths};
 use bstr::BString;
-use gix_config::file::{Metadata, init};
+use gix_config::file::Metadata;
+use gix_config::file::init::{self, from_env};
 use gix_config::refusals::Refusal;
 use gix_config::source::Source;
 use gix_config::{File, KeyRef, NoMemory};
 use gixcfg_core::conditions::{here_from, options_of};
+use gixcfg_core::numbers::MOST_OF_32_BITS;
 use gixcfg_core::outside::Outside;
 use gixcfg_core::places::{add, metas_of_user};
 use gixcfg_core::refusals::trouble_of;
 use gixcfg_core::trouble::{Trouble, of_number};
 use gixcfg_files::{Repository, find_repository, variable};
 use gixcfg_words::plain::is_nameless;
+use gixcfg_words::shown::Shown;
 use std::alloc::{AllocGlobal, Global};
+use std::fmt;
+use std::fmt::Write;
 use std::rc::Rc;
 use std::rt::{Env, Files};
 
@@ -62,7 +67,7 @@ fn load<R: Files + Env + Loads + AllocGlobal>(
     outside: Outside<'_>,
     options: init::Options<'_>,
 ) -> Result<File, Trouble> {
-    let variables = variables_of(rt, options)?;
+    let variables = variables_of(rt, outside, options)?;
     match files_of(rt, metas, outside, options)? {
         Some(file) => joined(file, variables),
         None => Ok(or_empty(rt.alloc(), variables)?),
@@ -70,8 +75,9 @@ fn load<R: Files + Env + Loads + AllocGlobal>(
 }
 
 /// The file of the variables, if they have entries: those of `GIT_CONFIG_COUNT`, then those of `git -c`.
-fn variables_of<R: Env + Loads + AllocGlobal>(
+fn variables_of<R: Files + Env + Loads + AllocGlobal>(
     rt: &R,
+    outside: Outside<'_>,
     options: init::Options<'_>,
 ) -> Result<Option<File>, Trouble> {
     let counted = if has_count(rt)? {
@@ -79,18 +85,37 @@ fn variables_of<R: Env + Loads + AllocGlobal>(
     } else {
         None
     };
-    match variable(rt, "GIT_CONFIG_PARAMETERS")? {
-        Some(text) => with_parameters(rt.alloc(), counted, text.as_bytes()),
-        None => Ok(counted),
+    let Some(text) = variable(rt, "GIT_CONFIG_PARAMETERS")? else {
+        return Ok(counted);
+    };
+    let mut given = file_of_parameters(rt.alloc(), text.as_bytes())?;
+    match rt.follow(&mut given, options) {
+        Ok(()) => Ok(Some(joined(or_empty(rt.alloc(), counted)?, Some(given))?)),
+        Err(refusal) => Err(refused_includes(rt, &refusal, outside)),
     }
 }
 
-/// The file of the entries of `git -c`, after others.
-fn with_parameters(
-    alloc: Global,
-    file: Option<File>,
-    text: &[u8],
-) -> Result<Option<File>, Trouble> {
+/// Whether `GIT_CONFIG_COUNT` is set to something. For git it counts as not set if it is empty, which the library refuses as no number.
+fn has_count<R: Env + AllocGlobal>(rt: &R) -> Result<bool, Trouble> {
+    match variable(rt, "GIT_CONFIG_COUNT")? {
+        Some(count) if is_too_many(&count) => {
+            Err(told(rt.alloc(), "too many entries in GIT_CONFIG_COUNT"))
+        }
+        Some(count) => Ok(!count.is_empty()),
+        None => Ok(false),
+    }
+}
+
+/// Whether a count is more than git takes.
+fn is_too_many(count: &str) -> bool {
+    match count.parse::<u64>() {
+        Ok(count) => count > MOST_OF_32_BITS,
+        Err(_) => false,
+    }
+}
+
+/// The file of the entries of `git -c`.
+fn file_of_parameters(alloc: Global, text: &[u8]) -> Result<File, Trouble> {
     let parameters = match parameters_of(alloc, text) {
         Ok(parameters) => parameters,
         Err(parameters::Fault::Memory) => return Err(Trouble::Memory),
@@ -101,14 +126,11 @@ fn with_parameters(
             ));
         }
     };
-    if parameters.is_empty() {
-        return Ok(file);
-    }
-    let mut file = or_empty(alloc, file)?;
+    let mut file = or_empty(alloc, None)?;
     for parameter in &parameters {
         add_parameter(alloc, &mut file, parameter)?;
     }
-    Ok(Some(file))
+    Ok(file)
 }
 
 /// Adds an entry, in a section of its own, so that the order stays.
@@ -154,7 +176,29 @@ fn counted_of<R: Loads + AllocGlobal>(
             Err(told(rt.alloc(), "a key of GIT_CONFIG_KEY_n names no section"))
         },
         Ok(file) => Ok(file),
-        Err(refusal) => Err(trouble_of(rt.alloc(), refusal.number(), &refusal)),
+        Err(refusal) => Err(trouble_of(rt.alloc(), refusal.number(), &InGitsWords(&refusal))),
+    }
+}
+
+/// A refusal of the variables of `GIT_CONFIG_COUNT`: in git's words, if the count is none, or what it counts is missing.
+#[derive(Clone, Copy)]
+struct InGitsWords<'a>(&'a from_env::Error);
+
+impl fmt::Display for InGitsWords<'_> {
+    fn fmt<W: fmt::Write>(&self, f: &mut fmt::Formatter<W>) -> fmt::Result {
+        match self.0 {
+            from_env::Error::InvalidConfigCount { input } => {
+                let input = Shown(input);
+                write!(f, "bogus count in GIT_CONFIG_COUNT: {input}")
+            }
+            from_env::Error::InvalidKeyId { key_id } => {
+                write!(f, "missing config key GIT_CONFIG_KEY_{key_id}")
+            }
+            from_env::Error::InvalidValueId { value_id } => {
+                write!(f, "missing config value GIT_CONFIG_VALUE_{value_id}")
+            }
+            refusal => write!(f, "{refusal}"),
+        }
     }
 }
 

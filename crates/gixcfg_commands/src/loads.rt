@@ -4,8 +4,8 @@
 //! asks for the loads by this trait.
 
 use gix_config::File;
-use gix_config::file::Metadata;
 use gix_config::file::init::{self, from_env, from_paths};
+use gix_config::file::{Metadata, includes};
 use std::rc::Rc;
 
 /// The loads of a runtime's own files and variables.
@@ -40,4 +40,11 @@ pub trait Loads {
     ///
     /// Those of [`File::from_env`].
     fn from_variables(&self, options: init::Options<'_>) -> Result<Option<File>, from_env::Error>;
+
+    /// Puts into a file what it includes, as the options have it.
+    ///
+    /// # Errors
+    ///
+    /// Those of [`File::resolve_includes`].
+    fn follow(&self, file: &mut File, options: init::Options<'_>) -> Result<(), includes::Error>;
 }

@@ -1,12 +1,8 @@
-//! What `git -c KEY=VALUE` hands to the programs that git starts: the variable `GIT_CONFIG_PARAMETERS`. And whether there are entries that
-//! `GIT_CONFIG_COUNT` counts.
+//! What `git -c KEY=VALUE` hands to the programs that git starts: the variable `GIT_CONFIG_PARAMETERS`.
 
 use bstr::BString;
 use gitconf_text::NoMemory;
-use gixcfg_core::trouble::Trouble;
-use gixcfg_files::variable;
-use std::alloc::{AllocGlobal, Global};
-use std::rt::Env;
+use std::alloc::Global;
 
 /// An entry of the variable. Without `=` it has no value.
 #[derive(Drop)]
@@ -29,18 +25,6 @@ pub enum Fault {
 impl From<NoMemory> for Fault {
     fn from(_: NoMemory) -> Fault {
         Fault::Memory
-    }
-}
-
-/// Whether `GIT_CONFIG_COUNT` is set to something. For git it counts as not set if it is empty, which the library refuses as no number.
-///
-/// # Errors
-///
-/// Out of memory.
-pub fn has_count<R: Env + AllocGlobal>(rt: &R) -> Result<bool, Trouble> {
-    match variable(rt, "GIT_CONFIG_COUNT")? {
-        Some(count) => Ok(!count.is_empty()),
-        None => Ok(false),
     }
 }
 

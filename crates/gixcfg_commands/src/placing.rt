@@ -35,10 +35,28 @@ pub fn refused_init<R: Files + AllocGlobal>(
     outside: Outside<'_>,
 ) -> Trouble {
     match refusal {
-        init::Error::Includes(includes::Error::Parse { path, source }) => {
-            placed(rt, path, source, outside)
-        }
+        init::Error::Includes(refusal) => refused_includes(rt, refusal, outside),
         _ => trouble_of(rt.alloc(), refusal.number(), refusal),
+    }
+}
+
+/// The trouble that a refusal of what a file includes is: with its place, if an included text is refused; in git's words, if files include
+/// each other too deep.
+pub fn refused_includes<R: Files + AllocGlobal>(
+    rt: &R,
+    refusal: &includes::Error,
+    outside: Outside<'_>,
+) -> Trouble {
+    let (alloc, number) = (rt.alloc(), refusal.number());
+    match refusal {
+        includes::Error::Parse { path, source } => placed(rt, path, source, outside),
+        includes::Error::IncludeDepthExceeded { max_depth } => {
+            match format!(in alloc; "exceeded maximum include depth ({max_depth})") {
+                Ok(words) => trouble_of(alloc, number, &words),
+                Err(_) => Trouble::Memory,
+            }
+        }
+        _ => trouble_of(alloc, number, refusal),
     }
 }
 

@@ -3,8 +3,8 @@
 use crate::loads::Loads;
 use gitconf_sources::{Disk, Process};
 use gix_config::File;
-use gix_config::file::Metadata;
 use gix_config::file::init::{self, from_env, from_paths};
+use gix_config::file::{Metadata, includes};
 use gix_config::host::{Host, Places};
 use std::alloc::Global;
 use std::rc::Rc;
@@ -66,5 +66,18 @@ impl Loads for HostRuntime {
         let places = no_places(alloc);
         let mut host = Host { files, env, places };
         File::from_env(alloc, options, &mut host)
+    }
+
+    fn follow(&self, file: &mut File, options: init::Options<'_>) -> Result<(), includes::Error> {
+        let alloc = self.alloc();
+        let (Ok(files), Ok(env)) = (
+            Box::new(alloc, Disk::new(*self)),
+            Box::new(alloc, Process::new(*self)),
+        ) else {
+            return Err(includes::Error::Memory);
+        };
+        let places = no_places(alloc);
+        let mut host = Host { files, env, places };
+        file.resolve_includes(options, &mut host)
     }
 }

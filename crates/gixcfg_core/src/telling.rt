@@ -10,11 +10,11 @@ use crate::lines::{Line, add_entry};
 use crate::origins::before_given;
 use crate::trouble::Trouble;
 use crate::typed::{Fault, Refusal, typed};
-use bstr::BString;
+use bstr::{BStr, BString};
 use gixcfg_words::command::{Choice, Fallback, Form};
 use gixcfg_words::kinds::Kind;
 use gixcfg_words::shown::Shown;
-use std::alloc::Global;
+use std::alloc::{AllocError, Global};
 
 /// The lines of the entries that `get` found: of all of them, or of the last one; or of what is given if there is none.
 ///
@@ -55,7 +55,7 @@ pub fn lines_of_all(
     let mut lines = Vec::new(alloc);
     for entry in found {
         match add_typed(alloc, &mut lines, &line, entry, form, home) {
-            Ok(()) | Err(Trouble::Untyped(_)) => {}
+            Ok(()) | Err(Trouble::Text(_) | Trouble::Untyped(_)) => {}
             Err(trouble) => return Err(trouble),
         }
     }
@@ -99,30 +99,55 @@ fn typed_default(
     kind: Kind,
     home: Option<&str>,
 ) -> Result<BString, Trouble> {
-    match typed(alloc, Some(default.value.as_bytes()), kind, home) {
-        Ok(value) => Ok(value),
-        Err(Fault::Memory) => Err(Trouble::Memory),
-        Err(Fault::Refused(refusal)) => Err(refused_default(alloc, default, refusal)),
+    let (names, text) = (default.word.as_bytes(), default.value.as_bytes());
+    match typed_of(alloc, names, Some(text), kind, home) {
+        Err(Trouble::Untyped(refusal)) => {
+            let (value, reason) = (Shown(default.value), refusal.reason());
+            Err(told(format!(in alloc;
+                "gixcfg: failed to format default config value: {value}: {reason} [E11]\n"
+            )))
+        }
+        value => value,
     }
 }
 
-/// The trouble that such a value is which isn't of the type. It is told in git's words, since no file is to blame.
-fn refused_default(alloc: Global, default: Fallback<'_>, refusal: Refusal) -> Trouble {
-    let (word, value) = (Shown(default.word), Shown(default.value));
-    let message = match refusal {
-        Refusal::Boolean => {
-            format!(in alloc; "gixcfg: bad boolean config value '{value}' for '{word}' [E11]\n")
+/// The value of a key in a type. What is no boolean or no number is told in git's words, with the key.
+fn typed_of(
+    alloc: Global,
+    names: &[u8],
+    value: Option<&[u8]>,
+    kind: Kind,
+    home: Option<&str>,
+) -> Result<BString, Trouble> {
+    match typed(alloc, value, kind, home) {
+        Err(Fault::Refused(refusal)) => {
+            let (names, value) = (BStr::new(names), BStr::new(value.unwrap_or(b"")));
+            Err(refused(alloc, Shown(names), Shown(value), refusal))
         }
-        Refusal::Integer | Refusal::BooleanOrInteger => {
-            format!(in alloc; "gixcfg: bad numeric config value '{value}' for '{word}' [E11]\n")
-        }
-        refusal => {
-            let reason = refusal.reason();
-            format!(in alloc;
-                "gixcfg: failed to format default config value: {value}: {reason} [E11]\n"
-            )
-        }
-    };
+        value => Ok(value?),
+    }
+}
+
+/// The trouble that the value of a key is which isn't of a type.
+fn refused(
+    alloc: Global,
+    names: Shown<BStr<'_>>,
+    value: Shown<BStr<'_>>,
+    refusal: Refusal,
+) -> Trouble {
+    match refusal {
+        Refusal::Boolean => told(format!(in alloc;
+            "gixcfg: bad boolean config value '{value}' for '{names}' [E11]\n"
+        )),
+        Refusal::Integer | Refusal::BooleanOrInteger => told(format!(in alloc;
+            "gixcfg: bad numeric config value '{value}' for '{names}' [E11]\n"
+        )),
+        refusal => Trouble::Untyped(refusal),
+    }
+}
+
+/// The trouble that a message tells of, if there was memory for it.
+fn told(message: Result<String, AllocError>) -> Trouble {
     match message {
         Ok(message) => Trouble::Text(message),
         Err(_) => Trouble::Memory,
@@ -161,12 +186,8 @@ fn add_typed(
     match form.kind {
         None => add_entry(lines, line, &entry.before, &entry.names, entry.value())?,
         Some(kind) => {
-            let value = typed(
-                alloc,
-                entry.value().map(|value| c_string(value)),
-                kind,
-                home,
-            )?;
+            let value = entry.value().map(|value| c_string(value));
+            let value = typed_of(alloc, &entry.names, value, kind, home)?;
             let value = Some(value.as_bytes());
             add_entry(lines, line, &entry.before, &entry.names, value)?;
         }

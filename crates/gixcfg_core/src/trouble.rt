@@ -232,7 +232,7 @@ fn tell_of_file<E: Write>(trouble: &Trouble, name: &str, err: &mut E) -> io::Res
         Trouble::NoFile => writeln!(err, "gixcfg: {name}: no such file"),
         Trouble::Several => writeln!(
             err,
-            "gixcfg: {name}: the key has several entries; see --all"
+            "gixcfg: {name}: the key has multiple values; see --all"
         ),
         Trouble::BadName(number) => {
             let rule = rule_of_name(*number);

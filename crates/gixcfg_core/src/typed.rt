@@ -45,11 +45,11 @@ impl Refusal {
             Refusal::Integer => "not an integer",
             Refusal::BooleanOrInteger => "neither a boolean nor an integer",
             Refusal::Path => "not a path",
-            Refusal::HomeFolder => "a path in the home folder, which HOME doesn't name",
+            Refusal::HomeFolder => "failed to expand ~/, since HOME names no folder",
             Refusal::UserFolder => "a path in a user's folder, which isn't looked up",
             Refusal::InstallFolder => "a path in git's own folder, which isn't known",
             Refusal::Date => "not a fixed date: relative dates are git's alone",
-            Refusal::Color => "not a color",
+            Refusal::Color => "cannot parse color",
         }
     }
 }

@@ -64,7 +64,7 @@ static EDITS: [Edit; 20] = [
         "/r/sub/m",
         Some("[a]\n\tk = 1\n\tk = 2\n"),
         5,
-        "gixcfg: m: the key has several entries; see --all\n",
+        "gixcfg: m: the key has multiple values; see --all\n",
         Some("[a]\n\tk = 1\n\tk = 2\n"),
     ),
     (

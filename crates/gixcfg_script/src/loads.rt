@@ -2,8 +2,8 @@
 
 use crate::machine::Machine;
 use crate::tree::Tree;
-use gix_config::file::Metadata;
 use gix_config::file::init::{self, from_env, from_paths};
+use gix_config::file::{Metadata, includes};
 use gix_config::host::{EnvVar, FileFault, Files, Host, MemEnv, Places, Stage};
 use gix_config::source::Trust;
 use gix_config::{File, NoMemory};
@@ -145,5 +145,16 @@ impl Loads for Machine<'_> {
         let places = no_places(alloc);
         let mut host = Host { files, env, places };
         File::from_env(alloc, options, &mut host)
+    }
+
+    fn follow(&self, file: &mut File, options: init::Options<'_>) -> Result<(), includes::Error> {
+        let alloc = self.alloc();
+        let (files, env) = (files_of(self)?, variables_of(self)?);
+        let (Ok(files), Ok(env)) = (Box::new(alloc, files), Box::new(alloc, env)) else {
+            return Err(includes::Error::Memory);
+        };
+        let places = no_places(alloc);
+        let mut host = Host { files, env, places };
+        file.resolve_includes(options, &mut host)
     }
 }

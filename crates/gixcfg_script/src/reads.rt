@@ -43,7 +43,7 @@ static READS: [Read; 24] = [
         "[a]\n\tk = x\n",
         3,
         "",
-        "gixcfg: m: not a boolean [E11]\n",
+        "gixcfg: bad boolean config value 'x' for 'a.k' [E11]\n",
     ),
     ("get -f m a.j", "[a]\n\tk = 1\n", 1, "", ""),
     ("get --default d -f m a.j", "[a]\n\tk = 1\n", 0, "d\n", ""),

@@ -110,7 +110,13 @@ fn tell_known<W: Write>(fault: Fault<'_>, err: &mut W) -> io::Result<()> {
         }
         Fault::TooFew(verb) => tell_command("words are missing", "", verb, err),
         Fault::TooMany(verb, word) => tell_too_many(verb, word, err),
-        Fault::NotItsOption(verb, word) => tell_command("not an option here: ", word, verb, err),
+        Fault::NotItsOption(verb, word) => {
+            let (word, name) = (Shown(word), verb.name());
+            writeln!(
+                err,
+                "gixcfg: {word} is only applicable to other calls; see gixcfg help {name}"
+            )
+        }
         Fault::NoKey(word) => tell_word("not a key, it has no dot: ", word, err),
         Fault::Nameless => err.write_all(b"gixcfg: no section is named\n"),
         Fault::Alone(alone, word) => tell_alone(alone, word, err),
@@ -203,6 +209,13 @@ fn tell_option<W: Write>(fault: Fault<'_>, err: &mut W) -> io::Result<()> {
         Fault::MissingWord(option) => {
             let meaning = meaning_of(option);
             writeln!(err, "gixcfg: the last option needs {meaning} after it")
+        }
+        Fault::BadWord(Opt::Type, word) => {
+            let word = Shown(word);
+            writeln!(
+                err,
+                "gixcfg: unrecognized --type argument, {word}; it is {KIND_NAMES}"
+            )
         }
         Fault::BadWord(option, word) => {
             let (meaning, word) = (meaning_of(option), Shown(word));

@@ -91,7 +91,7 @@ and renamed over it.
 const UNSET: &str = "\
 usage: gixcfg unset [-f FILE] [--all] [--value PATTERN [--fixed-value]] [--no-sync] KEY
 
-Removes a key's entry.
+Removes a key's entry, and with the last one its section's header, if no comment is left there.
 
     -f, --file FILE   the file, which is changed in place; - is standard input, as without it
     --global          the user's file, in place of -f: ~/.gitconfig
