@@ -1,4 +1,5 @@
 mod Editing
+mod Emptying
 mod Checking
 mod Marking
 mod MeantLemmas

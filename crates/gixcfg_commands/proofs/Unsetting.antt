@@ -1,13 +1,12 @@
 -- What is left of a file when entries of a key were removed, or why they weren't.
-use Rattle.std.proofs.Common.{◌≡◌, ◌⊎◌, inl, inr, ◌==◌, ◌||◌, ℕ, Bool, true, false, List, [], ◌∷◌, map, filter, Option, Some, None, Result, Ok, Err, refl, sym, ap, ◌∙◌, subst}
+use Rattle.std.proofs.Common.{◌≡◌, ◌⊎◌, inl, inr, ⊎_elim, ◌==◌, ◌||◌, ℕ, Bool, true, false, List, [], ◌∷◌, map, filter, Option, Some, None, Result, Ok, Err, refl, sym, ap, ◌∙◌, subst}
 use Rattle.std.specs.Prelude.{IfErr, OnOk}
 use Rattle.std.specs.List.{list_all, list_any}
 use Rattle.std.proofs.lemmas.Bool.{eq-eqb}
 use Rattle.bstr.specs.Owned.{bstring_bytes}
 use Rattle.bstr.specs.declared.bstring.BString.{BString}
-use Rattle.gitconf_sources.specs.Key.{Key, key_of}
+use Rattle.gitconf_sources.specs.Key.{Key}
 use Rattle.gitconf_state.specs.Edits.{apply_all}
-use Rattle.gitconf_state.specs.Printing.{printed}
 use Rattle.gitconf_state.specs.State.{SectionState, State}
 use Rattle.gitconf_store.specs.Edited.{has_number}
 use Rattle.gixcfg_core.specs.Answers.{Answers}
@@ -15,14 +14,14 @@ use Rattle.gixcfg_core.specs.Entries.{is_listed_under}
 use Rattle.gixcfg_core.specs.Patterns.{MeansNothing}
 use Rattle.gixcfg_core.specs.declared.trouble.Trouble.{Trouble}
 use Rattle.gixcfg_core.specs.declared.trouble.Trouble.TheVariants.{BadPattern, Memory}
-use Rattle.gixcfg_words.specs.declared.command.Unset.{Unset}
 use Rattle.gixcfg_words.specs.declared.command.Values.{Values}
-use Rattle.gixcfg_commands.specs.Answered.{IsCarriedOut}
+use Rattle.gixcfg_commands.specs.Answered.{IsCarriedOut, marked_answer}
 use Rattle.gixcfg_commands.specs.Beginnings.{marked}
-use Rattle.gixcfg_commands.specs.Edits.{UnsetsTo, unremoved}
+use Rattle.gixcfg_commands.specs.Edits.{unremoved, unset_or, unsetting_of}
+use Rattle.gixcfg_commands.specs.Emptied.{losses_of, text_of_rest}
 use Rattle.gixcfg_commands.specs.Meant.{ByMeant, IsMeant, count_marked, holders_of, holding, plain_holder, removals, values_of_key, without_marked}
 use Rattle.gixcfg_commands.specs.declared.meant.Meant.{Meant}
-use Rattle.gixcfg_commands.proofs.Editing.{answer_done, answer_refused, but_used}
+use Rattle.gixcfg_commands.proofs.Editing.{but_used}
 
 -- the sections of a key are there
 or_right : (a b : Bool) → b ≡ true → (a || b) ≡ true
@@ -63,23 +62,21 @@ pub not_removed_so : (key : Key) (means : Option (List ℕ) → Bool) (is_all : 
     → IsCarriedOut (unremoved is_all (count_marked (map means (values_of_key key old)))) (without_marked key (map means (values_of_key key old))) (Err trouble) old new
 not_removed_so key means is_all old new found trouble is why = inr (subst (λ marks. unremoved is_all (count_marked marks) ≡ Some trouble) is.marks why)
 
--- the text without them
-pub answer_unset : (unset : Unset) (text : List ℕ) (old new : State) (result : Result BString Trouble)
-    → ByMeant unset.values (λ means. IsCarriedOut (unremoved unset.is_all (count_marked (map means (values_of_key (key_of unset.key) old))))
-    (without_marked (key_of unset.key) (map means (values_of_key (key_of unset.key) old))) (Ok tt) old new) (Ok (tt {0}))
-    → Answers bstring_bytes result (Ok (marked text (printed new))) → UnsetsTo unset text old result
-answer_unset unset text old new result (inl (means, says, carried)) answers = inl (means, says, answer_done _ _ text old new result carried answers)
-answer_unset unset text old new result (inr (inl memory)) answers = absurd (cc)
-answer_unset unset text old new result (inr (inr nothing)) answers = absurd (let no = nothing.0 in cc)
+-- the text without them, and without the sections that are left bare
+pub rest_answered : (key : Key) (means : Option (List ℕ) → Bool) (is_all : Bool) (before : List ℕ) (old new : State) (found : Meant) (result : Result BString Trouble) → IsMeant key means old found
+    → IsCarriedOut (unremoved is_all (count_marked (map means (values_of_key key old)))) (without_marked key (map means (values_of_key key old))) (Ok tt) old new
+    → Answers bstring_bytes result (Ok (marked before (text_of_rest key (losses_of found.marks.items (map plain_holder found.holders.items)) new)))
+    → Answers bstring_bytes result (marked_answer before (unsetting_of is_all means key old))
+rest_answered key means is_all before old new found result is carried answers =
+    subst (λ why. Answers bstring_bytes result (marked_answer before (unset_or why key (map means (values_of_key key old)) old))) (sym carried.0)
+    (subst (λ text. Answers bstring_bytes result (Ok (marked before text))) (λ i. text_of_rest key (losses_of (is.marks i) (is.holders i)) (carried.1 i)) answers)
 
 -- or why there is none
-pub answer_unset_not : (unset : Unset) (text : List ℕ) (old new : State) (trouble : Trouble)
-    → ByMeant {T = Unit {0}} unset.values (λ means. IsCarriedOut (unremoved unset.is_all (count_marked (map means (values_of_key (key_of unset.key) old))))
-    (without_marked (key_of unset.key) (map means (values_of_key (key_of unset.key) old))) (Err trouble) old new) (Err trouble)
-    → UnsetsTo unset text old (Err trouble)
-answer_unset_not unset text old new trouble (inl (means, says, carried)) = inl (means, says, answer_refused _ _ text old new trouble carried)
-answer_unset_not unset text old new trouble (inr (inl memory)) = inr (inl (let same : trouble ≡ Memory = cc in ap Err same))
-answer_unset_not unset text old new trouble (inr (inr nothing)) = inr (inr (let no = nothing.0 in let same : trouble ≡ BadPattern = cc in ap Err same, nothing.1))
+pub rest_refused : (key : Key) (means : Option (List ℕ) → Bool) (is_all : Bool) (before : List ℕ) (old new : State) (trouble : Trouble)
+    → IsCarriedOut (unremoved is_all (count_marked (map means (values_of_key key old)))) (without_marked key (map means (values_of_key key old))) (Err trouble) old new
+    → Answers {A = BString} bstring_bytes (Err trouble) (marked_answer before (unsetting_of is_all means key old))
+rest_refused key means is_all before old new trouble =
+    ⊎_elim (λ memory. inl memory) (λ why. inr (ap (λ w. marked_answer before (unset_or w key (map means (values_of_key key old)) old)) why))
 
 -- a pattern that can't be read, or want of memory
 pub by_no_test : {T : Type 0} (values : Values) (said : (Option (List ℕ) → Bool) → Type 0) (trouble : Trouble) → (trouble ≡ Memory) ⊎ ((trouble ≡ BadPattern) × MeansNothing values)

@@ -31,7 +31,8 @@ use Rattle.gixcfg_words.specs.declared.command.Unset.{Unset as TheUnset}
 use Rattle.gixcfg_commands.specs.Answered.{edited_text, marked_answer}
 use Rattle.gixcfg_commands.specs.Layouts.{layout_asked}
 use Rattle.gixcfg_commands.specs.Setting.{SetsTo}
-use Rattle.gixcfg_commands.specs.Meant.{ByMeant, count_marked, values_of_key, without_marked}
+use Rattle.gixcfg_commands.specs.Emptied.{losses_of, text_of_rest}
+use Rattle.gixcfg_commands.specs.Meant.{ByMeant, count_marked, holders_of, values_of_key, without_marked}
 use Rattle.gixcfg_commands.specs.declared.edits.Edit.{Edit}
 use Rattle.gixcfg_commands.specs.declared.edits.Edit.TheVariants.{Fmt, RemoveSection, RenameSection, Set, Unset}
 
@@ -79,10 +80,18 @@ renaming_of name subsection new_name new_subsection file =
 abbrev pub unremoved : (is_all : Bool) (count : ℕ) → Option Trouble
 unremoved is_all count = if count == 0 then Some NoEntry else if ltb 1 count && not is_all then Some Several else None
 
--- what is printed of the file without the entries of a key that a test says; or why they stay
+-- the text of the file without the marked entries of a key, and without the sections that are left bare
+abbrev pub unset_text : Key → (marks : List Bool) → State → List ℕ
+unset_text key marks file = text_of_rest key (losses_of marks (holders_of key file)) (without_marked key marks file)
+
+-- the text of the file without the entries of a key that are marked; or why they stay
+abbrev pub unset_or : (refusal : Option Trouble) → Key → (marks : List Bool) → State → Result (List ℕ) Trouble
+unset_or (Some trouble) key marks file = Err trouble
+unset_or None key marks file = Ok (unset_text key marks file)
+
+-- the same of those that a test says
 abbrev pub unsetting_of : (is_all : Bool) (means : Option (List ℕ) → Bool) → Key → State → Result (List ℕ) Trouble
-unsetting_of is_all means key file =
-    let marks = map means (values_of_key key file) in edited_text (unremoved is_all (count_marked marks)) (without_marked key marks) file
+unsetting_of is_all means key file = let marks = map means (values_of_key key file) in unset_or (unremoved is_all (count_marked marks)) key marks file
 
 -- `unset`: the file without the entries of the key that are meant
 abbrev pub UnsetsTo : TheUnset → (text : List ℕ) → State → Result BString Trouble → Type 0

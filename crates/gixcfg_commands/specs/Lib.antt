@@ -4,6 +4,7 @@ pub mod Checks
 pub mod Comments
 pub mod Differing
 pub mod Edits
+pub mod Emptied
 pub mod Entries
 pub mod Getting
 pub mod Layouts

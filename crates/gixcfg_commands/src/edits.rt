@@ -1,5 +1,5 @@
 //! Edits: `set`, `unset`, `rename-section`, `remove-section` and `fmt`.
-ghost use Rattle.std.specs.Prelude.{◌≡◌, ◌-◌, List, length, map, option_map, is_some, true, IfErr, IfOk, None, Ok, OnOk};
+ghost use Rattle.std.specs.Prelude.{◌≡◌, ◌-◌, ◌==◌, List, length, map, not, option_map, is_some, true, IfErr, IfOk, None, Ok, OnOk};
 ghost use Rattle.std.specs.Option.{option_copied};
 ghost use Rattle.bstr.specs.Owned.{bstring_bytes};
 ghost use Rattle.gitconf_text.specs.Document.{IsText};
@@ -11,8 +11,9 @@ ghost use Rattle.gitconf_state.specs.Made.{IsMade};
 ghost use Rattle.gitconf_state.specs.Edit.{with_used};
 ghost use Rattle.gitconf_state.specs.Edits.{RenameAll, apply, apply_all};
 ghost use Rattle.gitconf_store.specs.Edited.{done, has_number};
-ghost use Rattle.std.specs.List.{list_all};
-ghost use Rattle.gitconf_state.specs.Printing.{printed};
+ghost use Rattle.std.specs.List.{list_all, list_any};
+ghost use Rattle.std.specs.HashSet.{IsFromIterResult, contains_by};
+ghost use Rattle.gitconf_state.specs.Printing.{printed, printed_kept};
 ghost use Rattle.gixcfg_core.specs.Answers.{Answers, IsRefusedText};
 ghost use Rattle.gixcfg_core.specs.Comments.{IsUncommented};
 ghost use Rattle.gix_config.specs.MultiValueEditors as multi;
@@ -20,12 +21,14 @@ ghost use Rattle.gix_config.specs.SectionEditors.{edited, lent};
 ghost use Rattle.gixcfg_commands.specs.Beginnings as spec;
 ghost use Rattle.gixcfg_commands.specs.Answered.{IsCarriedOut, IsChecked, marked_answer};
 ghost use Rattle.gixcfg_commands.specs.Comments.{IsCommentedText, IsEditedText, IsTextWith};
-ghost use Rattle.gixcfg_commands.specs.Edits.{EditsTo, IsOfText, UnsetsTo, no_room, others_of, removal_of, renaming_of, trouble_of_renaming, unremoved, unrenamed};
+ghost use Rattle.gixcfg_commands.specs.Edits.{EditsTo, IsOfText, UnsetsTo, no_room, others_of, removal_of, renaming_of, trouble_of_renaming, unremoved, unrenamed, unsetting_of};
+ghost use Rattle.gixcfg_commands.specs.Emptied.{losses_of, text_of_rest};
 ghost use Rattle.gixcfg_commands.specs.Setting.{IsGivenText, IsPlacedText, IsPushed, IsPutText, IsGiven, IsRewritten, IsSetIn, IsSetText, IsStoredValue, IsUnwritten, SetsTo, added, pushing, setting, setting_of, setting_of_one, setting_of_several, unadded, writing};
-ghost use Rattle.gixcfg_commands.specs.Meant.{ByMeant, IsMeant, count_marked, plain_holder, removals, spared, values_of_key, without_marked};
+ghost use Rattle.gixcfg_commands.specs.Meant.{IsMeant, count_marked, plain_holder, removals, spared, values_of_key, without_marked};
 ghost use Rattle.gitconf_store.specs.declared.rename_section.Error.TheVariants.{Section};
 
 use crate::beginnings::marked;
+use crate::emptied::emptied;
 use crate::layouts::{laid_out, layout_of};
 use crate::library;
 use crate::meant::{Meant, are_named, entries_meant, remove_meant, section_of_last};
@@ -52,6 +55,7 @@ use gixcfg_words::command::{Fmt, Placing, Removal, Renaming, Set, Unset, Values}
 use gixcfg_words::keys::Names;
 use gixcfg_words::rules::Rules;
 use std::alloc::{AllocError, AllocGlobal, Global};
+use std::collections::HashSet;
 use std::io::{Read, Write};
 
 /// An edit of a text.
@@ -439,7 +443,7 @@ fn with_comment(alloc: Global, file: &File, giving: &Giving<'_>) -> Result<BStri
     }
 }
 
-/// The text of a file, from which entries of a key are removed.
+/// The text of a file, from which entries of a key are removed, and the sections that have nothing left.
 fn without_entries(
     alloc: Global,
     text: &[u8],
@@ -448,9 +452,71 @@ fn without_entries(
 ) -> Result<BString, Trouble>
     ensures { UnsetsTo unset.now text.now file.old result }
 {
-    match remove(alloc, file, unset) {
-        Ok(()) => written(alloc, text, file),
+    match entries_meant(alloc, file, unset.key, unset.values) {
+        Ok(meant) => without_meant(alloc, text, file, unset, &meant),
         Err(trouble) => Err(trouble),
+    }
+}
+
+/// The same, where it is known which entries are meant.
+fn without_meant(
+    alloc: Global,
+    text: &[u8],
+    file: &mut File,
+    unset: &Unset<'_>,
+    meant: &Meant,
+) -> Result<BString, Trouble>
+    ensures { let key = key_of unset.now.key in (means : _) → IsMeant key means file.old meant.now →
+        Answers bstring_bytes result (marked_answer text.now (unsetting_of unset.now.is_all means key file.old)) }
+{
+    match remove_found(file, unset, meant) {
+        Ok(()) => text_of_rest(alloc, text, file, unset.key, meant),
+        Err(trouble) => Err(trouble),
+    }
+}
+
+/// The text of a file from which entries of a key were removed, without the sections that this left with nothing.
+fn text_of_rest(
+    alloc: Global,
+    before: &[u8],
+    file: &File,
+    key: KeyRef<'_>,
+    meant: &Meant,
+) -> Result<BString, Trouble>
+    ensures { let losses = losses_of meant.now.marks.items (map plain_holder meant.now.holders.items) in
+        Answers bstring_bytes result (Ok (spec.marked before.now (text_of_rest (key_of key.entry) losses file.now))) }
+{
+    let losses = meant.losses(alloc)?;
+    let gone = emptied(alloc, file, key, &losses)?;
+    let text = text_of_kept(alloc, file, gone)?;
+    marked(alloc, before, BString::new(text))
+}
+
+/// The text of a file without the sections of these numbers. One walk over the file, however many they are.
+fn text_of_kept(alloc: Global, file: &File, gone: Vec<SectionId>) -> Result<Vec<u8>, AllocError>
+    ensures { IfOk result (λ text. text.items ≡ printed_kept (λ s. not (list_any (λ n. s.number == n) gone.items)) file.now) }
+{
+    match set_of(alloc, gone) {
+        Ok(numbers) => text_beside(alloc, file, &numbers),
+        Err(refusal) => Err(refusal),
+    }
+}
+
+/// Numbers as a set.
+fn set_of(alloc: Global, numbers: Vec<SectionId>) -> Result<HashSet<SectionId>, AllocError>
+    ensures { IfOk result (IsFromIterResult (λ p q. p == q) numbers.items) }
+{
+    numbers.into_iter().collect(alloc)
+}
+
+/// The text of a file without the sections whose numbers are in a set.
+fn text_beside(alloc: Global, file: &File, gone: &HashSet<SectionId>) -> Result<Vec<u8>, AllocError>
+    ensures { IfOk result (λ text. text.items ≡ printed_kept (λ s. not (contains_by (λ n. s.number == n) gone.now)) file.now) }
+{
+    let mut text = Vec::new(alloc);
+    match file.write_to_filter(&mut text, |section| !gone.contains(&section.id())) {
+        Ok(()) => Ok(text),
+        Err(_) => Err(AllocError),
     }
 }
 
@@ -659,18 +725,6 @@ fn write_at(editor: &mut MultiValueMut<'_>, value: &[u8], at: usize) -> Result<(
     match editor.set_at(at, value) {
         Ok(()) => Ok(()),
         Err(refusal) => Err(of_number(refusal.number())),
-    }
-}
-
-/// Removes the only entry of a key, or all of them, as far as their values are meant.
-fn remove(alloc: Global, file: &mut File, unset: &Unset<'_>) -> Result<(), Trouble>
-    ensures { let key = key_of unset.now.key in
-        ByMeant unset.now.values (λ means. let marks = map means (values_of_key key file.old) in
-        IsCarriedOut (unremoved unset.now.is_all (count_marked marks)) (without_marked key marks) result file.old file.new) result }
-{
-    match entries_meant(alloc, file, unset.key, unset.values) {
-        Ok(meant) => remove_found(file, unset, &meant),
-        Err(trouble) => Err(trouble),
     }
 }
 

@@ -10,6 +10,7 @@ mod checks;
 mod differing;
 mod edits;
 mod effective;
+mod emptied;
 mod entries;
 mod including;
 mod layouts;

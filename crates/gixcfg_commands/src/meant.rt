@@ -1,6 +1,6 @@
 //! The entries of a key whose values are meant, and what becomes of them.
 ghost use Rattle.std.specs.Prelude.{◌≡◌, ◌⊎◌, ◌++◌, [], true, map, length, option_map, take, drop, unwrap_or, IfErr, IfOk, OnOk, Some};
-ghost use Rattle.std.specs.List.{list_all};
+ghost use Rattle.std.specs.List.{list_all, list_any};
 ghost use Rattle.std.specs.Option.{option_eq};
 ghost use Rattle.std.specs.Str.{bytes_eq};
 ghost use Rattle.bstr.specs.Owned.{bstring_bytes};
@@ -13,6 +13,7 @@ ghost use Rattle.gixcfg_core.specs.Entries.{values_of_name};
 ghost use Rattle.gixcfg_core.specs.Patterns.{MeansNothing};
 ghost use Rattle.gixcfg_core.specs.declared.trouble.Trouble.TheVariants as kinds;
 ghost use Rattle.gixcfg_commands.specs.Meant as spec;
+ghost use Rattle.gixcfg_commands.specs.Emptied.{losses_of};
 ghost use Rattle.gixcfg_commands.specs.Setting.{has_value};
 ghost use Rattle.gixcfg_commands.specs.Meant.{are_named, count_marked, holders_of, last_at, last_marked, plain_holder, removals, spared, values_of_key, IsMeant, MeansEntries};
 
@@ -69,6 +70,17 @@ impl Meant {
         }
     }
 
+    /// Of which sections some entry is meant.
+    ///
+    /// # Errors
+    ///
+    /// Out of memory.
+    pub fn losses(&self, alloc: Global) -> Result<Vec<bool>, AllocError>
+        ensures { IfOk result (λ losses. losses.items ≡ losses_of self.now.marks.items (map plain_holder self.now.holders.items)) }
+    {
+        losses_of(alloc, &self.holders, &self.marks)
+    }
+
     /// The one at a place isn't meant any more.
     pub fn spare(&mut self, at: usize)
         ensures marks { self.new.marks.items ≡ spared self.old.marks.items at }
@@ -78,6 +90,27 @@ impl Meant {
             *mark = false;
         }
     }
+}
+
+/// Of which sections some entry is marked.
+fn losses_of(alloc: Global, holders: &[Holder], marks: &[bool]) -> Result<Vec<bool>, AllocError>
+    ensures { IfOk result (λ losses. losses.items ≡ losses_of marks.now (map plain_holder holders.now)) }
+{
+    let mut losses = Vec::with_capacity(alloc, holders.len())?;
+    let mut left = marks;
+    for holder in holders {
+        let (own, behind) = split_marks(left, holder.count);
+        losses.push(is_any(own))?;
+        left = behind;
+    }
+    Ok(losses)
+}
+
+/// Whether one of some marks is set.
+fn is_any(marks: &[bool]) -> bool
+    ensures { result ≡ list_any (λ mark. mark) marks.now }
+{
+    marks.iter().any(|mark| *mark)
 }
 
 /// Whether there is a value, and it is this one.
