@@ -1,6 +1,7 @@
 -- What a call in memory leaves as it was.
 use Rattle.std.proofs.Common.{◌≡◌, inr, ⊎_elim, ◌≤◌, List, [], ◌∷◌, ◌++◌, length, Option, refl, sym, ◌∙◌, ap, subst, arith}
-use Rattle.gixcfg_replacing.specs.Disk.{Name, Text, IsLeftAlone, IsRespected, GoesOn}
+use Rattle.gixcfg_replacing.specs.Changes.{Change}
+use Rattle.gixcfg_replacing.specs.Disk.{Name, Text, IsLeftAlone, IsRespected, Did, GoesOn}
 use Rattle.gixcfg_replacing.specs.Calls.{past, may_hold, may_leave, left_since, counts_now, change_of, changes_in}
 use Rattle.folder_replay.specs.Memory.{calls_of, faults_of, memory_disk, KeepsNone, KeepsCall}
 use Rattle.gixcfg_replacing.specs.declared.call.Call.{Call}
@@ -30,7 +31,7 @@ module _ (old new : Memory) where
     found = λ n. ([], ap (λ calls. past calls n) is);
     faults = faults;
     others = λ n. omega arith;
-    made = ([], ap changes_in is, refl);
+    made = ([], record { kept = ap changes_in is; made = λ first before had. tt });
   }
 
   -- a call was kept
@@ -54,5 +55,9 @@ module _ (old new : Memory) where
       found = λ n. ((found n).0, ap (λ calls. past calls n) is ∙ (found n).1);
       faults = faults;
       others = λ n. omega arith;
-      made = (change_of call, ap changes_in is, refl);
+      made = (change_of call, record { kept = ap changes_in is; made = λ first before had. tt });
     }
+
+    -- which is this change
+    pub call_did : (change : Change) → change_of call ≡ change ∷ [] → Did memory_disk old new (change ∷ [])
+    call_did change one = record { kept = ap changes_in is ∙ ap (λ (l : List Change). l ++ changes_in (calls_of old)) one; made = λ first before had. tt }

@@ -7,7 +7,7 @@ use Rattle.std.specs.declared.io.ErrorKind.TheVariants.{OutOfMemory}
 use Rattle.gixcfg_replacing.specs.Disk.{Name, Disk, last_found}
 use Rattle.gixcfg_replacing.specs.Calls.{past, may_hold, may_leave, left_since, changes_in}
 use Rattle.gixcfg_replacing.specs.declared.call.Call.{Call}
-use Rattle.gixcfg_replacing.specs.declared.call.Call.TheVariants.{Made, Written, Synced, Renamed, Removed, Settled}
+use Rattle.gixcfg_replacing.specs.declared.call.Call.TheVariants.{Made, Shared, Written, Synced, Renamed, Removed, Settled}
 use Rattle.folder_replay.specs.declared.memory.Memory.{Memory}
 
 abbrev pub calls_of : Memory → List Call
@@ -27,7 +27,7 @@ memory_disk = record {
   ours = λ m n. Unit {0};
   others = λ m n. 0;
   kept = λ m. changes_in (calls_of m);
-  told = λ m. None;
+  has_made = λ first now changes. Unit {0};
 }
 
 module _ (old new : Memory) where
@@ -43,8 +43,9 @@ module _ (old new : Memory) where
   abbrev pub KeepsAt : (Vec ℕ Global → Call) → Name → Type 0
   KeepsAt call name = (at : Vec ℕ Global) × (at.items ≡ name) × KeepsCall (call at)
 
-  abbrev pub KeepsMove : Name → Name → Type 0
-  KeepsMove from to = (f : Vec ℕ Global) × (t : Vec ℕ Global) × (f.items ≡ from) × (t.items ≡ to) × KeepsCall (Renamed f t)
+  -- a call on two names
+  abbrev pub KeepsBoth : (Vec ℕ Global → Vec ℕ Global → Call) → Name → Name → Type 0
+  KeepsBoth call from to = (f : Vec ℕ Global) × (t : Vec ℕ Global) × (f.items ≡ from) × (t.items ≡ to) × KeepsCall (call f t)
 
   -- faults are counted, and cause what is not want of memory
   pub record Counts {T : Type 0} (result : Result T Error) : Type 0 where
@@ -56,6 +57,10 @@ module _ (old new : Memory) where
   MakesIn name (Ok false) = (last_found (past (calls_of old) name) ≢ None) × KeepsNone
   MakesIn name (Err error) = KeepsNone
 
+  abbrev pub SharesIn : (from to : Name) → Result (Unit {0}) Error → Type 0
+  SharesIn from to (Ok done) = KeepsBoth Shared from to
+  SharesIn from to (Err error) = KeepsNone
+
   -- at an error, none or some text
   abbrev pub WritesIn : (name text : Name) → Result (Unit {0}) Error → Type 0
   WritesIn name text (Ok done) = (at : Vec ℕ Global) × (t : Vec ℕ Global) × (at.items ≡ name) × (t.items ≡ text) × KeepsCall (Written at t)
@@ -66,8 +71,8 @@ module _ (old new : Memory) where
   SyncsIn name (Err error) = KeepsNone
 
   abbrev pub MovesIn : (from to : Name) → Result (Unit {0}) Error → Type 0
-  MovesIn from to (Ok done) = KeepsMove from to
-  MovesIn from to (Err error) = KeepsNone ⊎ KeepsMove from to
+  MovesIn from to (Ok done) = KeepsBoth Renamed from to
+  MovesIn from to (Err error) = KeepsNone ⊎ KeepsBoth Renamed from to
 
   abbrev pub RemovesIn : Name → Result (Unit {0}) Error → Type 0
   RemovesIn name (Ok done) = KeepsAt Removed name

@@ -1,5 +1,4 @@
 //! The folder in memory, by the calls that the one on the disk has.
-ghost use Rattle.std.specs.Prelude.{None};
 
 use crate::memory::Memory;
 use gixcfg_replacing::{Folder, FolderCalls};
@@ -18,7 +17,7 @@ fn not_made() -> io::Error {
 }
 
 impl FolderCalls for InMemory {
-    ghost told = { λ _. None };
+    ghost has_made = { λ first now changes. Unit {0} };
 
     fn read(&mut self, name: &str) -> io::Result<Option<Vec<u8>>> {
         self.memory.read(name)

@@ -25,7 +25,7 @@ pub struct Memory {
 }
 
 impl Memory {
-    ghost use Rattle.folder_replay.specs.Memory.{calls_of, faults_of, KeepsNone, Counts, MakesIn, WritesIn, SyncsIn, MovesIn, RemovesIn, SettlesIn};
+    ghost use Rattle.folder_replay.specs.Memory.{calls_of, faults_of, KeepsNone, Counts, MakesIn, SharesIn, WritesIn, SyncsIn, MovesIn, RemovesIn, SettlesIn};
 
     /// An empty folder, of which the call behind so many fails, and is done all the same or not.
     pub fn new(alloc: Global, until: usize, halfway: bool) -> Memory
@@ -111,14 +111,17 @@ impl Memory {
         }
     }
 
-    /// Gives nothing any rights: there are none.
-    pub(crate) fn share(&mut self) -> io::Result<()>
-        ensures calls { KeepsNone self.old self.new }
+    /// Gives the file at a name the rights of another one. No file has any.
+    pub(crate) fn share_at(&mut self, from: &[u8], to: &[u8]) -> io::Result<()>
+        ensures shared { SharesIn self.old self.new from.now to.now result }
         ensures counts { Counts self.old self.new result }
     {
         if self.fails() {
             return Err(io::Error::from(ErrorKind::Other));
         }
+        let source = Vec::from_slice(self.alloc, from)?;
+        let target = Vec::from_slice(self.alloc, to)?;
+        self.keep(Call::Shared(source, target))?;
         Ok(())
     }
 

@@ -21,8 +21,8 @@ impl Folder for Memory {
         self.make_at(name.as_bytes())
     }
 
-    fn share_rights(&mut self, _from: &str, _to: &str) -> io::Result<()> {
-        self.share()
+    fn share_rights(&mut self, from: &str, to: &str) -> io::Result<()> {
+        self.share_at(from.as_bytes(), to.as_bytes())
     }
 
     fn write(&mut self, name: &str, text: &[u8]) -> io::Result<()> {

@@ -6,4 +6,5 @@ mod MeantLemmas
 mod Unsetting
 mod SettingLemmas
 mod CleanEdits
+mod InPlaceLemmas
 mod LastMark

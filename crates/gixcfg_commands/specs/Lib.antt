@@ -7,6 +7,7 @@ pub mod Edits
 pub mod Emptied
 pub mod Entries
 pub mod Getting
+pub mod InPlace
 pub mod Layouts
 pub mod Meant
 pub mod Setting

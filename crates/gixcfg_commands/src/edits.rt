@@ -1,5 +1,5 @@
 //! Edits: `set`, `unset`, `rename-section`, `remove-section` and `fmt`.
-ghost use Rattle.std.specs.Prelude.{◌≡◌, ◌-◌, ◌==◌, List, length, map, not, option_map, is_some, true, IfErr, IfOk, None, Ok, OnOk};
+ghost use Rattle.std.specs.Prelude.{◌≡◌, ◌-◌, ◌==◌, List, [], length, map, not, option_map, is_some, string_bytes, true, unwrap_or, IfErr, IfOk, None, Ok, OnOk};
 ghost use Rattle.std.specs.Option.{option_copied};
 ghost use Rattle.bstr.specs.Owned.{bstring_bytes};
 ghost use Rattle.gitconf_text.specs.Document.{IsText};
@@ -24,6 +24,9 @@ ghost use Rattle.gixcfg_commands.specs.Comments.{IsCommentedText, IsEditedText, 
 ghost use Rattle.gixcfg_commands.specs.Edits.{EditsTo, IsOfText, UnsetsTo, no_room, others_of, removal_of, renaming_of, trouble_of_renaming, unremoved, unrenamed, unsetting_of};
 ghost use Rattle.gixcfg_commands.specs.Emptied.{losses_of, text_of_rest};
 ghost use Rattle.gixcfg_commands.specs.Setting.{IsGivenText, IsPlacedText, IsPushed, IsPutText, IsGiven, IsRewritten, IsSetIn, IsSetText, IsStoredValue, IsUnwritten, SetsTo, added, pushing, setting, setting_of, setting_of_one, setting_of_several, unadded, writing};
+ghost use Rattle.gixcfg_files.specs.Replacing.{known};
+ghost use Rattle.gixcfg_files.specs.declared.place.Replaced.TheVariants.{Done};
+ghost use Rattle.gixcfg_commands.specs.InPlace.{IsDone, IsNewText, is_synced};
 ghost use Rattle.gixcfg_commands.specs.Meant.{IsMeant, count_marked, plain_holder, removals, spared, values_of_key, without_marked};
 ghost use Rattle.gitconf_store.specs.declared.rename_section.Error.TheVariants.{Section};
 
@@ -50,7 +53,7 @@ use gixcfg_core::outside::{Inputs, Outside, accepted};
 use gixcfg_core::streams::{put, read_all};
 use gixcfg_core::trouble::{Trouble, of_number};
 use gixcfg_core::typed::stored;
-use gixcfg_files::{EditFiles, Fault, Place, Replaced, Replacement};
+use gixcfg_files::{EditCalls, EditFiles, Fault, Place, Replaced, Replacement, System};
 use gixcfg_words::command::{Fmt, Placing, Removal, Renaming, Set, Unset, Values};
 use gixcfg_words::keys::Names;
 use gixcfg_words::rules::Rules;
@@ -70,7 +73,9 @@ pub enum Edit<'a> {
 
 impl Edit<'_> {
     /// Whether the new text of a file is written down to the disk.
-    fn is_synced(self) -> bool {
+    fn is_synced(self) -> bool
+        ensures { result ≡ is_synced self.entry }
+    {
         match self {
             Edit::Set(set) => set.is_synced,
             Edit::Unset(unset) => unset.is_synced,
@@ -128,23 +133,28 @@ fn edit_in_place<R: EditFiles + AllocGlobal, E: Write>(
     err: &mut E,
 ) -> Result<(), Trouble> {
     for _ in 0..TRIES {
-        if let Replaced::Done = edit_once(rt, path, edit, outside, err)? {
+        let place = Place::find(rt, System::new(rt), path)?;
+        if let (_, Replaced::Done) = edit_once(place, edit, path, outside, err)? {
             return Ok(());
         }
     }
     Err(Trouble::File(Fault::Changing))
 }
 
-/// Does an edit of the file at a path, if no other process changes it meanwhile.
-fn edit_once<R: EditFiles + AllocGlobal, E: Write>(
-    rt: &R,
-    path: &str,
+/// Does an edit of the file at a place, which the user names so, if no other process changes it meanwhile. The calls of the system, on which it
+/// was done, are handed back.
+fn edit_once<D: EditCalls, E: Write>(
+    place: Place<D>,
     edit: Edit<'_>,
+    name: &str,
     outside: Outside<'_>,
     err: &mut E,
-) -> Result<Replaced, Trouble> {
-    let place = Place::find(rt, path)?;
-    match new_text(rt.alloc(), place.text(), edit, path, outside)? {
+) -> Result<(D, Replaced), Trouble>
+    ensures { IfOk result (λ done. done.1 ≡ Done
+        → IsDone edit.entry outside.entry.is_colored (string_bytes place.path) (string_bytes place.folder) (option_map known place.found) (D.told done.0)) }
+{
+    let alloc = place.calls.alloc();
+    match new_text(alloc, place.text(), edit, name, outside)? {
         Some(text) => {
             let new = Replacement {
                 text: &text,
@@ -152,7 +162,10 @@ fn edit_once<R: EditFiles + AllocGlobal, E: Write>(
             };
             Ok(place.replace(&new, err)?)
         }
-        None => Ok(Replaced::Done),
+        None => {
+            let Place { calls, .. } = place;
+            Ok((calls, Replaced::Done))
+        }
     }
 }
 
@@ -163,13 +176,27 @@ fn new_text(
     edit: Edit<'_>,
     name: &str,
     outside: Outside<'_>,
-) -> Result<Option<BString>, Trouble> {
-    let text = match (before, edit) {
-        (Some(text), _) => text,
-        (None, Edit::Set(_)) => b"",
-        (None, Edit::Unset(_)) => return Err(Trouble::NoEntry),
-        (None, _) => return Err(Trouble::NoFile),
-    };
+) -> Result<Option<BString>, Trouble>
+    ensures { IfOk result (IsNewText edit.entry (unwrap_or (option_map (λ text. text.now) before.entry) []) outside.entry.is_colored) }
+{
+    match (before, edit) {
+        (Some(text), _) => changed(alloc, text, edit, name, outside),
+        (None, Edit::Set(_)) => changed(alloc, b"", edit, name, outside),
+        (None, Edit::Unset(_)) => Err(Trouble::NoEntry),
+        (None, _) => Err(Trouble::NoFile),
+    }
+}
+
+/// What an edit makes of a text of this name; none if that is what it is.
+fn changed(
+    alloc: Global,
+    text: &[u8],
+    edit: Edit<'_>,
+    name: &str,
+    outside: Outside<'_>,
+) -> Result<Option<BString>, Trouble>
+    ensures { IfOk result (IsNewText edit.entry text.now outside.entry.is_colored) }
+{
     let edited = edited(alloc, edit, name, text, outside)?;
     if edited.as_bytes() == text {
         Ok(None)

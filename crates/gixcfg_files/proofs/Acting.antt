@@ -8,7 +8,7 @@ use Rattle.gixcfg_files.specs.declared.rights.Original.{Original}
 use Rattle.gixcfg_files.specs.declared.calls.Look.{Look}
 use Rattle.gixcfg_files.specs.declared.calls.Open.{Open}
 use Rattle.gixcfg_files.specs.declared.made.Made.{Made}
-use Rattle.gixcfg_files.specs.Acts.{Path, Known, Act, told_after, told_since, told_look, told_open, told_read, told_make, told_hold, told_link, Grows, LooksFor, Has, IsMade, Puts, WasPut, HasUnder, IsAgain, IsOurs, IsPut, IsHeld, IsDraft, IsEditing, IsReady, Sees, SeesOpened, MayRename, MayRemove, MayGive}
+use Rattle.gixcfg_files.specs.Acts.{Path, Known, Act, told_after, told_since, told_look, told_open, told_read, told_make, told_hold, told_done, Grows, LooksFor, Has, IsMade, Puts, WasPut, HasUnder, IsAgain, IsOurs, IsPut, IsHeld, IsDraft, IsEditing, IsReady, Sees, SeesOpened, MayRename, MayRemove, MayGive, Renames}
 use Rattle.gixcfg_files.specs.Acts.Act.{Began, Looked, Unseen, Opened, ReadText, Created, Linked, Held, GaveGroup, GaveOwner, Allowed, Wrote, Renamed, Removed}
 
 -- nothing more is told
@@ -46,6 +46,17 @@ pub looks_grow : (old new : Option (List Act)) (path : Path) (file : Identity) (
 looks_grow old new path file (Ok true) (there, it, is) = act_grows old new _ is
 looks_grow old new path file (Ok false) (there, is) = act_grows old new _ is
 looks_grow old new path file (Err error) is = act_grows old new _ is
+
+-- what was looked for, found and renamed
+pub renames_done : (old seen new : Option (List Act)) (file : Identity) (from to : Path) (b : Bool) → b ≡ true → LooksFor old seen from file (Ok b) → (result : Result (Unit {0}) Error)
+    → new ≡ told_done seen result (Renamed from to) → OnOk result (Renames old new file to)
+renames_done old seen new file from to true found (there, it, looked) (Ok done) is = (there, from, it, is ∙ told_so seen ∙ ap (λ t. told_after t (Renamed from to)) looked)
+  where
+    told_so : (t : Option (List Act)) → told_done t (Ok done) (Renamed from to) ≡ told_after t (Renamed from to)
+    told_so None = refl
+    told_so (Some acts) = refl
+renames_done old seen new file from to true found looks (Err error) is = tt
+renames_done old seen new file from to false found looks result is = absurd (cc found)
 
 -- what holds of acts holds after more of them
 abbrev pub Stays : (List Act → Type 0) → Type 0
@@ -123,9 +134,10 @@ pub read_grows : (old new : Option (List Act)) (file : Original) (result : Resul
 read_grows old new file (Ok text) is = act_grows old new _ is
 read_grows old new file (Err error) is = same_grows old new is
 
-pub link_grows : (old new : Option (List Act)) (from to : Path) (result : Result (Unit {0}) Error) → new ≡ told_link old from to result → Grows old new
-link_grows old new from to (Ok done) is = act_grows old new _ is
-link_grows old new from to (Err error) is = same_grows old new is
+pub done_grows : (old new : Option (List Act)) (result : Result (Unit {0}) Error) (act : Act) → new ≡ told_done old result act → Grows old new
+done_grows None new result act is = same_grows None new is
+done_grows (Some acts) new (Ok done) act is = act_grows (Some acts) new act is
+done_grows (Some acts) new (Err error) act is = same_grows (Some acts) new is
 
 pub held_stays : {F : Type 0} (at : Path) (file : Made F) → Stays (IsHeld at file)
 held_stays at file since acts is =
@@ -217,6 +229,21 @@ module _ {F : Type 0} (path lock : Path) (found : Option Known) (holds : Bool) w
       each (Editing (Some file) locked same) (IsReady path file) (λ acts e. record { lock = lock; found = found; holds = holds; began = e.began; draft = e.draft; again = e.again same_is }) told
       (subst (λ d. IfSome told (Editing d locked same)) drafted_is is)
 
+  -- something was written to the draft
+  pub draft_again : (drafted locked : Option (Made F)) (same : Bool) (old new : Option (List Act)) (a b : Made F) → Grows old new → b.file.original ≡ a.file.original → b.path ≡ a.path → drafted ≡ Some a
+      → IfSome old (Editing drafted locked same) → IfSome new (Editing (Some b) locked same)
+  draft_again drafted locked same old new a b grows file path is editing =
+      each (Editing (Some a) locked same) (Editing (Some b) locked same)
+      (λ acts e. record {
+        began = e.began;
+        draft = record {
+          ours = record { made = subst (λ (i : Original). IsMade i.identity acts) (sym file) e.draft.ours.made; put = subst (λ p. WasPut p acts) (ap string_bytes (sym path)) e.draft.ours.put };
+          held = λ h. subst (λ (i : Original). Has (Held i.identity) acts) (sym file) (e.draft.held h);
+        };
+        own_lock = e.own_lock;
+        again = e.again;
+      }) new (editing_on (Some a) locked same old new grows (subst (λ d. IfSome old (Editing d locked same)) is editing))
+
   pub lock_ours : (drafted locked : Option (Made F)) (same : Bool) (told : Option (List Act)) → IfSome told (Editing drafted locked same) → IfSome locked (λ file. IfSome told (IsOurs file))
   lock_ours drafted None same told is = tt
   lock_ours drafted (Some file) same told is = each _ (IsOurs file) (λ acts e. e.own_lock.ours) told is
@@ -258,7 +285,7 @@ may_give known path lock found holds drafted locked same told is r found_is draf
     (subst (λ d. IfSome told (IsEditing path lock (Some (known r)) holds d locked same)) drafted_is
     (subst (λ f. IfSome told (IsEditing path lock (option_map known f) holds drafted locked same)) found_is is))
 
-pub link_puts : (old new : Option (List Act)) (from to : Path) (result : Result (Unit {0}) Error) → new ≡ told_link old from to result → OnOk result (IfSome new (WasPut to))
+pub link_puts : (old new : Option (List Act)) (from to : Path) (result : Result (Unit {0}) Error) → new ≡ told_done old result (Linked from to) → OnOk result (IfSome new (WasPut to))
 link_puts None new from to (Ok done) is = subst (λ (told : Option (List Act)). IfSome told (WasPut to)) (sym is) tt
 link_puts (Some acts) new from to (Ok done) is = subst (λ (told : Option (List Act)). IfSome told (WasPut to)) (sym is) (inl refl)
 link_puts old new from to (Err error) is = tt

@@ -35,14 +35,18 @@ pub data Act : Type 0 where
   Linked : (from to : Path) → Act
   -- This process holds an open file.
   Held : (file : Identity) → Act
-  -- These were asked for, of an open file.
+  -- These were asked for, of an open file, and by a path.
   GaveGroup : (file : Identity) (group : ℕ) → Act
   GaveOwner : (file : Identity) (owner : ℕ) → Act
   Allowed : (file : Identity) (mode : ℕ) → Act
-  Wrote : (file : Identity) (text : List ℕ) → Act
-  -- These were asked for, by paths.
-  Renamed : (from to : Path) → Act
   Removed : (path : Path) → Act
+  -- A text was written to an open file, and down to the disk.
+  Wrote : (file : Identity) (text : List ℕ) → Act
+  WroteDown : (file : Identity) → Act
+  -- A file was renamed.
+  Renamed : (from to : Path) → Act
+  -- It was written down which files a folder has.
+  WroteDownNames : (folder : Path) → Act
 
 -- what is told after one act more; nothing where nothing is told
 abbrev pub told_after : Option (List Act) → Act → Option (List Act)
@@ -71,9 +75,11 @@ told_hold told file (Ok true) = told_after told (Held file)
 told_hold told file (Ok false) = told
 told_hold told file (Err error) = told
 
-abbrev pub told_link : Option (List Act) → (from to : Path) → Result (Unit {0}) Error → Option (List Act)
-told_link told from to (Ok done) = told_after told (Linked from to)
-told_link told from to (Err error) = told
+-- after what is told where it was done
+abbrev pub told_done : Option (List Act) → Result (Unit {0}) Error → Act → Option (List Act)
+told_done None result act = None
+told_done (Some acts) (Ok done) act = Some (act ∷ acts)
+told_done (Some acts) (Err error) act = Some acts
 
 -- that was done or answered before
 abbrev pub Has : Act → List Act → Type 0
@@ -188,6 +194,10 @@ pub record IsReady {F : Type 0} (to : Path) (file : Made F) (acts : List Act) : 
   pub began : Has (Began to lock found holds) acts
   pub draft : IsDraft holds file acts
   pub again : IsAgain to lock found acts
+
+-- a file was found at a path, and renamed
+abbrev pub Renames : (old new : Option (List Act)) → Identity → (to : Path) → Type 0
+Renames old new file to = (there : Original) × (from : Path) × (there.identity ≡ file) × (new ≡ told_after (told_after old (Looked from (Some there))) (Renamed from to))
 
 -- what a look that opens a regular file was answered
 abbrev pub Sees : {F : Type 0} → (old new : Option (List Act)) → Path → Sight F → Type 0

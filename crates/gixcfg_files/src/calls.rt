@@ -1,7 +1,7 @@
 //! The calls on the system by which a file is edited: no other function of this crate changes anything on a disk.
 ghost use Rattle.std.specs.Prelude.{◌≡◌, List, Option, None, Some, IfSome, option_map};
-ghost use Rattle.gixcfg_files.specs.Acts.{Act, told_after, told_look, told_open, told_read, told_make, told_hold, told_link, IsMade, MayRename, MayRemove, MayGive};
-ghost use Rattle.gixcfg_files.specs.Acts.Act.{Began, GaveGroup, GaveOwner, Allowed, Wrote, Renamed, Removed};
+ghost use Rattle.gixcfg_files.specs.Acts.{Act, told_after, told_look, told_open, told_read, told_make, told_hold, told_done, IsMade, MayRename, MayRemove, MayGive};
+ghost use Rattle.gixcfg_files.specs.Acts.Act.{Began, Linked, GaveGroup, GaveOwner, Allowed, Wrote, WroteDown, WroteDownNames, Renamed, Removed};
 
 use crate::edit_files::EditFiles;
 use crate::fault::Fault;
@@ -160,7 +160,7 @@ pub trait EditCalls: Drop {
     ///
     /// Something is at that path already; the file isn't there, or can't be given that path.
     fn link(&mut self, from: &str, to: &str) -> io::Result<()>
-        ensures { told self.new ≡ told_link (told self.old) from.now to.now result };
+        ensures { told self.new ≡ told_done (told self.old) result (Linked from.now to.now) };
 
     /// Holds an open file until it is closed, as it is when the process ends, however it ends. Tells whether it does: not if it is held already.
     ///
@@ -204,7 +204,7 @@ pub trait EditCalls: Drop {
     /// The text can't be written.
     fn write(&mut self, file: &mut Open<Self::File>, text: &[u8]) -> io::Result<()>
         requires { IfSome (told self.old) (IsMade file.old.original.identity) }
-        ensures told { told self.new ≡ told_after (told self.old) (Wrote file.old.original.identity text.now) }
+        ensures told { told self.new ≡ told_done (told self.old) result (Wrote file.old.original.identity text.now) }
         ensures file { file.new.original ≡ file.old.original };
 
     /// Writes the text of an open file down to the disk.
@@ -213,7 +213,7 @@ pub trait EditCalls: Drop {
     ///
     /// It can't be written down.
     fn sync(&mut self, file: &Open<Self::File>) -> io::Result<()>
-        ensures { told self.new ≡ told self.old };
+        ensures { told self.new ≡ told_done (told self.old) result (WroteDown file.now.original.identity) };
 
     /// Gives a file another path, in place of what is there.
     ///
@@ -222,7 +222,7 @@ pub trait EditCalls: Drop {
     /// The file isn't there, or can't be given that path.
     fn rename(&mut self, from: &str, to: &str) -> io::Result<()>
         requires { IfSome (told self.old) (MayRename from.now to.now) }
-        ensures { told self.new ≡ told_after (told self.old) (Renamed from.now to.now) };
+        ensures { told self.new ≡ told_done (told self.old) result (Renamed from.now to.now) };
 
     /// Removes a file. If that fails for want of memory it is tried again, since what stays would stand in the way of others.
     ///
@@ -240,7 +240,7 @@ pub trait EditCalls: Drop {
     ///
     /// The folder can't be opened, or not be written down.
     fn sync_folder(&mut self, folder: &str) -> io::Result<()>
-        ensures { told self.new ≡ told self.old };
+        ensures { told self.new ≡ told_done (told self.old) result (WroteDownNames folder.now) };
 }
 
 /// The files of a system. It tells nothing.

@@ -1,6 +1,7 @@
 //! The folder of a file that is edited, on the disk.
-ghost use Rattle.std.specs.Prelude.{◌≡◌, ℕ, List, Option, None, Some, IfSome, IfOk, OnOk, true, option_map, string_bytes};
-ghost use Rattle.gixcfg_files.specs.Acts.{Grows, Has, WasPut, IsAgain, IsOurs, IsPut, IsHeld, IsDraft, IsReady};
+ghost use Rattle.std.specs.Prelude.{◌≡◌, ℕ, List, [], Option, None, Some, IfSome, IfOk, OnOk, true, option_map, string_bytes};
+ghost use Rattle.gixcfg_files.specs.Acts.{Grows, Has, WasPut, IsAgain, IsOurs, IsPut, IsHeld, IsDraft, IsReady, Renames};
+ghost use Rattle.gixcfg_files.specs.Replacing.{HasMade, known};
 
 use crate::calls::{Beginning, EditCalls, Found};
 use crate::made::{Made, Owner, is_at, is_kept, remove_made, share};
@@ -61,10 +62,22 @@ pub struct DiskFolder<'a, D: EditCalls> {
 impl<'a, D: EditCalls> Model for DiskFolder<'a, D> {
     ghost use Rattle.std.specs.Prelude.{List, Option, IfSome, is_some, option_map};
     ghost use Rattle.gixcfg_files.specs.Acts.{Act, IsEditing};
+    ghost use Rattle.gixcfg_files.specs.Replacing.{Work};
+    ghost use Rattle.gixcfg_files.specs.declared.rights.Identity.{Identity};
 
-    ghost Value = { Option (List Act) };
+    ghost Value = { Option (List Act) × Work × Option Identity };
 
-    ghost view = { λ f. D.told f.calls };
+    ghost view = { λ f. (
+      D.told f.calls,
+      record {
+        path = f.spot.path.now;
+        lock = f.spot.lock.now;
+        folder = f.spot.folder.now;
+        found = option_map (λ found. (found.now.original, found.now.text.items)) f.found;
+        is_synced = f.manner.is_synced;
+      },
+      option_map (λ made. made.file.original.identity) f.draft,
+    ) };
 
     ghost invariant = { λ f. IfSome (D.told f.calls) (IsEditing f.spot.path.now f.spot.lock.now (option_map (λ found. (found.now.original, found.now.text.items)) f.found) (is_some f.manner.process) f.draft f.lock f.is_same) };
 }
@@ -76,7 +89,16 @@ impl<'a, D: EditCalls> DiskFolder<'a, D> {
         spot: Spot<'a>,
         found: Option<&'a Found>,
         manner: Manner<'a>,
-    ) -> DiskFolder<'a, D> {
+    ) -> DiskFolder<'a, D>
+        ensures made { HasMade result result [] }
+        ensures work { result.1 ≡ record {
+          path = spot.entry.path.now;
+          lock = spot.entry.lock.now;
+          folder = spot.entry.folder.now;
+          found = option_map (λ found. known found.now) found.entry;
+          is_synced = manner.entry.is_synced;
+        } }
+    {
         calls.begin(Beginning {
             path: spot.path,
             lock: spot.lock,
@@ -97,7 +119,9 @@ impl<'a, D: EditCalls> DiskFolder<'a, D> {
     }
 
     /// The calls that it makes.
-    pub fn into_calls(self) -> D {
+    pub fn into_calls(self) -> D
+        ensures { D.told result ≡ self.entry.0 }
+    {
         let DiskFolder { calls, .. } = self;
         calls
     }
@@ -309,7 +333,8 @@ fn sign<D: EditCalls>(
 /// Renames a draft over its file, if it is where it was put.
 fn rename_made<D: EditCalls>(calls: &mut D, draft: &Made<D::File>, to: &str) -> io::Result<()>
     requires { IfSome (D.told calls.old) (IsReady to.now draft.now) }
-    ensures { Grows (D.told calls.old) (D.told calls.new) }
+    ensures grows { Grows (D.told calls.old) (D.told calls.new) }
+    ensures renamed { OnOk result (Renames (D.told calls.old) (D.told calls.new) draft.now.file.original.identity to.now) }
 {
     match is_at(calls, &draft.file, &draft.path) {
         Ok(true) => calls.rename(&draft.path, to),
@@ -335,7 +360,7 @@ fn not_there() -> io::Error {
 }
 
 impl<D: EditCalls> FolderCalls for DiskFolder<'_, D> {
-    ghost told = { λ _. None };
+    ghost has_made = { HasMade };
 
     fn read(&mut self, name: &str) -> io::Result<Option<Vec<u8>>> {
         if name != self.spot.path || self.is_renamed {

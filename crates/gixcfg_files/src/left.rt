@@ -1,7 +1,7 @@
 //! What edits that were stopped left beside a file.
 
 ghost use Rattle.std.specs.Prelude.{IfSome};
-ghost use Rattle.gixcfg_files.specs.Acts.{Has};
+ghost use Rattle.gixcfg_files.specs.Acts.{Grows, Has};
 ghost use Rattle.gixcfg_files.specs.Acts.Act.{Held};
 
 use crate::calls::{EditCalls, Open};
@@ -51,9 +51,20 @@ fn names_beside<D: EditCalls>(calls: &mut D, path: &str) -> Result<Vec<u8>, Faul
     }
 }
 
+/// Removes of these drafts each that was left.
+pub fn remove_left_drafts<D: EditCalls, E: Write>(calls: &mut D, drafts: &[String], err: &mut E)
+    ensures { Grows (D.told calls.old) (D.told calls.new) }
+{
+    for path in drafts {
+        remove_left_draft(calls, path, err);
+    }
+}
+
 /// Removes the draft at a path if it was left, and tells that. Who makes a draft holds it while he is there, so it was left if this process can
 /// hold it.
-pub fn remove_left_draft<D: EditCalls, E: Write>(calls: &mut D, path: &str, err: &mut E) {
+fn remove_left_draft<D: EditCalls, E: Write>(calls: &mut D, path: &str, err: &mut E)
+    ensures { Grows (D.told calls.old) (D.told calls.new) }
+{
     let Ok(Sight::File(file)) = sight_of(calls, path) else {
         return;
     };
@@ -86,6 +97,7 @@ pub fn remove_left_lock<D: EditCalls, E: Write>(
 /// it did. What can't be removed stays.
 fn remove_held<D: EditCalls>(calls: &mut D, file: &Open<D::File>, path: &str) -> bool
     requires { IfSome (D.told calls.old) (Has (Held file.now.original.identity)) }
+    ensures { Grows (D.told calls.old) (D.told calls.new) }
 {
     match is_at(calls, file, path) {
         Ok(true) => calls.remove(path).is_ok(),

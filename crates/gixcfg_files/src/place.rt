@@ -1,11 +1,16 @@
 //! A file that is edited in place.
+ghost use Rattle.std.specs.Prelude.{◌≡◌, ◌≢◌, IfOk, IfSome, option_map, string_bytes};
+ghost use Rattle.gixcfg_replacing.specs.Disk.{lock_of as lock_of_lem};
+ghost use Rattle.gixcfg_replacing.specs.declared.ended.Ended.TheVariants as ends;
+ghost use Rattle.gixcfg_files.specs.Acts.{Grows};
 ghost use Rattle.gixcfg_files.specs.Ends.{TellsAs};
+ghost use Rattle.gixcfg_files.specs.Replacing.{IsFound, IsReplaced, known};
+ghost use Rattle.gixcfg_files.specs.declared.place.Replaced.TheVariants.{Done};
 
-use crate::calls::{EditCalls, Found, System};
-use crate::edit_files::EditFiles;
+use crate::calls::{EditCalls, Found};
 use crate::fault::Fault;
 use crate::folder::{DiskFolder, Manner, Spot};
-use crate::left::{drafts_beside, remove_left_draft, remove_left_lock};
+use crate::left::{drafts_beside, remove_left_drafts, remove_left_lock};
 use crate::links::end_of_links;
 use crate::lock::{Lock, check_free};
 use crate::made::Owner;
@@ -16,6 +21,7 @@ use gixcfg_replacing::{Ended, LoggedFolder, draft_of, lock_of, replace};
 use std::alloc::{AllocGlobal, Global};
 use std::io;
 use std::io::{ErrorKind, Write};
+use std::rt::Files;
 
 /// How often a path is followed at most where others change what is there meanwhile.
 const LOOKS: usize = 16;
@@ -29,13 +35,17 @@ const UNKNOWN: &str = "0";
 /// What the symbolic links at a path end at: a regular file, as it was when it was opened and read, or nothing, of which an edit may make a
 /// file.
 #[derive(Drop)]
-pub struct Place<'a, R: EditFiles + AllocGlobal> {
-    files: &'a R,
-    path: String,
+pub struct Place<D: EditCalls> {
+    /// The system on which that was found.
+    pub calls: D,
+    pub path: String,
     /// The path of its folder.
-    folder: String,
-    lock: String,
-    found: Option<Found>,
+    pub folder: String,
+    /// The path of its lock.
+    pub lock: String,
+    /// The file, if there is one.
+    pub found: Option<Found>,
+    ghost beside: { string_bytes lock ≡ lock_of_lem (string_bytes path) },
 }
 
 /// What an edit puts in place of the text of a file.
@@ -56,24 +66,29 @@ pub enum Replaced {
     Changed,
 }
 
-impl<'a, R: EditFiles + AllocGlobal> Place<'a, R> {
+impl<D: EditCalls> Place<D> {
     /// The place that a path leads to, and the text that is there. Nothing is written.
     ///
     /// # Errors
     ///
     /// The lock of the file exists, so git or another edit works on it; what is there is no regular file, or can't be opened or read; too many
     /// links lead there, or they keep changing; out of memory.
-    pub fn find(files: &'a R, path: &str) -> Result<Place<'a, R>, Fault> {
+    pub fn find<R: Files + AllocGlobal>(
+        files: &R,
+        mut calls: D,
+        path: &str,
+    ) -> Result<Place<D>, Fault>
+        ensures { IfOk result (λ place. IfSome (D.told place.calls) (IsFound (string_bytes place.path) (option_map known place.found))) }
+    {
         let alloc = files.alloc();
-        let mut calls = System::new(files);
         for _ in 0..LOOKS {
             let path = end_of_links(files, path)?;
             let lock = lock_of(alloc, &path)?;
             check_free(&mut calls, &lock)?;
             match sight_of(&mut calls, &path) {
-                Ok(Sight::Nothing) => return Place::new(files, path, lock, None),
+                Ok(Sight::Nothing) => return Place::new(alloc, calls, path, lock, None),
                 Ok(Sight::File(file)) => match found_in(&mut calls, file) {
-                    Ok(found) => return Place::new(files, path, lock, Some(found)),
+                    Ok(found) => return Place::new(alloc, calls, path, lock, Some(found)),
                     Err(error) => return Err(Fault::unread(error)),
                 },
                 Ok(Sight::Irregular) => return Err(Fault::NoFile),
@@ -86,14 +101,20 @@ impl<'a, R: EditFiles + AllocGlobal> Place<'a, R> {
 
     /// The place at a path, with its lock.
     fn new(
-        files: &'a R,
+        alloc: Global,
+        calls: D,
         path: String,
         lock: String,
         found: Option<Found>,
-    ) -> Result<Place<'a, R>, Fault> {
-        let folder = folder_of(files.alloc(), &path)?;
+    ) -> Result<Place<D>, Fault>
+        requires { string_bytes lock ≡ lock_of_lem (string_bytes path) }
+        ensures calls { IfOk result (λ place. place.calls ≡ calls) }
+        ensures path { IfOk result (λ place. place.path ≡ path) }
+        ensures found { IfOk result (λ place. place.found ≡ found) }
+    {
+        let folder = folder_of(alloc, &path)?;
         Ok(Place {
-            files,
+            calls,
             path,
             folder,
             lock,
@@ -102,7 +123,9 @@ impl<'a, R: EditFiles + AllocGlobal> Place<'a, R> {
     }
 
     /// The text of the file; none if there is no such file.
-    pub fn text(&self) -> Option<&[u8]> {
+    pub fn text(&self) -> Option<&[u8]>
+        ensures { option_map (λ text. text.now) result ≡ option_map (λ found. found.text.items) self.now.found }
+    {
         match &self.found {
             Some(found) => Some(&found.text),
             None => None,
@@ -118,17 +141,31 @@ impl<'a, R: EditFiles + AllocGlobal> Place<'a, R> {
     /// The draft can't be written or renamed; the lock exists or can't be made; out of memory. The file is as it was, and neither a
     /// draft nor a lock is left. Or the file has the new text: [`Fault::Unsynced`], that isn't written down to the disk; or
     /// [`Fault::Unremoved`], its lock is left.
-    pub fn replace<E: Write>(&self, new: &Replacement<'_>, err: &mut E) -> Result<Replaced, Fault> {
+    pub fn replace<E: Write>(
+        self,
+        new: &Replacement<'_>,
+        err: &mut E,
+    ) -> Result<(D, Replaced), Fault>
+        ensures { IfOk result (λ done. done.1 ≡ Done → IfSome (D.told done.0)
+            (IsReplaced (string_bytes self.path) (string_bytes self.folder) (option_map known self.found) new.now.is_synced new.now.text.now)) }
+    {
+        let Place {
+            calls,
+            path,
+            folder,
+            lock,
+            found,
+        } = self;
         let edit = Edit {
             spot: Spot {
-                folder: &self.folder,
-                path: &self.path,
-                lock: &self.lock,
+                folder: &folder,
+                path: &path,
+                lock: &lock,
             },
-            found: self.found.as_ref(),
+            found: found.as_ref(),
             new: *new,
         };
-        edit.carry_out(System::new(self.files), err)
+        edit.carry_out(calls, err)
     }
 }
 
@@ -146,19 +183,22 @@ impl Edit<'_> {
         &self,
         mut calls: D,
         err: &mut E,
-    ) -> Result<Replaced, Fault> {
+    ) -> Result<(D, Replaced), Fault>
+        requires { self.now.spot.lock.now ≡ lock_of_lem self.now.spot.path.now }
+        ensures { IfOk result (λ done. done.1 ≡ Done → IfSome (D.told done.0) (IsReplaced self.now.spot.path.now self.now.spot.folder.now (option_map (λ found. known found.now) self.now.found) self.now.new.is_synced self.now.new.text.now)) }
+    {
         let Some(process) = calls.process()? else {
-            return Ok(self.write_unheld(calls, err)?.1);
+            return self.write_unheld(calls, err);
         };
         let drafts = drafts_beside(&mut calls, self.spot.path, &process)?;
         remove_left_lock(&mut calls, self.spot.lock, err)?;
-        let (mut calls, replaced) = self.write(calls, &process, err)?;
-        if let Replaced::Done = replaced {
-            for path in &drafts {
-                remove_left_draft(&mut calls, path, err);
+        match self.write(calls, &process, err)? {
+            (mut calls, Replaced::Done) => {
+                remove_left_drafts(&mut calls, &drafts, err);
+                Ok((calls, Replaced::Done))
             }
+            changed => Ok(changed),
         }
-        Ok(replaced)
     }
 
     /// Replaces the text by a draft that the process holds; where that can't be, by one that it doesn't.
@@ -167,7 +207,10 @@ impl Edit<'_> {
         mut calls: D,
         process: &Process,
         err: &mut E,
-    ) -> Result<(D, Replaced), Fault> {
+    ) -> Result<(D, Replaced), Fault>
+        requires { self.now.spot.lock.now ≡ lock_of_lem self.now.spot.path.now }
+        ensures { IfOk result (λ done. done.1 ≡ Done → IfSome (D.told done.0) (IsReplaced self.now.spot.path.now self.now.spot.folder.now (option_map (λ found. known found.now) self.now.found) self.now.new.is_synced self.now.new.text.now)) }
+    {
         let alloc = calls.alloc();
         for _ in 0..DRAWS {
             let Some(drawn) = calls.draw()? else {
@@ -190,7 +233,10 @@ impl Edit<'_> {
         &self,
         mut calls: D,
         err: &mut E,
-    ) -> Result<(D, Replaced), Fault> {
+    ) -> Result<(D, Replaced), Fault>
+        requires { self.now.spot.lock.now ≡ lock_of_lem self.now.spot.path.now }
+        ensures { IfOk result (λ done. done.1 ≡ Done → IfSome (D.told done.0) (IsReplaced self.now.spot.path.now self.now.spot.folder.now (option_map (λ found. known found.now) self.now.found) self.now.new.is_synced self.now.new.text.now)) }
+    {
         let alloc = calls.alloc();
         let drawn = calls.draw()?;
         let tag = drawn.as_deref().unwrap_or(UNKNOWN);
@@ -206,7 +252,10 @@ impl Edit<'_> {
         tag: &str,
         process: Option<&Process>,
         err: &mut E,
-    ) -> Result<(D, Ended), Fault> {
+    ) -> Result<(D, Ended), Fault>
+        requires { self.now.spot.lock.now ≡ lock_of_lem self.now.spot.path.now }
+        ensures { IfOk result (λ done. done.1 ≡ ends.Done → IfSome (D.told done.0) (IsReplaced self.now.spot.path.now self.now.spot.folder.now (option_map (λ found. known found.now) self.now.found) self.now.new.is_synced self.now.new.text.now)) }
+    {
         let alloc = calls.alloc();
         let path = self.spot.path;
         let before = match self.found {
@@ -247,7 +296,9 @@ fn unremoved<E: Write>(
     lock: String,
     error: io::Error,
     err: &mut E,
-) -> Result<Ended, Fault> {
+) -> Result<Ended, Fault>
+    ensures { IfOk result (λ told. told ≢ ends.Done) }
+{
     if let Ended::Done = ended {
         return Err(Fault::Unremoved(lock, error));
     }

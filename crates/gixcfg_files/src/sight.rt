@@ -1,7 +1,8 @@
 //! What is found at a path, open: all that is said of a file, and its text, come from the one that was opened, whatever its path leads to then.
 
 ghost use Rattle.std.specs.Prelude.{◌≡◌, IfOk};
-ghost use Rattle.gixcfg_files.specs.Acts.{Grows, Sees, SeesOpened};
+ghost use Rattle.gixcfg_files.specs.Acts.{told_after, Grows, Sees, SeesOpened};
+ghost use Rattle.gixcfg_files.specs.Acts.Act.{ReadText};
 
 use crate::calls::{EditCalls, Found, Kind, Open};
 use crate::rights::Identity;
@@ -58,7 +59,10 @@ pub fn find_file<D: EditCalls>(calls: &mut D, path: &str) -> io::Result<Option<F
 /// # Errors
 ///
 /// It can't be read; out of memory.
-pub fn found_in<D: EditCalls>(calls: &mut D, file: Open<D::File>) -> io::Result<Found> {
+pub fn found_in<D: EditCalls>(calls: &mut D, file: Open<D::File>) -> io::Result<Found>
+    ensures file { IfOk result (λ found. found.original ≡ file.original) }
+    ensures read { IfOk result (λ found. D.told calls.new ≡ told_after (D.told calls.old) (ReadText file.original found.text.items)) }
+{
     let original = file.original();
     let text = calls.read(file)?;
     Ok(Found { original, text })

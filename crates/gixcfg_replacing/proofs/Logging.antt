@@ -1,15 +1,15 @@
 -- What a call in a log leaves as it was.
-use Rattle.std.proofs.Common.{◌≡◌, ◌≢◌, inl, inr, ⊎_elim, ℕ, ◌≤◌, ◌+◌, Bool, true, false, List, [], ◌∷◌, length, Option, None, Some, Result, Ok, Err, Vec, refl, sym, ◌∙◌, ap, subst, arith, if◌then◌else◌, IfErr}
+use Rattle.std.proofs.Common.{◌≡◌, ◌≢◌, inl, inr, ⊎_elim, ℕ, ◌≤◌, ◌+◌, Bool, true, false, List, [], ◌∷◌, ◌++◌, length, Option, None, Some, Result, Ok, Err, OnOk, Vec, refl, sym, ◌∙◌, ap, subst, arith, if◌then◌else◌, IfErr}
 use Rattle.std.specs.declared.alloc.Global.{Global}
 use Rattle.std.specs.declared.io.Error.{Error}
-use Rattle.gixcfg_replacing.specs.Changes.{Change, told_since, told_after, told_making, Making}
-use Rattle.gixcfg_replacing.specs.Disk.{Name, last_found, lock_of, IsQuiet, KeepsName, IsLeftAlone, IsRespected, GoesOn, HasCause, Makes, Moves, IsOldOrMoved}
+use Rattle.gixcfg_replacing.specs.Changes.{Change, MadeSince, if_done, if_made, Making}
+use Rattle.gixcfg_replacing.specs.Disk.{Name, last_found, lock_of, IsQuiet, KeepsName, IsLeftAlone, IsRespected, Did, GoesOn, HasCause, Makes, Moves, IsOldOrMoved}
 use Rattle.gixcfg_replacing.specs.Calls.{is_same, past, is_synced, may_hold, may_leave, left_since, counts_now, is_ours, others_at, faults_in, change_of, changes_in}
 use Rattle.gixcfg_replacing.specs.Logged.{calls_of, logged_disk, IsFree, IsOthersDoing, Does}
 use Rattle.gixcfg_replacing.specs.declared.call.Call.{Call}
 use Rattle.gixcfg_replacing.specs.declared.call.Call.TheVariants.{Made, Shared, Written, Synced, Renamed, Removed, Settled, Found, Fault}
 use Rattle.gixcfg_replacing.specs.declared.logged.LoggedFolder.{LoggedFolder}
-use Rattle.gixcfg_replacing.proofs.Runs.{told_none, goes_on, alone_on, respected_on, quiet_first, quiet_next}
+use Rattle.gixcfg_replacing.proofs.Runs.{goes_on, alone_on, respected_on, quiet_first, quiet_next}
 use Rattle.gixcfg_replacing.proofs.Untouched.{Untouched, is_other, is_it, holds_so, made_else, renamed_else, grows}
 
 module _ (older : List Call) (n : Name) where
@@ -52,10 +52,10 @@ faults_grow Fault older = omega arith
 abbrev pub IsOurCall : Call → Type 0
 IsOurCall call = (older : List Call) (n : Name) → others_at (call ∷ older) n ≡ others_at older n
 
-module _ {C : Type 0} (told : C → Option (List Change)) (old new : LoggedFolder C) where
+module _ {C : Type 0} (has_made : (first now : C) → List Change → Type 0) (old new : LoggedFolder C) where
   -- nothing was kept
-  module _ (is : calls_of new ≡ calls_of old) (untold : told new.folder ≡ told old.folder) where
-    pub none_does : IsOthersDoing told old new
+  module _ (is : calls_of new ≡ calls_of old) (unmade : MadeSince has_made old.folder new.folder []) where
+    pub none_does : IsOthersDoing has_made old new
     none_does = record {
       alone = λ n. record {
         kept = λ quiet. record {
@@ -73,16 +73,16 @@ module _ {C : Type 0} (told : C → Option (List Change)) (old new : LoggedFolde
         found = λ n. ([], ap (λ calls. past calls n) is);
         faults = omega (arith, ap faults_in is);
         others = λ n. omega (arith, ap (λ calls. others_at calls n) is);
-        made = ([], ap changes_in is, untold ∙ sym (told_none (told old.folder)));
+        made = ([], record { kept = ap changes_in is; made = λ first. unmade first.folder });
       };
       owned = λ n. ap (λ calls. is_ours calls n) is;
       kept = ap changes_in is;
-      told = untold;
+      made = unmade;
     }
 
   -- a call was kept
   module _ (call : Call) (is : calls_of new ≡ call ∷ calls_of old) where
-    keeps_so : (n : Name) → Untouched call (calls_of old) n → KeepsName (logged_disk told) old new n
+    keeps_so : (n : Name) → Untouched call (calls_of old) n → KeepsName (logged_disk has_made) old new n
     keeps_so n untouched = record {
       found = ap (λ calls. past calls n) is ∙ untouched.found;
       holds = λ text hold. untouched.holds text (subst (λ calls. may_hold calls n text) is hold);
@@ -91,37 +91,37 @@ module _ {C : Type 0} (told : C → Option (List Change)) (old new : LoggedFolde
           ⊎_elim (λ now. counts_now (calls_of old) t n left le (untouched.leaves left now)) (λ before. before.1) (subst (λ calls. left_since calls t n left) is since);
     }
 
-    pub alone_so : (n : Name) → Untouched call (calls_of old) n → (is_ours (calls_of old) n ≡ true → is_ours (call ∷ calls_of old) n ≡ true) → IsLeftAlone (logged_disk told) old new n
+    pub alone_so : (n : Name) → Untouched call (calls_of old) n → (is_ours (calls_of old) n ≡ true → is_ours (call ∷ calls_of old) n ≡ true) → IsLeftAlone (logged_disk has_made) old new n
     alone_so n untouched ours = record { kept = λ quiet. keeps_so n untouched; ours = λ was. ap (λ calls. is_ours calls n) is ∙ ours was }
 
-    pub goes_so : told new.folder ≡ told_since (change_of call) (told old.folder) → GoesOn (logged_disk told) old new
-    goes_so is_told = record {
+    pub goes_so : MadeSince has_made old.folder new.folder (change_of call) → GoesOn (logged_disk has_made) old new
+    goes_so made = record {
       later = omega (arith, ap length is);
       remembers = λ t n left le before. subst (λ calls. left_since calls t n left) (sym is) (inr (le, before));
       found = λ n. ((grows call (calls_of old) n).0, ap (λ calls. past calls n) is ∙ (grows call (calls_of old) n).1);
       faults = omega (arith, faults_grow call (calls_of old), ap faults_in is);
       others = λ n. omega (arith, others_grow call (calls_of old) n, ap (λ calls. others_at calls n) is);
-      made = (change_of call, ap changes_in is, is_told);
+      made = (change_of call, record { kept = ap changes_in is; made = λ first. made first.folder });
     }
 
-    quiet_so : (n : Name) → others_at (call ∷ calls_of old) n ≡ others_at (calls_of old) n → IsQuiet (logged_disk told) old new n
+    quiet_so : (n : Name) → others_at (call ∷ calls_of old) n ≡ others_at (calls_of old) n → IsQuiet (logged_disk has_made) old new n
     quiet_so n same = ap (λ calls. others_at calls n) is ∙ same
 
-    pub respect_so : IsOurCall call → (n : Name) → IsRespected (logged_disk told) old new n
+    pub respect_so : IsOurCall call → (n : Name) → IsRespected (logged_disk has_made) old new n
     respect_so ours n = λ was. (quiet_so n (ours (calls_of old) n), λ file lock. quiet_so file (ours (calls_of old) file))
 
   module _ (is : calls_of new ≡ Fault ∷ calls_of old) where
-    pub fault_does : told new.folder ≡ told old.folder → IsOthersDoing told old new
-    fault_does untold = record {
+    pub fault_does : MadeSince has_made old.folder new.folder [] → IsOthersDoing has_made old new
+    fault_does unmade = record {
       alone = λ n. alone_so Fault is n (fault_all (calls_of old) n) (λ ours. ours);
       respect = respect_so Fault is (λ older n. refl);
-      time = goes_so Fault is (untold ∙ sym (told_none (told old.folder)));
+      time = goes_so Fault is unmade;
       owned = λ n. ap (λ calls. is_ours calls n) is;
       kept = ap changes_in is;
-      told = untold;
+      made = unmade;
     }
 
-    pub fault_cause : (error : Error) → HasCause (logged_disk told) old new error
+    pub fault_cause : (error : Error) → HasCause (logged_disk has_made) old new error
     fault_cause error = inr (omega (arith, ap faults_in is))
 
   -- others changed what is at a name that is free
@@ -133,38 +133,38 @@ module _ {C : Type 0} (told : C → Option (List Change)) (old new : LoggedFolde
     locked_from n file ours lock same =
         absurd (let not = free.lock_free in let at_lock = subst (λ m. is_ours (calls_of old) m ≡ true) (sym lock ∙ ap lock_of same) ours in cc (not, at_lock))
 
-    quiet_else : (n : Name) → n ≢ name → IsQuiet (logged_disk told) old new n
+    quiet_else : (n : Name) → n ≢ name → IsQuiet (logged_disk has_made) old new n
     quiet_else n apart = quiet_so (Found at found) is n (rw (is_other at name n it apart) refl)
 
-    pub not_quiet : IsQuiet (logged_disk told) old new name → ⊥
+    pub not_quiet : IsQuiet (logged_disk has_made) old new name → ⊥
     not_quiet quiet = omega (arith, quiet, ap (λ calls. others_at calls name) is, counted)
       where
         counted : others_at (Found at found ∷ calls_of old) name ≡ others_at (calls_of old) name + 1
         counted = rw (is_it at name it) refl
 
-    alone_else : (n : Name) → (b : Bool) → is_same at.items n ≡ b → IsLeftAlone (logged_disk told) old new n
+    alone_else : (n : Name) → (b : Bool) → is_same at.items n ≡ b → IsLeftAlone (logged_disk has_made) old new n
     alone_else n false e = alone_so (Found at found) is n (found_else (calls_of old) n at found e) (λ ours. ours)
     alone_else n true e = record { kept = λ quiet. absurd (changed quiet); ours = λ was. ap (λ calls. is_ours calls n) is ∙ was }
       where
         counted : others_at (Found at found ∷ calls_of old) n ≡ others_at (calls_of old) n + 1
         counted = rw (e) refl
 
-        changed : IsQuiet (logged_disk told) old new n → ⊥
+        changed : IsQuiet (logged_disk has_made) old new n → ⊥
         changed quiet = omega (arith, quiet, ap (λ calls. others_at calls n) is, counted)
 
-    pub found_does : told new.folder ≡ told old.folder → IsOthersDoing told old new
-    found_does untold = record {
+    pub found_does : MadeSince has_made old.folder new.folder [] → IsOthersDoing has_made old new
+    found_does unmade = record {
       alone = λ n. alone_else n (is_same at.items n) refl;
       respect = λ n ours. (quiet_else n (apart_from n ours), λ file lock. quiet_else file (locked_from n file ours lock));
-      time = goes_so (Found at found) is (untold ∙ sym (told_none (told old.folder)));
+      time = goes_so (Found at found) is unmade;
       owned = λ n. ap (λ calls. is_ours calls n) is;
       kept = ap changes_in is;
-      told = untold;
+      made = unmade;
     }
 
--- what others did is the same over any folder that tells no change
-pub over : {C : Type 0} (told : C → Option (List Change)) (old new : LoggedFolder C) (below : C) → IsOthersDoing told old new → IsOthersDoing told (record old { folder = below }) (record new { folder = below })
-over told old new below did = record {
+-- what others did is the same over any folder on which nothing was made
+pub over : {C : Type 0} (has_made : (first now : C) → List Change → Type 0) (old new : LoggedFolder C) (below : C) → IsOthersDoing has_made old new → IsOthersDoing has_made (record old { folder = below }) (record new { folder = below })
+over has_made old new below did = record {
   alone = λ n.
       let alone = did.alone n in
       record {
@@ -174,74 +174,72 @@ over told old new below did = record {
   respect = did.respect;
   time =
       let time = did.time in
-      record { later = time.later; remembers = time.remembers; found = time.found; faults = time.faults; others = time.others; made = ([], did.kept, sym (told_none (told below))) };
+      record { later = time.later; remembers = time.remembers; found = time.found; faults = time.faults; others = time.others; made = ([], record { kept = did.kept; made = λ first before had. had }) };
   owned = did.owned;
   kept = did.kept;
-  told = refl;
+  made = λ first before had. had;
 }
 
 -- what others did at first, and then
-pub does_on : {C : Type 0} (told : C → Option (List Change)) (a b c : LoggedFolder C) → IsOthersDoing told a b → IsOthersDoing told b c → IsOthersDoing told a c
-does_on told a b c first next = record {
-  alone = λ n. alone_on (logged_disk told) a b c n first.time next.time (first.alone n) (next.alone n);
-  respect = λ n. respected_on (logged_disk told) a b c n (first.alone n) (first.respect n) (next.respect n);
-  time = goes_on (logged_disk told) a b c first.time next.time;
+pub does_on : {C : Type 0} (has_made : (first now : C) → List Change → Type 0) (a b c : LoggedFolder C) → IsOthersDoing has_made a b → IsOthersDoing has_made b c → IsOthersDoing has_made a c
+does_on has_made a b c first next = record {
+  alone = λ n. alone_on (logged_disk has_made) a b c n first.time next.time (first.alone n) (next.alone n);
+  respect = λ n. respected_on (logged_disk has_made) a b c n (first.alone n) (first.respect n) (next.respect n);
+  time = goes_on (logged_disk has_made) a b c first.time next.time;
   owned = λ n. next.owned n ∙ first.owned n;
   kept = next.kept ∙ first.kept;
-  told = next.told ∙ first.told;
+  made = λ start before had. next.made start before (first.made start before had);
 }
 
 -- what a call of ours does otherwise than at a name, and where it failed
-module _ {C : Type 0} (told : C → Option (List Change)) (old new : LoggedFolder C) (call : Call) where
+module _ {C : Type 0} (has_made : (first now : C) → List Change → Type 0) (old new : LoggedFolder C) (call : Call) where
   pub does_alone : (result : Result (Unit {0}) Error) → Does call (calls_of old) (calls_of new) result → (n : Name) → Untouched call (calls_of old) n
-      → (is_ours (calls_of old) n ≡ true → is_ours (call ∷ calls_of old) n ≡ true) → IsLeftAlone (logged_disk told) old new n
-  does_alone (Ok done) is n untouched ours = alone_so told old new call is n untouched ours
-  does_alone (Err error) is n untouched ours = alone_so told old new Fault is n (fault_all (calls_of old) n) (λ ours. ours)
+      → (is_ours (calls_of old) n ≡ true → is_ours (call ∷ calls_of old) n ≡ true) → IsLeftAlone (logged_disk has_made) old new n
+  does_alone (Ok done) is n untouched ours = alone_so has_made old new call is n untouched ours
+  does_alone (Err error) is n untouched ours = alone_so has_made old new Fault is n (fault_all (calls_of old) n) (λ ours. ours)
 
-  pub does_respect : (result : Result (Unit {0}) Error) → Does call (calls_of old) (calls_of new) result → IsOurCall call → (n : Name) → IsRespected (logged_disk told) old new n
-  does_respect (Ok done) is ours n = respect_so told old new call is ours n
-  does_respect (Err error) is ours n = respect_so told old new Fault is (λ older n. refl) n
+  pub does_respect : (result : Result (Unit {0}) Error) → Does call (calls_of old) (calls_of new) result → IsOurCall call → (n : Name) → IsRespected (logged_disk has_made) old new n
+  does_respect (Ok done) is ours n = respect_so has_made old new call is ours n
+  does_respect (Err error) is ours n = respect_so has_made old new Fault is (λ older n. refl) n
 
   pub does_time : (result : Result (Unit {0}) Error) → Does call (calls_of old) (calls_of new) result → (change : Change) → change_of call ≡ change ∷ []
-      → told new.folder ≡ told_after (told old.folder) result change → GoesOn (logged_disk told) old new
-  does_time (Ok done) is change one made = goes_so told old new call is (made ∙ told_one (told old.folder) ∙ ap (λ since. told_since since (told old.folder)) (sym one))
-    where
-      told_one : (before : Option (List Change)) → told_after before (Ok done) change ≡ told_since (change ∷ []) before
-      told_one None = refl
-      told_one (Some before) = refl
-  does_time (Err error) is change one made = goes_so told old new Fault is (made ∙ failed (told old.folder))
-    where
-      failed : (before : Option (List Change)) → told_after before (Err error) change ≡ told_since [] before
-      failed None = refl
-      failed (Some before) = refl
+      → MadeSince has_made old.folder new.folder (if_done result change) → GoesOn (logged_disk has_made) old new
+  does_time (Ok done) is change one made = goes_so has_made old new call is (subst (MadeSince has_made old.folder new.folder) (sym one) made)
+  does_time (Err error) is change one made = goes_so has_made old new Fault is made
 
-  pub does_cause : (result : Result (Unit {0}) Error) → Does call (calls_of old) (calls_of new) result → IfErr result (HasCause (logged_disk told) old new)
+  pub does_did : (result : Result (Unit {0}) Error) → Does call (calls_of old) (calls_of new) result → (change : Change) → change_of call ≡ change ∷ []
+      → MadeSince has_made old.folder new.folder (if_done result change) → (asked : Change) → asked ≡ change → OnOk result (Did (logged_disk has_made) old new (asked ∷ []))
+  does_did (Ok done) is change one made asked same =
+      subst (λ it. Did (logged_disk has_made) old new (it ∷ [])) (sym same) (record { kept = ap changes_in is ∙ ap (λ (l : List Change). l ++ changes_in (calls_of old)) one; made = λ first. made first.folder })
+  does_did (Err error) is change one made asked same = tt
+
+  pub does_cause : (result : Result (Unit {0}) Error) → Does call (calls_of old) (calls_of new) result → IfErr result (HasCause (logged_disk has_made) old new)
   does_cause (Ok done) is = tt
-  does_cause (Err error) is = fault_cause told old new is error
+  does_cause (Err error) is = fault_cause has_made old new is error
 
 -- a file is made at a name (nk), after others (al), also at that name (ln)
-module _ {C : Type 0} (told : C → Option (List Change)) (a l n k : LoggedFolder C) (name : Name) (at also : Vec ℕ Global) (at_is : at.items ≡ name) (also_is : also.items ≡ name) (al : IsOthersDoing told a l) (ln : IsOthersDoing told l n) where
-  an : IsOthersDoing told a n
-  an = does_on told a l n al ln
+module _ {C : Type 0} (has_made : (first now : C) → List Change → Type 0) (a l n k : LoggedFolder C) (name : Name) (at also : Vec ℕ Global) (at_is : at.items ≡ name) (also_is : also.items ≡ name) (al : IsOthersDoing has_made a l) (ln : IsOthersDoing has_made l n) where
+  an : IsOthersDoing has_made a n
+  an = does_on has_made a l n al ln
 
-  seen_l : (m : Name) → m ≡ name → IsQuiet (logged_disk told) a n name → last_found (past (calls_of l) m) ≡ last_found (past (calls_of a) name)
-  seen_l m is quiet = ap (λ x. last_found (past (calls_of l) x)) is ∙ ap last_found ((al.alone name).kept (quiet_first (logged_disk told) a l n name al.time ln.time quiet)).found
+  seen_l : (m : Name) → m ≡ name → IsQuiet (logged_disk has_made) a n name → last_found (past (calls_of l) m) ≡ last_found (past (calls_of a) name)
+  seen_l m is quiet = ap (λ x. last_found (past (calls_of l) x)) is ∙ ap last_found ((al.alone name).kept (quiet_first (logged_disk has_made) a l n name al.time ln.time quiet)).found
 
-  quiet_l : IsQuiet (logged_disk told) a n name → IsQuiet (logged_disk told) l n at.items
-  quiet_l quiet = subst (λ x. IsQuiet (logged_disk told) l n x) (sym at_is) (quiet_next (logged_disk told) a l n name al.time ln.time quiet)
+  quiet_l : IsQuiet (logged_disk has_made) a n name → IsQuiet (logged_disk has_made) l n at.items
+  quiet_l quiet = subst (λ x. IsQuiet (logged_disk has_made) l n x) (sym at_is) (quiet_next (logged_disk has_made) a l n name al.time ln.time quiet)
 
   -- there was something
-  pub not_made : (IsQuiet (logged_disk told) l n at.items → last_found (past (calls_of l) at.items) ≢ None) → (IsQuiet (logged_disk told) a n name → last_found (past (calls_of a) name) ≢ None)
+  pub not_made : (IsQuiet (logged_disk has_made) l n at.items → last_found (past (calls_of l) at.items) ≢ None) → (IsQuiet (logged_disk has_made) a n name → last_found (past (calls_of a) name) ≢ None)
   not_made there = λ quiet none. there (quiet_l quiet) (seen_l at.items at_is quiet ∙ none)
 
-  module _ (gone : IsQuiet (logged_disk told) l n at.items → last_found (past (calls_of l) at.items) ≡ None) (is : calls_of k ≡ Made also ∷ calls_of n) (made : told k.folder ≡ told_since (Making also.items ∷ []) (told n.folder)) where
-    time_nk : GoesOn (logged_disk told) n k
-    time_nk = goes_so told n k (Made also) is made
+  module _ (gone : IsQuiet (logged_disk has_made) l n at.items → last_found (past (calls_of l) at.items) ≡ None) (is : calls_of k ≡ Made also ∷ calls_of n) (made : MadeSince has_made n.folder k.folder (Making also.items ∷ [])) where
+    time_nk : GoesOn (logged_disk has_made) n k
+    time_nk = goes_so has_made n k (Made also) is made
 
-    quiet_n : IsQuiet (logged_disk told) a k name → IsQuiet (logged_disk told) a n name
+    quiet_n : IsQuiet (logged_disk has_made) a k name → IsQuiet (logged_disk has_made) a n name
     quiet_n quiet = sym (ap (λ calls. others_at calls name) is) ∙ quiet
 
-    pub makes : Makes (logged_disk told) a k name (Ok true)
+    pub makes : Makes (logged_disk has_made) a k name (Ok true)
     makes = (
       λ quiet. sym (seen_l at.items at_is (quiet_n quiet)) ∙ gone (quiet_l (quiet_n quiet)),
       ap (λ calls. last_found (past calls name)) is ∙ found,
@@ -254,66 +252,83 @@ module _ {C : Type 0} (told : C → Option (List Change)) (a l n k : LoggedFolde
         owned : is_ours (Made also ∷ calls_of n) name ≡ true
         owned = rw (is_it also name also_is) refl
 
-    pub makes_alone : (other : Name) → other ≢ name → IsLeftAlone (logged_disk told) a k other
+    pub makes_alone : (other : Name) → other ≢ name → IsLeftAlone (logged_disk has_made) a k other
     makes_alone other apart =
-        alone_on (logged_disk told) a n k other an.time time_nk (an.alone other)
-        (alone_so told n k (Made also) is other (made_else (calls_of n) other also it) (λ ours. rw (it) ours))
+        alone_on (logged_disk has_made) a n k other an.time time_nk (an.alone other)
+        (alone_so has_made n k (Made also) is other (made_else (calls_of n) other also it) (λ ours. rw (it) ours))
       where
         it : is_same also.items other ≡ false
         it = is_other also name other also_is apart
 
-    pub makes_time : GoesOn (logged_disk told) a k
-    makes_time = goes_on (logged_disk told) a n k an.time time_nk
+    pub makes_time : GoesOn (logged_disk has_made) a k
+    makes_time = goes_on (logged_disk has_made) a n k an.time time_nk
 
--- what is told after a call that was passed on (a to d)
-pub passed_on : {C : Type 0} (told : C → Option (List Change)) (a b c d : C) (did answer : Result (Unit {0}) Error) (change asked : Change)
-    → told c ≡ told_after (told b) did change → b ≡ a → d ≡ c → answer ≡ did → change ≡ asked → told d ≡ told_after (told a) answer asked
-passed_on told a b c d did answer change asked is ba dc same to =
-    ap told dc ∙ is ∙ ap (λ folder. told_after (told folder) did change) ba ∙ ap (λ result. told_after (told a) result change) (sym same) ∙ ap (told_after (told a) answer) to
+module _ {C : Type 0} (has_made : (first now : C) → List Change → Type 0) (since : List Change) where
+  -- what was made until a moment, was until one that is the same
+  pub made_until : {a b c : C} → MadeSince has_made a b since → c ≡ b → MadeSince has_made a c since
+  made_until {a} made is = subst (λ new. MadeSince has_made a new since) (sym is) made
 
--- what was not made is not told
-pub not_told : (told : Option (List Change)) (result : Result Bool Error) (name : Name) → result ≢ Ok true → told_making told result name ≡ told
-not_told None result name not = refl
-not_told (Some before) (Ok true) name not = absurd (not refl)
-not_told (Some before) (Ok false) name not = refl
-not_told (Some before) (Err error) name not = refl
+  pub made_from : {a b c : C} → MadeSince has_made b c since → b ≡ a → MadeSince has_made a c since
+  made_from {a} {b} {c} made is = subst (λ old. MadeSince has_made old c since) is made
+
+-- nothing was made until a moment that is the same
+pub none_since : {C : Type 0} (has_made : (first now : C) → List Change → Type 0) {a b : C} → b ≡ a → MadeSince has_made a b []
+none_since has_made {a} is = subst (λ new. MadeSince has_made a new []) (sym is) (λ first before had. had)
+
+-- what was made by a call that was passed on (a to d)
+pub passed_on : {C : Type 0} (has_made : (first now : C) → List Change → Type 0) (a b c d : C) (did answer : Result (Unit {0}) Error) (change asked : Change)
+    → MadeSince has_made b c (if_done did change) → b ≡ a → d ≡ c → answer ≡ did → change ≡ asked → MadeSince has_made a d (if_done answer asked)
+passed_on has_made a b c d did answer change asked made ba dc same to =
+    let passed = subst (λ result. MadeSince has_made b c (if_done result change)) (sym same) made in
+    made_from has_made (if_done answer asked) (made_until has_made (if_done answer asked) (subst (λ it. MadeSince has_made b c (if_done answer it)) to passed) dc) ba
+
+-- what was not made is no change
+pub none_made : (result : Result Bool Error) (name : Name) → result ≢ Ok true → if_made result name ≡ []
+none_made (Ok true) name not = absurd (not refl)
+none_made (Ok false) name not = refl
+none_made (Err error) name not = refl
 
 -- a file was made (m), others looked at (l, n), and then that is kept (k)
-module _ {C : Type 0} (told : C → Option (List Change)) (a m l n k : LoggedFolder C) (name : Name) (at also : Vec ℕ Global) (at_is : at.items ≡ name) (also_is : also.items ≡ name) (am : calls_of m ≡ calls_of a)
-    (asked : told m.folder ≡ told_making (told a.folder) (Ok true) name) (ml : IsOthersDoing told m l) (ln : IsOthersDoing told l n)
-    (gone : IsQuiet (logged_disk told) l n at.items → last_found (past (calls_of l) at.items) ≡ None) (is : calls_of k ≡ Made also ∷ calls_of n) (nk : told k.folder ≡ told n.folder) where
+module _ {C : Type 0} (has_made : (first now : C) → List Change → Type 0) (a m l n k : LoggedFolder C) (name : Name) (at also : Vec ℕ Global) (at_is : at.items ≡ name) (also_is : also.items ≡ name) (am : calls_of m ≡ calls_of a)
+    (asked : MadeSince has_made a.folder m.folder (Making name ∷ [])) (ml : IsOthersDoing has_made m l) (ln : IsOthersDoing has_made l n)
+    (gone : IsQuiet (logged_disk has_made) l n at.items → last_found (past (calls_of l) at.items) ≡ None) (is : calls_of k ≡ Made also ∷ calls_of n) (nk : MadeSince has_made n.folder k.folder []) where
   abbrev before_make : LoggedFolder C → LoggedFolder C
   before_make folder = record folder { folder = a.folder }
 
-  al : IsOthersDoing told a (before_make l)
-  al = does_on told a (before_make m) (before_make l) (none_does told a (before_make m) am refl) (over told m l a.folder ml)
+  al : IsOthersDoing has_made a (before_make l)
+  al = does_on has_made a (before_make m) (before_make l) (none_does has_made a (before_make m) am (λ first before had. had)) (over has_made m l a.folder ml)
 
-  made_one : (before : Option (List Change)) → told_making before (Ok true) name ≡ told_since (Making also.items ∷ []) before
-  made_one None = refl
-  made_one (Some before) = ap (λ at_name. Some (Making at_name ∷ before)) (sym also_is)
+  made : MadeSince has_made a.folder k.folder (Making also.items ∷ [])
+  made first before had =
+      nk first (Making also.items ∷ before) (ln.made first (Making also.items ∷ before) (ml.made first (Making also.items ∷ before)
+      (subst (λ at_name. has_made first m.folder (Making at_name ∷ before)) (sym also_is) (asked first before had))))
 
-  made : told k.folder ≡ told_since (Making also.items ∷ []) (told a.folder)
-  made = nk ∙ ln.told ∙ ml.told ∙ asked ∙ made_one (told a.folder)
+  pub makes_kept : Makes (logged_disk has_made) a k name (Ok true)
+  makes_kept = makes has_made a (before_make l) (before_make n) k name at also at_is also_is al (over has_made l n a.folder ln) gone is made
 
-  pub makes_kept : Makes (logged_disk told) a k name (Ok true)
-  makes_kept = makes told a (before_make l) (before_make n) k name at also at_is also_is al (over told l n a.folder ln) gone is made
+  pub makes_kept_alone : (other : Name) → other ≢ name → IsLeftAlone (logged_disk has_made) a k other
+  makes_kept_alone = makes_alone has_made a (before_make l) (before_make n) k name at also at_is also_is al (over has_made l n a.folder ln) gone is made
 
-  pub makes_kept_alone : (other : Name) → other ≢ name → IsLeftAlone (logged_disk told) a k other
-  makes_kept_alone = makes_alone told a (before_make l) (before_make n) k name at also at_is also_is al (over told l n a.folder ln) gone is made
+  pub makes_kept_did : Did (logged_disk has_made) a k (Making name ∷ [])
+  makes_kept_did = record {
+    kept = ap changes_in is ∙ ap (λ at_name. Making at_name ∷ changes_in (calls_of n)) also_is ∙ ap (λ (l : List Change). Making name ∷ l) (ln.kept ∙ ml.kept ∙ ap changes_in am);
+    made = λ first before had.
+        nk first.folder (Making name ∷ before) (ln.made first.folder (Making name ∷ before) (ml.made first.folder (Making name ∷ before) (asked first.folder before had)));
+  }
 
-  pub makes_kept_time : GoesOn (logged_disk told) a k
-  makes_kept_time = makes_time told a (before_make l) (before_make n) k name at also at_is also_is al (over told l n a.folder ln) gone is made
+  pub makes_kept_time : GoesOn (logged_disk has_made) a k
+  makes_kept_time = makes_time has_made a (before_make l) (before_make n) k name at also at_is also_is al (over has_made l n a.folder ln) gone is made
 
 -- what others did after a moment (a) since which no call was kept (b)
-pub after_same : {C : Type 0} (told : C → Option (List Change)) {a b c : LoggedFolder C} → IsOthersDoing told b c → calls_of b ≡ calls_of a → told b.folder ≡ told a.folder → IsOthersDoing told a c
-after_same told next is untold = does_on told _ _ _ (none_does told _ _ is untold) next
+pub after_same : {C : Type 0} (has_made : (first now : C) → List Change → Type 0) {a b c : LoggedFolder C} → IsOthersDoing has_made b c → calls_of b ≡ calls_of a → MadeSince has_made a.folder b.folder [] → IsOthersDoing has_made a c
+after_same has_made next is unmade = does_on has_made _ _ _ (none_does has_made _ _ is unmade) next
 
-pub not_made_after : {C : Type 0} (told : C → Option (List Change)) (a : LoggedFolder C) {b c : LoggedFolder C} (name : Name) (at : Vec ℕ Global) → IsOthersDoing told b c → (IsQuiet (logged_disk told) b c at.items → last_found (past (calls_of b) at.items) ≢ None) → at.items ≡ name
-    → calls_of b ≡ calls_of a → told b.folder ≡ told a.folder → IsQuiet (logged_disk told) a c name → last_found (past (calls_of a) name) ≢ None
-not_made_after told a name at next there at_is is untold = not_made told a _ _ a name at at at_is at_is (none_does told a _ is untold) next there
+pub not_made_after : {C : Type 0} (has_made : (first now : C) → List Change → Type 0) (a : LoggedFolder C) {b c : LoggedFolder C} (name : Name) (at : Vec ℕ Global) → IsOthersDoing has_made b c → (IsQuiet (logged_disk has_made) b c at.items → last_found (past (calls_of b) at.items) ≢ None) → at.items ≡ name
+    → calls_of b ≡ calls_of a → MadeSince has_made a.folder b.folder [] → IsQuiet (logged_disk has_made) a c name → last_found (past (calls_of a) name) ≢ None
+not_made_after has_made a name at next there at_is is unmade = not_made has_made a _ _ a name at at at_is at_is (none_does has_made a _ is unmade) next there
 
 -- a file gets another name
-module _ {C : Type 0} (told : C → Option (List Change)) (old new : LoggedFolder C) (from to : Name) (f t : Vec ℕ Global) (apart : from ≢ to) (f_is : f.items ≡ from) (t_is : t.items ≡ to) where
+module _ {C : Type 0} (has_made : (first now : C) → List Change → Type 0) (old new : LoggedFolder C) (from to : Name) (f t : Vec ℕ Global) (apart : from ≢ to) (f_is : f.items ≡ from) (t_is : t.items ≡ to) where
   there : is_same t.items to ≡ true
   there = is_it t to t_is
 
@@ -329,10 +344,10 @@ module _ {C : Type 0} (told : C → Option (List Change)) (old new : LoggedFolde
   gone_from : (older : List Call) → last_found (past (Renamed f t ∷ older) from) ≡ None
   gone_from older = rw (not_there, is_it f from f_is) refl
 
-  stays : (n : Name) → calls_of new ≡ Fault ∷ calls_of old → KeepsName (logged_disk told) old new n
-  stays n is = keeps_so told old new Fault is n (fault_all (calls_of old) n)
+  stays : (n : Name) → calls_of new ≡ Fault ∷ calls_of old → KeepsName (logged_disk has_made) old new n
+  stays n is = keeps_so has_made old new Fault is n (fault_all (calls_of old) n)
 
-  pub does_move : (result : Result (Unit {0}) Error) → is_ours (calls_of old) from ≡ true → Does (Renamed f t) (calls_of old) (calls_of new) result → Moves (logged_disk told) old new from to result
+  pub does_move : (result : Result (Unit {0}) Error) → is_ours (calls_of old) from ≡ true → Does (Renamed f t) (calls_of old) (calls_of new) result → Moves (logged_disk has_made) old new from to result
   does_move (Ok done) ours is = record {
     found = ap (λ calls. past calls to) is ∙ found_moved (calls_of old);
     gone = λ quiet. ap (λ calls. last_found (past calls from)) is ∙ gone_from (calls_of old);
@@ -341,7 +356,7 @@ module _ {C : Type 0} (told : C → Option (List Change)) (old new : LoggedFolde
   }
   does_move (Err error) ours is = (ap (λ calls. is_ours calls from) is ∙ ours, inl (stays to is))
 
-  pub does_crash : (result : Result (Unit {0}) Error) → Does (Renamed f t) (calls_of old) (calls_of new) result → IsOldOrMoved (logged_disk told) old new from to
+  pub does_crash : (result : Result (Unit {0}) Error) → Does (Renamed f t) (calls_of old) (calls_of new) result → IsOldOrMoved (logged_disk has_made) old new from to
   does_crash (Ok done) is moment left le since =
       ⊎_elim
       (λ now.
@@ -351,9 +366,9 @@ module _ {C : Type 0} (told : C → Option (List Change)) (old new : LoggedFolde
       (λ before. inl before.1) (subst (λ calls. left_since calls moment to left) is since)
   does_crash (Err error) is moment left le since = inl ((stays to is).since moment left le since)
 
-  pub does_rename_alone : (result : Result (Unit {0}) Error) → Does (Renamed f t) (calls_of old) (calls_of new) result → (n : Name) → n ≢ from → n ≢ to → IsLeftAlone (logged_disk told) old new n
+  pub does_rename_alone : (result : Result (Unit {0}) Error) → Does (Renamed f t) (calls_of old) (calls_of new) result → (n : Name) → n ≢ from → n ≢ to → IsLeftAlone (logged_disk has_made) old new n
   does_rename_alone result is n not_from not_to =
-      does_alone told old new (Renamed f t) result is n (renamed_else (calls_of old) n f t elsewhere (is_other t to n t_is not_to)) (λ ours. rw (elsewhere) ours)
+      does_alone has_made old new (Renamed f t) result is n (renamed_else (calls_of old) n f t elsewhere (is_other t to n t_is not_to)) (λ ours. rw (elsewhere) ours)
     where
       elsewhere : is_same f.items n ≡ false
       elsewhere = is_other f from n f_is not_from

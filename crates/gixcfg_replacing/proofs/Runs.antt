@@ -1,26 +1,24 @@
 -- How a run of calls goes on.
-use Rattle.std.proofs.Common.{◌≡◌, inl, inr, ⊎_elim, List, [], ◌++◌, Option, None, Some, refl, sym, ◌∙◌, ap, arith, append_assoc}
+use Rattle.std.proofs.Common.{◌≡◌, inl, inr, ⊎_elim, List, [], ◌++◌, Option, Some, refl, sym, ◌∙◌, ap, subst, arith, append_assoc}
 use Rattle.std.specs.declared.io.Error.{Error}
-use Rattle.gixcfg_replacing.specs.Changes.{Change, told_since}
-use Rattle.gixcfg_replacing.specs.Disk.{Name, Text, Disk, last_found, seen, lock_of, IsQuiet, KeepsName, IsLeftAlone, IsRespected, GoesOn, HasCause, IsDown, IsOldOrMoved}
+use Rattle.gixcfg_replacing.specs.Changes.{Change}
+use Rattle.gixcfg_replacing.specs.Disk.{Name, Text, Disk, last_found, seen, lock_of, IsQuiet, KeepsName, IsLeftAlone, IsRespected, Did, GoesOn, HasCause, IsDown, IsOldOrMoved}
 use Rattle.gixcfg_replacing.specs.Steps.{AddsOnly}
-
-pub told_none : (told : Option (List Change)) → told_since [] told ≡ told
-told_none None = refl
-told_none (Some before) = refl
-
-told_twice : (late early : List Change) (told : Option (List Change)) → told_since late (told_since early told) ≡ told_since (late ++ early) told
-told_twice late early None = refl
-told_twice late early (Some before) = ap Some (sym (append_assoc late early before))
 
 module _ {F : Type 0} (disk : Disk F) where
   pub unmoved : (a : F) (n : Name) → KeepsName disk a a n
   unmoved a n = record { found = refl; holds = λ text h. h; leaves = λ left h. h; since = λ t left le h. h }
 
   pub stays : (a : F) → GoesOn disk a a
-  stays a = record { later = omega arith; remembers = λ t n left le h. h; found = λ n. ([], refl); faults = omega arith; others = λ n. omega arith; made = ([], refl, sym (told_none (disk.told a))) }
+  stays a = record { later = omega arith; remembers = λ t n left le h. h; found = λ n. ([], refl); faults = omega arith; others = λ n. omega arith; made = ([], record { kept = refl; made = λ first before had. had }) }
 
   module _ (a b c : F) where
+    pub did_on : {early late : List Change} → Did disk a b early → Did disk b c late → Did disk a c (late ++ early)
+    did_on {early} {late} first next = record {
+      kept = next.kept ∙ ap (λ (l : List Change). late ++ l) first.kept ∙ sym (append_assoc late early (disk.kept a));
+      made = λ start before had. subst (disk.has_made start c) (sym (append_assoc late early before)) (next.made start (early ++ before) (first.made start before had));
+    }
+
     pub goes_on : GoesOn disk a b → GoesOn disk b c → GoesOn disk a c
     goes_on first next = record {
       later = omega (arith, first.later, next.later);
@@ -31,10 +29,7 @@ module _ {F : Type 0} (disk : Disk F) where
           (late.0 ++ early.0, late.1 ∙ ap (λ (l : List (Option Text)). late.0 ++ l) early.1 ∙ sym (append_assoc late.0 early.0 (disk.past a n)));
       faults = omega (arith, first.faults, next.faults);
       others = λ n. omega (arith, first.others n, next.others n);
-      made =
-          let early = first.made in
-          let late = next.made in
-          (late.0 ++ early.0, late.1 ∙ ap (λ (l : List Change). late.0 ++ l) early.1 ∙ sym (append_assoc late.0 early.0 (disk.kept a)), late.2 ∙ ap (told_since late.0) early.2 ∙ told_twice late.0 early.0 (disk.told a));
+      made = (next.made.0 ++ first.made.0, did_on first.made.1 next.made.1);
     }
 
     pub keeps_on : (n : Name) → GoesOn disk a b → KeepsName disk a b n → KeepsName disk b c n → KeepsName disk a c n

@@ -1,5 +1,5 @@
 -- The calls that change a folder, as they are made on it.
-use Rattle.std.specs.Prelude.{ℕ, Bool, true, false, List, ◌∷◌, ◌++◌, Option, None, Some, Result, Ok, Err}
+use Rattle.std.specs.Prelude.{ℕ, Bool, true, false, List, [], ◌∷◌, ◌++◌, Result, Ok, Err}
 use Rattle.std.specs.declared.io.Error.{Error}
 
 pub data Change : Type 0 where
@@ -11,20 +11,17 @@ pub data Change : Type 0 where
   Removing : (name : List ℕ) → Change
   SyncingNames : Change
 
--- what is told of the calls that were done, the last first, after these more; nothing where nothing is told
-abbrev pub told_since : List Change → Option (List Change) → Option (List Change)
-told_since since None = None
-told_since since (Some before) = Some (since ++ before)
+-- a call's change, if the call was done
+abbrev pub if_done : Result (Unit {0}) Error → Change → List Change
+if_done (Ok done) change = change ∷ []
+if_done (Err error) change = []
 
--- after a call: that one too, if it was done
-abbrev pub told_after : Option (List Change) → Result (Unit {0}) Error → Change → Option (List Change)
-told_after None result change = None
-told_after (Some before) (Ok done) change = Some (change ∷ before)
-told_after (Some before) (Err error) change = Some before
+-- that of a call that was to make a file, if it did
+abbrev pub if_made : Result Bool Error → List ℕ → List Change
+if_made (Ok true) name = Making name ∷ []
+if_made (Ok false) name = []
+if_made (Err error) name = []
 
--- after a file was to be made, which is told where it was
-abbrev pub told_making : Option (List Change) → Result Bool Error → List ℕ → Option (List Change)
-told_making None result name = None
-told_making (Some before) (Ok true) name = Some (Making name ∷ before)
-told_making (Some before) (Ok false) name = Some before
-told_making (Some before) (Err error) name = Some before
+-- What may have been made on a folder since it was the first one, the last first, may have been made with these more at last.
+abbrev pub MadeSince : {C : Type 0} → (has_made : (first now : C) → List Change → Type 0) → (old new : C) → List Change → Type 0
+MadeSince {C} has_made old new since = (first : C) (before : List Change) → has_made first old before → has_made first new (since ++ before)

@@ -3,7 +3,7 @@ use Rattle.std.specs.Prelude.{◌≡◌, ◌≢◌, ◌⊎◌, ℕ, ◌<◌, ◌
 use Rattle.std.specs.IoError.{error_kind}
 use Rattle.std.specs.declared.io.Error.{Error}
 use Rattle.std.specs.declared.io.ErrorKind.TheVariants.{OutOfMemory}
-use Rattle.gixcfg_replacing.specs.Changes.{Change, told_since}
+use Rattle.gixcfg_replacing.specs.Changes.{Change, MadeSince}
 
 -- the name of a file in the folder, and its text, as bytes
 abbrev pub Name : Type 0
@@ -36,8 +36,8 @@ pub record Disk (F : Type 0) : Type 1 where
   pub others : F → Name → ℕ
   -- the calls that are taken to have been done, the last first
   pub kept : F → List Change
-  -- those that were done on what is below, the last first, where it tells them
-  pub told : F → Option (List Change)
+  -- These may be the calls that were done on what is below since it was the first one, the last first.
+  pub has_made : (first now : F) → List Change → Type 0
 
 -- the last of what was found; nothing where nothing ever was
 abbrev pub last_found : List (Option Text) → Option Text
@@ -84,6 +84,11 @@ module _ {F : Type 0} (disk : Disk F) (old new : F) where
     pub kept : IsQuiet name → KeepsName name
     pub ours : disk.ours old name → disk.ours new name
 
+  -- The calls that are taken to have been done since are these, the last first, and they were.
+  pub record Did (since : List Change) : Type 0 where
+    pub kept : disk.kept new ≡ since ++ disk.kept old
+    pub made : MadeSince disk.has_made old new since
+
   -- Time goes on, and what was found, and what a crash might have left, isn't forgotten.
   pub record GoesOn : Type 0 where
     pub later : disk.moment old ≤ disk.moment new
@@ -92,7 +97,7 @@ module _ {F : Type 0} (disk : Disk F) (old new : F) where
     pub faults : disk.faults old ≤ disk.faults new
     pub others : (name : Name) → disk.others old name ≤ disk.others new name
     -- The calls that are taken to have been done since are those that were.
-    pub made : (since : List Change) × (disk.kept new ≡ since ++ disk.kept old) × (disk.told new ≡ told_since since (disk.told old))
+    pub made : (since : List Change) × Did since
 
   -- what others do: they don't change what is ours, nor a file while we have its lock
   abbrev pub IsRespected : Name → Type 0

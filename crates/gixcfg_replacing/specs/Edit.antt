@@ -1,6 +1,7 @@
 -- What the replacement of a file's text does.
-use Rattle.std.specs.Prelude.{◌≡◌, ◌≢◌, ◌⊎◌, ℕ, ◌≤◌, List, ◌∷◌, ◌++◌, Option, None, Some, IfSome, codes}
+use Rattle.std.specs.Prelude.{◌≡◌, ◌≢◌, ◌⊎◌, ℕ, ◌≤◌, List, [], ◌∷◌, ◌++◌, Option, None, Some, IfSome, codes}
 use Rattle.std.specs.declared.io.Error.{Error}
+use Rattle.gixcfg_replacing.specs.Changes.{Change, Making, Sharing, Writing, Syncing, Renaming, Removing, SyncingNames}
 use Rattle.gixcfg_replacing.specs.Disk.{Name, Text, Disk, last_found, seen, IsAtRest, IsQuiet, KeepsName, IsLeftAlone, GoesOn, HasCause}
 use Rattle.gixcfg_replacing.specs.declared.ended.Ended.{Ended}
 use Rattle.gixcfg_replacing.specs.declared.ended.Ended.TheVariants.{Done, Changed, Locked, Drafted, Failed, Unsure, Unsynced}
@@ -9,6 +10,22 @@ use Rattle.gixcfg_replacing.specs.declared.ended.Edited.{Edited}
 -- the name of a file's draft by the process of a number
 abbrev pub draft_of : (file number : Name) → Name
 draft_of file number = (file ++ codes ".gixcfg-") ++ number
+
+-- the changes by which an empty draft gets the rights of its file and a text, down to the disk; the last first, as all changes are
+abbrev pub filling : (file draft : Name) (text : Text) → List Change
+filling file draft text = Syncing draft ∷ Writing draft text ∷ Sharing file draft ∷ []
+
+-- those by which a draft gets in place of its file, under the lock
+abbrev pub swapping : (file draft lock : Name) → List Change
+swapping file draft lock = Removing lock ∷ Renaming draft file ∷ Making lock ∷ []
+
+-- those of a whole edit
+abbrev pub editing : (file : Name) (text : Text) (draft lock : Name) → List Change
+editing file text draft lock = SyncingNames ∷ (swapping file draft lock ++ filling file draft text ++ Making draft ∷ [])
+
+-- an edit that is done, without a lock that it couldn't remove, is so by this
+abbrev pub IsDoneBy : Edited → Type 0 → Type 0
+IsDoneBy edited P = edited.ended ≡ Done → edited.lock ≡ None → P
 
 -- beside the file: what somebody else has at a name stays, and our own is gone, or it is told why it couldn't be removed
 pub record IsTidied {F : Type 0} (disk : Disk F) (old new : F) (name : Name) (told : Option Error) : Type 0 where

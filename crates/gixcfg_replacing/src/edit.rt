@@ -1,8 +1,10 @@
 //! The text of a file replaced in place.
-ghost use Rattle.std.specs.Prelude.{◌≡◌, ◌≢◌, ◌↔◌, ℕ, List, [], Option, Some, None, option_map, IfOk, IfErr, IfSome, OnOk, OnErr, IsTrue};
-ghost use Rattle.gixcfg_replacing.specs.Disk.{seen, lock_of, IsQuiet, KeepsName, IsLeftAlone, IsRespected, GoesOn, HasCause, IsDown};
-ghost use Rattle.gixcfg_replacing.specs.Edit.{draft_of as draft_of_lem, IsNext, IsTidied, LeavesOldOrNew, Edits};
+ghost use Rattle.std.specs.Prelude.{◌≡◌, ◌≢◌, ◌↔◌, ℕ, List, [], ◌∷◌, ◌++◌, Option, Some, None, option_map, IfOk, IfErr, IfSome, OnOk, OnErr, IsTrue};
+ghost use Rattle.gixcfg_replacing.specs.Changes.{Renaming, SyncingNames};
+ghost use Rattle.gixcfg_replacing.specs.Disk.{seen, lock_of, IsQuiet, KeepsName, IsLeftAlone, IsRespected, Did, GoesOn, HasCause, IsDown};
+ghost use Rattle.gixcfg_replacing.specs.Edit.{draft_of as draft_of_lem, IsNext, IsTidied, LeavesOldOrNew, Edits, IsDoneBy, filling, swapping, editing};
 ghost use Rattle.gixcfg_replacing.specs.Steps.{AreBeside, LeavesDraft, SwapsAs, LocksAs, SettlesAs, IsUndone, IsOwn, AddsOnly};
+ghost use Rattle.gixcfg_replacing.specs.declared.ended.Ended.TheVariants.{Done};
 
 use crate::ended::{Edited, Ended};
 use crate::folder::Folder;
@@ -19,6 +21,7 @@ fn fill<F: Folder>(folder: &mut F, file: &str, draft: &str, text: &[u8]) -> io::
     ensures alone { (other : List ℕ) → other ≢ draft.now → IsLeftAlone F.disk folder.old folder.new other }
     ensures time { GoesOn F.disk folder.old folder.new }
     ensures cause { IfErr result (HasCause F.disk folder.old folder.new) }
+    ensures did { OnOk result (Did F.disk folder.old folder.new (filling file.now draft.now text.now)) }
 {
     folder.share_rights(file, draft)?;
     folder.write(draft, text)?;
@@ -34,6 +37,7 @@ fn has<F: Folder>(folder: &mut F, file: &str, before: Option<&[u8]>) -> io::Resu
     ensures respect { (other : List ℕ) → IsRespected F.disk folder.old folder.new other }
     ensures time { GoesOn F.disk folder.old folder.new }
     ensures cause { IfErr result (HasCause F.disk folder.old folder.new) }
+    ensures did { OnOk result (Did F.disk folder.old folder.new []) }
 {
     let found = folder.read(file)?;
     Ok(found.as_deref() == before)
@@ -62,6 +66,7 @@ fn swap<F: Folder>(
     ensures alone { (other : List ℕ) → other ≢ draft.now → other ≢ file.now → IsLeftAlone F.disk folder.old folder.new other }
     ensures respect { (other : List ℕ) → other ≢ draft.now → IsRespected F.disk folder.old folder.new other }
     ensures time { GoesOn F.disk folder.old folder.new }
+    ensures did { OnOk result (Did F.disk folder.old folder.new (Renaming draft.now file.now ∷ [])) }
 {
     match has(folder, file, before) {
         Err(error) => Err(Ended::Failed(error)),
@@ -95,6 +100,7 @@ fn lock_and_swap<F: Folder>(
     ensures locked { IsTidied F.disk folder.old folder.new lock.now result.1 }
     ensures alone { (other : List ℕ) → other ≢ file.now → other ≢ draft.now → other ≢ lock.now → IsLeftAlone F.disk folder.old folder.new other }
     ensures time { GoesOn F.disk folder.old folder.new }
+    ensures did { OnOk result.0 (result.1 ≡ None → Did F.disk folder.old folder.new (swapping file.now draft.now lock.now)) }
 {
     match folder.make(lock) {
         Err(error) => (Err(Ended::Failed(error)), None),
@@ -111,6 +117,7 @@ fn settle<F: Folder>(folder: &mut F) -> Ended
     ensures ends { SettlesAs F.disk folder.old folder.new result }
     ensures alone { (other : List ℕ) → IsLeftAlone F.disk folder.old folder.new other }
     ensures time { GoesOn F.disk folder.old folder.new }
+    ensures did { result ≡ Done → Did F.disk folder.old folder.new (SyncingNames ∷ []) }
 {
     match folder.sync_names() {
         Ok(()) => Ended::Done,
@@ -133,6 +140,7 @@ fn put<F: Folder>(
     ensures edits { Edits F.disk folder.old folder.new file.now (option_map (λ text. text.now) before.entry) text.now draft.now lock.now result }
     ensures own { IsOwn result.ended }
     ensures gone { result.draft ≡ None → IsQuiet F.disk folder.old folder.new draft.now → seen F.disk folder.new draft.now ≡ None }
+    ensures did { IsDoneBy result (Did F.disk folder.old folder.new (SyncingNames ∷ swapping file.now draft.now lock.now)) }
 {
     let _text = text;
     let (swapped, lock) = lock_and_swap(folder, file, draft, lock, before);
@@ -165,6 +173,7 @@ fn fill_and_put<F: Folder>(
     ensures edits { Edits F.disk folder.old folder.new file.now (option_map (λ text. text.now) before.entry) text.now draft.now lock.now result }
     ensures own { IsOwn result.ended }
     ensures gone { result.draft ≡ None → IsQuiet F.disk folder.old folder.new draft.now → seen F.disk folder.new draft.now ≡ None }
+    ensures did { IsDoneBy result (Did F.disk folder.old folder.new (SyncingNames ∷ (swapping file.now draft.now lock.now ++ filling file.now draft.now text.now))) }
 {
     match fill(folder, file, draft, text) {
         Ok(()) => put(folder, file, draft, lock, before, text),
@@ -188,6 +197,7 @@ fn draft_and_put<F: Folder>(
     requires { AreBeside file.now draft.now lock.now }
     ensures edits { Edits F.disk folder.old folder.new file.now (option_map (λ text. text.now) before.entry) text.now draft.now lock.now result }
     ensures drafted { IsTidied F.disk folder.old folder.new draft.now result.draft }
+    ensures did { IsDoneBy result (Did F.disk folder.old folder.new (editing file.now text.now draft.now lock.now)) }
 {
     match folder.make(draft) {
         Ok(true) => fill_and_put(folder, file, draft, lock, before, text),
@@ -215,6 +225,8 @@ pub fn replace<F: Folder>(
     // If nobody else changes the file meanwhile, a crash at any moment leaves it with its old text or with the new one, whole.
     ensures whole { OnOk result (IsQuiet F.disk folder.old folder.new file.now → LeavesOldOrNew F.disk folder.old folder.new file.now text.now) }
     ensures drafted { IfOk result (λ edited. IsTidied F.disk folder.old folder.new (draft_of_lem file.now number.now) edited.draft) }
+    // An edit that is done has made these changes, in this order, and no other.
+    ensures did { IfOk result (λ edited. IsDoneBy edited (Did F.disk folder.old folder.new (editing file.now text.now (draft_of_lem file.now number.now) (lock_of file.now)))) }
     ensures err { OnErr result (folder.new ≡ folder.old) }
 {
     let draft = draft_of(alloc, file, number)?;

@@ -1,6 +1,7 @@
 //! A folder on a disk, as an edit in place sees it.
-ghost use Rattle.std.specs.Prelude.{◌≡◌, ◌≢◌, ◌≤◌, ℕ, List, [], Option, Some, None, option_map, IfOk, IfErr, OnOk};
-ghost use Rattle.gixcfg_replacing.specs.Disk.{Disk, seen, lock_of, IsQuiet, IsLeftAlone, IsRespected, GoesOn, HasCause, Makes, Moves, IsOldOrMoved, IsNameDown};
+ghost use Rattle.std.specs.Prelude.{◌≡◌, ◌≢◌, ◌≤◌, ℕ, true, List, [], ◌∷◌, Option, Some, None, Ok, option_map, IfOk, IfErr, OnOk};
+ghost use Rattle.gixcfg_replacing.specs.Changes.{Making, Sharing, Writing, Syncing, Renaming, Removing, SyncingNames};
+ghost use Rattle.gixcfg_replacing.specs.Disk.{Disk, seen, lock_of, IsQuiet, IsLeftAlone, IsRespected, Did, GoesOn, HasCause, Makes, Moves, IsOldOrMoved, IsNameDown};
 
 use std::io;
 
@@ -25,6 +26,7 @@ pub trait Folder {
         ensures text { IfOk result (λ found. IsQuiet disk self.old self.new name.now → option_map (λ text. text.items) found ≡ seen disk self.old name.now) }
         ensures alone { (other : List ℕ) → IsLeftAlone disk self.old self.new other }
         ensures respect { (other : List ℕ) → IsRespected disk self.old self.new other }
+        ensures did { OnOk result (Did disk self.old self.new []) }
         ensures time { GoesOn disk self.old self.new }
         ensures cause { IfErr result (HasCause disk self.old self.new) };
 
@@ -37,6 +39,7 @@ pub trait Folder {
         ensures made { Makes disk self.old self.new name.now result }
         ensures alone { (other : List ℕ) → other ≢ name.now → IsLeftAlone disk self.old self.new other }
         ensures respect { (other : List ℕ) → IsRespected disk self.old self.new other }
+        ensures did { result ≡ Ok true → Did disk self.old self.new (Making name.now ∷ []) }
         ensures time { GoesOn disk self.old self.new }
         ensures cause { IfErr result (HasCause disk self.old self.new) };
 
@@ -49,6 +52,7 @@ pub trait Folder {
         requires { disk.ours self.old to.now }
         ensures alone { (other : List ℕ) → IsLeftAlone disk self.old self.new other }
         ensures respect { (other : List ℕ) → IsRespected disk self.old self.new other }
+        ensures did { OnOk result (Did disk self.old self.new (Sharing from.now to.now ∷ [])) }
         ensures time { GoesOn disk self.old self.new }
         ensures cause { IfErr result (HasCause disk self.old self.new) };
 
@@ -64,6 +68,7 @@ pub trait Folder {
         ensures ours { disk.ours self.new name.now }
         ensures alone { (other : List ℕ) → other ≢ name.now → IsLeftAlone disk self.old self.new other }
         ensures respect { (other : List ℕ) → IsRespected disk self.old self.new other }
+        ensures did { OnOk result (Did disk self.old self.new (Writing name.now text.now ∷ [])) }
         ensures time { GoesOn disk self.old self.new }
         ensures cause { IfErr result (HasCause disk self.old self.new) };
 
@@ -79,6 +84,7 @@ pub trait Folder {
         ensures ours { disk.ours self.new name.now }
         ensures alone { (other : List ℕ) → other ≢ name.now → IsLeftAlone disk self.old self.new other }
         ensures respect { (other : List ℕ) → IsRespected disk self.old self.new other }
+        ensures did { OnOk result (Did disk self.old self.new (Syncing name.now ∷ [])) }
         ensures time { GoesOn disk self.old self.new }
         ensures cause { IfErr result (HasCause disk self.old self.new) };
 
@@ -96,6 +102,7 @@ pub trait Folder {
         ensures crash { IsOldOrMoved disk self.old self.new from.now to.now }
         ensures alone { (other : List ℕ) → other ≢ from.now → other ≢ to.now → IsLeftAlone disk self.old self.new other }
         ensures respect { (other : List ℕ) → other ≢ from.now → IsRespected disk self.old self.new other }
+        ensures did { OnOk result (Did disk self.old self.new (Renaming from.now to.now ∷ [])) }
         ensures time { GoesOn disk self.old self.new }
         ensures cause { IfErr result (HasCause disk self.old self.new) };
 
@@ -109,6 +116,7 @@ pub trait Folder {
         ensures gone { OnOk result (IsQuiet disk self.old self.new name.now → seen disk self.new name.now ≡ None) }
         ensures alone { (other : List ℕ) → other ≢ name.now → IsLeftAlone disk self.old self.new other }
         ensures respect { (other : List ℕ) → other ≢ name.now → IsRespected disk self.old self.new other }
+        ensures did { OnOk result (Did disk self.old self.new (Removing name.now ∷ [])) }
         ensures time { GoesOn disk self.old self.new }
         ensures cause { IfErr result (HasCause disk self.old self.new) };
 
@@ -121,6 +129,7 @@ pub trait Folder {
         ensures down { OnOk result ((name : List ℕ) → IsQuiet disk self.old self.new name → IsNameDown disk self.new name) }
         ensures alone { (other : List ℕ) → IsLeftAlone disk self.old self.new other }
         ensures respect { (other : List ℕ) → IsRespected disk self.old self.new other }
+        ensures did { OnOk result (Did disk self.old self.new (SyncingNames ∷ [])) }
         ensures time { GoesOn disk self.old self.new }
         ensures cause { IfErr result (HasCause disk self.old self.new) };
 

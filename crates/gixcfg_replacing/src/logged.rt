@@ -1,10 +1,10 @@
 //! A folder of which nothing is known, with a log of the calls on it.
-ghost use Rattle.std.specs.Prelude.{◌≡◌, ◌≢◌, ◌≤◌, ◌<◌, ◌+◌, ◌∷◌, ℕ, List, None, IfOk, IfErr, OnOk, option_map, false, true, Option};
+ghost use Rattle.std.specs.Prelude.{◌≡◌, ◌≢◌, ◌≤◌, ◌<◌, ◌+◌, ◌∷◌, ℕ, List, [], None, IfOk, IfErr, Ok, OnOk, option_map, false, true};
 ghost use Rattle.std.specs.Vec.{vec_len, vec_capacity};
-ghost use Rattle.gixcfg_replacing.specs.Changes.{Change, told_making, told_after, Sharing, Writing, Syncing, Renaming, Removing, SyncingNames};
-ghost use Rattle.gixcfg_replacing.specs.Disk.{seen as seen_lem, IsAtRest, IsQuiet, IsLeftAlone, IsRespected, GoesOn, HasCause, Makes};
+ghost use Rattle.gixcfg_replacing.specs.Changes.{Change, MadeSince, if_done, if_made, Making, Sharing, Writing, Syncing, Renaming, Removing, SyncingNames};
+ghost use Rattle.gixcfg_replacing.specs.Disk.{seen as seen_lem, IsAtRest, IsQuiet, IsLeftAlone, IsRespected, Did, GoesOn, HasCause, Makes};
 ghost use Rattle.gixcfg_replacing.specs.Calls.{is_ours as is_ours_lem, counts_now, only_now};
-ghost use Rattle.gixcfg_replacing.specs.Logged.{calls_of, logged_disk, IsFree, HasRoom, IsOthersDoing, Does};
+ghost use Rattle.gixcfg_replacing.specs.Logged.{below, calls_of, logged_disk, IsFree, HasRoom, IsOthersDoing, Does};
 ghost use Rattle.gixcfg_replacing.specs.declared.call.Call.TheVariants.{Fault};
 
 use crate::call::{Call, is_ours, seen};
@@ -15,10 +15,10 @@ use std::io;
 use std::io::ErrorKind;
 
 /// The calls of an edit on a folder, of which nothing is known. Those of [`Folder`](crate::Folder), with the names that it has, and without any
-/// promise of what they do. A folder may tell which changes it has made.
+/// promise of what they do. A folder may say which changes may have been made on it.
 pub trait FolderCalls {
-    /// The changes that it has made, the last one first, where it tells them.
-    ghost told: { Self → Option (List Change) };
+    /// The changes that may have been made on it since it was the first one, the last one first.
+    ghost has_made: { Self → Self → List Change → Type 0 };
 
     /// The text of the file at a name; none if nothing is there.
     ///
@@ -26,7 +26,7 @@ pub trait FolderCalls {
     ///
     /// It can't be opened or read.
     fn read(&mut self, name: &str) -> io::Result<Option<Vec<u8>>>
-        ensures { told self.new ≡ told self.old };
+        ensures { MadeSince has_made self.old self.new [] };
 
     /// Makes an empty file if nothing is at the name, and tells whether it did.
     ///
@@ -34,7 +34,7 @@ pub trait FolderCalls {
     ///
     /// It can't be made.
     fn make(&mut self, name: &str) -> io::Result<bool>
-        ensures { told self.new ≡ told_making (told self.old) result name.now };
+        ensures { MadeSince has_made self.old self.new (if_made result name.now) };
 
     /// Gives a file the rights of another one if that is there, as far as the process may.
     ///
@@ -42,7 +42,7 @@ pub trait FolderCalls {
     ///
     /// They can't be given.
     fn share_rights(&mut self, from: &str, to: &str) -> io::Result<()>
-        ensures { told self.new ≡ told_after (told self.old) result (Sharing from.now to.now) };
+        ensures { MadeSince has_made self.old self.new (if_done result (Sharing from.now to.now)) };
 
     /// Writes a text to a file that is empty.
     ///
@@ -50,7 +50,7 @@ pub trait FolderCalls {
     ///
     /// It can't be written.
     fn write(&mut self, name: &str, text: &[u8]) -> io::Result<()>
-        ensures { told self.new ≡ told_after (told self.old) result (Writing name.now text.now) };
+        ensures { MadeSince has_made self.old self.new (if_done result (Writing name.now text.now)) };
 
     /// Writes the text of a file down to the disk.
     ///
@@ -58,7 +58,7 @@ pub trait FolderCalls {
     ///
     /// It can't be written down.
     fn sync(&mut self, name: &str) -> io::Result<()>
-        ensures { told self.new ≡ told_after (told self.old) result (Syncing name.now) };
+        ensures { MadeSince has_made self.old self.new (if_done result (Syncing name.now)) };
 
     /// Gives a file another name, in place of the file that has it.
     ///
@@ -66,7 +66,7 @@ pub trait FolderCalls {
     ///
     /// It can't be renamed, or a disk that failed meanwhile has done it.
     fn rename(&mut self, from: &str, to: &str) -> io::Result<()>
-        ensures { told self.new ≡ told_after (told self.old) result (Renaming from.now to.now) };
+        ensures { MadeSince has_made self.old self.new (if_done result (Renaming from.now to.now)) };
 
     /// Removes a file, if it is there still.
     ///
@@ -74,7 +74,7 @@ pub trait FolderCalls {
     ///
     /// It can't be removed.
     fn remove(&mut self, name: &str) -> io::Result<()>
-        ensures { told self.new ≡ told_after (told self.old) result (Removing name.now) };
+        ensures { MadeSince has_made self.old self.new (if_done result (Removing name.now)) };
 
     /// Writes the names down to the disk.
     ///
@@ -82,7 +82,7 @@ pub trait FolderCalls {
     ///
     /// They can't be written down.
     fn sync_names(&mut self) -> io::Result<()>
-        ensures { told self.new ≡ told_after (told self.old) result SyncingNames };
+        ensures { MadeSince has_made self.old self.new (if_done result SyncingNames) };
 }
 
 /// How many calls a log has room for from its beginning: more than an edit makes.
@@ -118,8 +118,9 @@ impl<C: FolderCalls + Drop> LoggedFolder<C> {
         name: &str,
         before: Option<&[u8]>,
     ) -> Result<LoggedFolder<C>, AllocError>
-        ensures seen { IfOk result (λ logged. seen_lem (logged_disk C.told) logged name.now ≡ option_map (λ text. text.now) before.entry) }
-        ensures rest { IfOk result (λ logged. IsAtRest (logged_disk C.told) logged name.now) }
+        ensures seen { IfOk result (λ logged. seen_lem (logged_disk C.has_made) logged name.now ≡ option_map (λ text. text.now) before.entry) }
+        ensures rest { IfOk result (λ logged. IsAtRest (logged_disk C.has_made) logged name.now) }
+        ensures folder { IfOk result (λ logged. below logged ≡ folder) }
     {
         let at = copied(alloc, name.as_bytes())?;
         let also = copied(alloc, name.as_bytes())?;
@@ -141,12 +142,16 @@ impl<C: FolderCalls + Drop> LoggedFolder<C> {
     }
 
     /// The folder.
-    pub fn folder(&self) -> &C {
+    pub fn folder(&self) -> &C
+        ensures { result.now ≡ below self.now }
+    {
         &self.folder
     }
 
     /// The folder, without the log.
-    pub fn into_folder(self) -> C {
+    pub fn into_folder(self) -> C
+        ensures { result ≡ below self }
+    {
         self.folder
     }
 
@@ -212,8 +217,8 @@ impl<C: FolderCalls + Drop> LoggedFolder<C> {
     fn look(&mut self, name: &str) -> io::Result<()>
         requires room { HasRoom self.old 3 }
         requires free { IsFree (calls_of self.old) name.now }
-        ensures others { IsOthersDoing C.told self.old self.new }
-        ensures cause { IfErr result (HasCause (logged_disk C.told) self.old self.new) }
+        ensures others { IsOthersDoing C.has_made self.old self.new }
+        ensures cause { IfErr result (HasCause (logged_disk C.has_made) self.old self.new) }
         ensures room { HasRoom self.new 2 }
     {
         let at = copied(self.alloc, name.as_bytes())?;
@@ -232,7 +237,7 @@ impl<C: FolderCalls + Drop> LoggedFolder<C> {
     fn look_behind(&mut self, lock: &str)
         requires room { HasRoom self.old 3 }
         requires free { is_ours_lem (calls_of self.old) lock.now ≡ false }
-        ensures others { IsOthersDoing C.told self.old self.new }
+        ensures others { IsOthersDoing C.has_made self.old self.new }
         ensures room { HasRoom self.new 2 }
     {
         let Some(file) = lock.strip_suffix(LOCK) else {
@@ -250,9 +255,9 @@ impl<C: FolderCalls + Drop> LoggedFolder<C> {
     fn note(&mut self, at: Vec<u8>, is_there: bool)
         requires room { HasRoom self.old 2 }
         requires free { IsFree (calls_of self.old) at.items }
-        ensures others { IsOthersDoing C.told self.old self.new }
-        ensures there { is_there ≡ true → IsQuiet (logged_disk C.told) self.old self.new at.items → seen_lem (logged_disk C.told) self.old at.items ≢ None }
-        ensures gone { is_there ≡ false → IsQuiet (logged_disk C.told) self.old self.new at.items → seen_lem (logged_disk C.told) self.old at.items ≡ None }
+        ensures others { IsOthersDoing C.has_made self.old self.new }
+        ensures there { is_there ≡ true → IsQuiet (logged_disk C.has_made) self.old self.new at.items → seen_lem (logged_disk C.has_made) self.old at.items ≢ None }
+        ensures gone { is_there ≡ false → IsQuiet (logged_disk C.has_made) self.old self.new at.items → seen_lem (logged_disk C.has_made) self.old at.items ≡ None }
         ensures room { HasRoom self.new 1 }
     {
         let was_there = seen(&self.calls, &at).is_some();
@@ -265,8 +270,8 @@ impl<C: FolderCalls + Drop> LoggedFolder<C> {
 
     /// Looks at what is at a name if others may change that; or tells why it couldn't be read when its lock was made.
     fn refresh(&mut self, name: &str) -> io::Result<()>
-        ensures others { IsOthersDoing C.told self.old self.new }
-        ensures cause { IfErr result (HasCause (logged_disk C.told) self.old self.new) }
+        ensures others { IsOthersDoing C.has_made self.old self.new }
+        ensures cause { IfErr result (HasCause (logged_disk C.has_made) self.old self.new) }
     {
         self.calls.reserve(EACH)?;
         if let Some(error) = self.unread.take() {
@@ -281,11 +286,12 @@ impl<C: FolderCalls + Drop> LoggedFolder<C> {
     /// Makes an empty file if nothing is at a name that others may change.
     fn make_free(&mut self, name: &str) -> io::Result<bool>
         requires { IsFree (calls_of self.old) name.now }
-        ensures made { Makes (logged_disk C.told) self.old self.new name.now result }
-        ensures alone { (other : List ℕ) → other ≢ name.now → IsLeftAlone (logged_disk C.told) self.old self.new other }
-        ensures respect { (other : List ℕ) → IsRespected (logged_disk C.told) self.old self.new other }
-        ensures time { GoesOn (logged_disk C.told) self.old self.new }
-        ensures cause { IfErr result (HasCause (logged_disk C.told) self.old self.new) }
+        ensures made { Makes (logged_disk C.has_made) self.old self.new name.now result }
+        ensures alone { (other : List ℕ) → other ≢ name.now → IsLeftAlone (logged_disk C.has_made) self.old self.new other }
+        ensures respect { (other : List ℕ) → IsRespected (logged_disk C.has_made) self.old self.new other }
+        ensures did { result ≡ Ok true → Did (logged_disk C.has_made) self.old self.new (Making name.now ∷ []) }
+        ensures time { GoesOn (logged_disk C.has_made) self.old self.new }
+        ensures cause { IfErr result (HasCause (logged_disk C.has_made) self.old self.new) }
     {
         let at = copied(self.alloc, name.as_bytes())?;
         let also = self.ready(name)?;
@@ -306,7 +312,7 @@ impl<C: FolderCalls + Drop> LoggedFolder<C> {
 
     /// The text that the log has at a name.
     fn text_at(&self, name: &str) -> Result<Option<Vec<u8>>, AllocError>
-        ensures { IfOk result (λ found. option_map (λ text. text.items) found ≡ seen_lem (logged_disk C.told) self.now name.now) }
+        ensures { IfOk result (λ found. option_map (λ text. text.items) found ≡ seen_lem (logged_disk C.has_made) self.now name.now) }
     {
         match seen(&self.calls, name.as_bytes()) {
             Some(text) => Ok(Some(Vec::from_slice(self.alloc, text)?)),
@@ -316,7 +322,7 @@ impl<C: FolderCalls + Drop> LoggedFolder<C> {
 }
 
 impl<C: FolderCalls + Drop> Folder for LoggedFolder<C> {
-    ghost disk = { logged_disk C.told };
+    ghost disk = { logged_disk C.has_made };
 
     ghost counts_now = { λ folder t n left le now. counts_now (calls_of folder) t n left le now };
 
