@@ -5,7 +5,7 @@ use gitconf_sources::Process;
 use gix_config::NoMemory;
 use gix_config::host::{Env, EnvVar};
 use gix_config::refusals::Refusal;
-use gixcfg_commands::{Streams, Terminal, run_words, tell_ill_formed};
+use gixcfg_commands::{Invocation, Terminal, run_words, tell_ill_formed};
 use gixcfg_core::trouble::MEMORY;
 use std::alloc::Global;
 use std::env;
@@ -48,12 +48,11 @@ fn run_process(rt: &HostRuntime) -> Result<u8, NoMemory> {
         return Ok(tell_ill_formed(&mut rt.stderr()));
     };
     let args = borrowed(rt.alloc(), &words)?;
-    let streams = Streams {
-        input: rt.reader(),
-        out: rt.stdout(),
-        err: rt.stderr(),
+    let called = Invocation {
+        words: &args,
+        terminal: terminal_of(rt)?,
     };
-    run_words(rt, &args, terminal_of(rt)?, streams)
+    run_words(rt, called, rt.reader(), &mut rt.stdout(), &mut rt.stderr())
 }
 
 fn main(rt: HostRuntime) -> ExitCode {

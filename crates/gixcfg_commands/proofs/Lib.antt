@@ -8,3 +8,5 @@ mod SettingLemmas
 mod CleanEdits
 mod InPlaceLemmas
 mod LastMark
+mod PlainLemmas
+mod PlainResults

@@ -10,4 +10,5 @@ pub mod Getting
 pub mod InPlace
 pub mod Layouts
 pub mod Meant
+pub mod Plainly
 pub mod Setting

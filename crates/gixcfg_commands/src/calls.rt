@@ -1,6 +1,10 @@
 //! Calls, by their words.
-ghost use Rattle.std.specs.Prelude.{◌≡◌, IfOk};
+ghost use Rattle.std.specs.Prelude.{◌≡◌, map, true, IfOk, Some};
+ghost use Rattle.gixcfg_words.specs.Plain.{asked, plain_of, Plain};
+ghost use Rattle.gixcfg_words.specs.declared.command.Target.TheVariants as targets;
+ghost use Rattle.gixcfg_words.specs.declared.rules.Rules.TheVariants as rules;
 ghost use Rattle.gixcfg_core.specs.Troubles.{IsStatus};
+ghost use Rattle.gixcfg_commands.specs.Plainly.{is_of_input, plain_asked, plain_edit, EndsPlainly};
 
 use crate::checks::check;
 use crate::differing::diff;
@@ -9,9 +13,9 @@ use crate::layouts::fmt;
 use crate::{Asked, Loads, answer, located, located_target};
 use gitconf_sources::Process;
 use gitconf_text::NoMemory;
-use gixcfg_core::origins::Located;
 use gixcfg_core::outside::{Inputs, Outside};
 use gixcfg_core::places::home_of;
+use gixcfg_core::showing::{Told, show};
 use gixcfg_core::streams::put;
 use gixcfg_core::trouble::{Trouble, report};
 use gixcfg_files::EditFiles;
@@ -27,12 +31,13 @@ use std::rt::{Env, Files};
 /// The status of words that aren't understood.
 const USAGE: u8 = 2;
 
-/// Standard input, standard output and standard error.
-#[derive(Drop)]
-pub struct Streams<I: Read + Drop, W: Write + Drop, E: Write + Drop> {
-    pub input: I,
-    pub out: W,
-    pub err: E,
+/// What the program is called with.
+#[derive(Clone, Copy)]
+pub struct Invocation<'a> {
+    /// The words after its name.
+    pub words: &'a [&'a str],
+    /// What of the streams is a terminal.
+    pub terminal: Terminal,
 }
 
 /// What of the streams is a terminal.
@@ -54,7 +59,7 @@ impl Terminal {
     }
 }
 
-/// Runs the program with the words after its name, and returns its exit status: 0 done, 1 missing, 2 usage, 3 refused, 4 input, output or a
+/// Runs the program on its three streams, and returns its exit status: 0 done, 1 missing, 2 usage, 3 refused, 4 input, output or a
 /// file, 5 several entries or none, or out of memory, 128 no repository or no home folder to look in.
 ///
 /// # Errors
@@ -63,29 +68,27 @@ impl Terminal {
 pub fn run_words<
     R: EditFiles + Env + Loads + AllocGlobal + Copy,
     I: Read + Drop,
-    W: Write + Drop,
-    E: Write + Drop,
->(rt: &R, words: &[&str], terminal: Terminal, streams: Streams<I, W, E>) -> Result<u8, NoMemory>
-    ensures { IfOk result IsStatus }
+    W: Write,
+    E: Write,
+>(rt: &R, called: Invocation<'_>, input: I, out: &mut W, err: &mut E) -> Result<u8, NoMemory>
+    ensures known { IfOk result IsStatus }
+    ensures plain { (plain : Plain) → asked (map (λ w. w.now) called.entry.words.now) ≡ Some plain → is_of_input plain ≡ true
+        → IfOk result (EndsPlainly plain (I.remaining input) (W.contents out.old) (W.contents out.new)) }
 {
-    let Streams {
-        input,
-        mut out,
-        mut err,
-    } = streams;
-    let call = match read(rt.alloc(), words) {
+    let terminal = called.terminal;
+    let call = match read(rt.alloc(), called.words) {
         Ok(call) => call,
-        Err(fault) => return Ok(tell_fault(rt.alloc(), words, fault, terminal, &mut err)),
+        Err(fault) => return Ok(tell_fault(rt.alloc(), called, fault, err)),
     };
     if terminal.is_typed && call.command.reads_input() {
-        tell_input(&mut err);
+        tell_input(err);
     }
     let home = home_of(&mut Process::new(*rt))?;
     let outside = Outside {
         is_colored: terminal.is_colored,
         home: home.as_deref(),
     };
-    Ok(do_call(rt, outside, input, call, &mut out, &mut err))
+    Ok(do_call(rt, outside, input, call, out, err))
 }
 
 /// Does a call with what lies around it, and returns the status.
@@ -97,7 +100,9 @@ fn do_call<'a, R: EditFiles + Env + Loads + AllocGlobal + Copy, I: Read + Drop, 
     out: &mut W,
     err: &mut E,
 ) -> u8
-    ensures { IsStatus result }
+    ensures known { IsStatus result }
+    ensures plain { (plain : Plain) → plain_of call.entry.command ≡ Some plain → is_of_input plain ≡ true → call.entry.rules ≡ rules.Library
+        → EndsPlainly plain (I.remaining input) (W.contents out.old) (W.contents out.new) result }
 {
     let Call { command, rules } = call;
     let mut inputs = Inputs {
@@ -135,19 +140,13 @@ fn usage<E: Write>(err: &mut E) -> u8
 }
 
 /// Tells what is wrong with the words, and returns the status.
-fn tell_fault<E: Write>(
-    alloc: Global,
-    words: &[&str],
-    fault: Fault<'_>,
-    terminal: Terminal,
-    err: &mut E,
-) -> u8
+fn tell_fault<E: Write>(alloc: Global, called: Invocation<'_>, fault: Fault<'_>, err: &mut E) -> u8
     ensures { IsStatus result }
 {
     if let Fault::Memory = fault {
         return report(&Trouble::Memory, "", Rules::Git, err);
     }
-    if !has_options(words) && !terminal.is_typed {
+    if !has_options(called.words) && !called.terminal.is_typed {
         return tell_without_options(alloc, fault, err);
     }
     match fault::tell(alloc, fault, err) {
@@ -176,7 +175,9 @@ fn do_command<R: EditFiles + Env + Loads + AllocGlobal + Copy, I: Read + Drop, W
     out: &mut W,
     err: &mut E,
 ) -> u8
-    ensures { IsStatus result }
+    ensures known { IsStatus result }
+    ensures plain { (plain : Plain) → plain_of command.entry ≡ Some plain → is_of_input plain ≡ true → inputs.old.rules ≡ rules.Library
+        → EndsPlainly plain (I.remaining inputs.old.input) (W.contents out.old) (W.contents out.new) result }
 {
     match command {
         Command::Help(verb) => print(help_on(verb), out, err),
@@ -215,26 +216,26 @@ fn do_reading<R: Files + Env + Loads + AllocGlobal + Copy, I: Read + Drop, W: Wr
     out: &mut W,
     err: &mut E,
 ) -> u8
-    ensures { IsStatus result }
+    ensures known { IsStatus result }
+    ensures plain { (plain : Plain) → plain_asked asked.entry ≡ Some plain → is_of_input plain ≡ true → inputs.old.rules ≡ rules.Library
+        → EndsPlainly plain (I.remaining inputs.old.input) (W.contents out.old) (W.contents out.new) result }
 {
     let rules = inputs.rules;
     match located(inputs.rt, asked.source()) {
-        Ok(read) => match print_answer(inputs, asked, &read, out) {
-            Ok(()) => 0,
-            Err(trouble) => report(&trouble, read.name(), rules, err),
-        },
+        Ok(read) => {
+            let lines = answer(inputs, asked, &read);
+            show(
+                lines,
+                &Told {
+                    name: read.name(),
+                    rules,
+                },
+                out,
+                err,
+            )
+        }
         Err(trouble) => report(&trouble, asked.source().word(), rules, err),
     }
-}
-
-/// Prints an answer.
-fn print_answer<R: Files + Env + Loads + AllocGlobal + Copy, I: Read + Drop, W: Write>(
-    inputs: &mut Inputs<'_, R, I>,
-    asked: Asked<'_>,
-    read: &Located,
-    out: &mut W,
-) -> Result<(), Trouble> {
-    put(&answer(inputs, asked, read)?, out)
 }
 
 /// Does an edit.
@@ -245,13 +246,12 @@ fn do_edit<R: EditFiles + Env + AllocGlobal, I: Read + Drop, W: Write, E: Write>
     out: &mut W,
     err: &mut E,
 ) -> u8
-    ensures { IsStatus result }
+    ensures known { IsStatus result }
+    ensures plain { (plain : Plain) → target.entry ≡ targets.Input → plain_edit call.entry ≡ Some plain → inputs.old.rules ≡ rules.Library
+        → EndsPlainly plain (I.remaining inputs.old.input) (W.contents out.old) (W.contents out.new) result }
 {
     match located_target(inputs.rt, target) {
-        Ok(place) => match carry_out(inputs, &place, call, out, err) {
-            Ok(()) => 0,
-            Err(trouble) => report(&trouble, place.name(), inputs.rules, err),
-        },
+        Ok(place) => carry_out(inputs, &place, call, out, err),
         Err(trouble) => report(&trouble, target.word(), inputs.rules, err),
     }
 }

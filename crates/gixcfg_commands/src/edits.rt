@@ -1,5 +1,5 @@
 //! Edits: `set`, `unset`, `rename-section`, `remove-section` and `fmt`.
-ghost use Rattle.std.specs.Prelude.{◌≡◌, ◌-◌, ◌==◌, List, [], length, map, not, option_map, is_some, string_bytes, true, unwrap_or, IfErr, IfOk, None, Ok, OnOk};
+ghost use Rattle.std.specs.Prelude.{◌≡◌, ◌-◌, ◌==◌, List, [], length, map, not, option_map, is_some, string_bytes, true, unwrap_or, IfErr, IfOk, None, Ok, OnOk, Some};
 ghost use Rattle.std.specs.Option.{option_copied};
 ghost use Rattle.bstr.specs.Owned.{bstring_bytes};
 ghost use Rattle.gitconf_text.specs.Document.{IsText};
@@ -27,22 +27,25 @@ ghost use Rattle.gixcfg_commands.specs.Setting.{IsGivenText, IsPlacedText, IsPus
 ghost use Rattle.gixcfg_files.specs.Replacing.{known};
 ghost use Rattle.gixcfg_files.specs.declared.place.Replaced.TheVariants.{Done};
 ghost use Rattle.gixcfg_commands.specs.InPlace.{IsDone, IsNewText, is_synced};
+ghost use Rattle.gixcfg_words.specs.Plain.{Plain};
+ghost use Rattle.gixcfg_words.specs.declared.rules.Rules.TheVariants as rules;
+ghost use Rattle.gixcfg_core.specs.Troubles.{IsStatus};
+ghost use Rattle.gixcfg_core.specs.declared.origins.Located.TheVariants as located;
+ghost use Rattle.gixcfg_commands.specs.Plainly.{plain_edit, EndsPlainly, Gives, GivesOfInput, IsOutcome};
 ghost use Rattle.gixcfg_commands.specs.Meant.{IsMeant, count_marked, plain_holder, removals, spared, values_of_key, without_marked};
 ghost use Rattle.gitconf_store.specs.declared.rename_section.Error.TheVariants.{Section};
 
 use crate::beginnings::marked;
 use crate::emptied::emptied;
-use crate::layouts::{laid_out, layout_of};
+use crate::layouts::laid_out;
 use crate::library;
 use crate::meant::{Meant, are_named, entries_meant, remove_meant, section_of_last};
 use crate::named::Text;
-use crate::refusals::told;
 use bstr::BString;
 use gitconf_text::parse::section::header;
 use gix_config::file::multi_value_mut::MultiValueMut;
 use gix_config::file::section_mut::{self, SectionMut};
 use gix_config::file::{SectionId, rename_section};
-use gix_config::format::normalize;
 use gix_config::lookup::existing;
 use gix_config::refusals::Refusal;
 use gix_config::{File, KeyRef};
@@ -50,8 +53,9 @@ use gixcfg_core::comments;
 use gixcfg_core::entries::has_names;
 use gixcfg_core::origins::Located;
 use gixcfg_core::outside::{Inputs, Outside, accepted};
-use gixcfg_core::streams::{put, read_all};
-use gixcfg_core::trouble::{Trouble, of_number};
+use gixcfg_core::showing::{Told, show};
+use gixcfg_core::streams::read_all;
+use gixcfg_core::trouble::{Trouble, of_number, report};
 use gixcfg_core::typed::stored;
 use gixcfg_files::{EditCalls, EditFiles, Fault, Place, Replaced, Replacement, System};
 use gixcfg_words::command::{Fmt, Placing, Removal, Renaming, Set, Unset, Values};
@@ -89,17 +93,32 @@ impl Edit<'_> {
 /// How often an edit is begun at most of a file that others change meanwhile.
 const TRIES: usize = 16;
 
-/// Carries an edit out: of a file in place, of standard input to standard output. What the user has to know of is told, a line each.
+/// Carries an edit out: of a file in place, of standard input to standard output, and returns the status. What the user has to know of is told, a
+/// line each.
 pub fn carry_out<R: EditFiles + AllocGlobal, I: Read + Drop, W: Write, E: Write>(
     inputs: &mut Inputs<'_, R, I>,
     place: &Located,
     edit: Edit<'_>,
     out: &mut W,
     err: &mut E,
-) -> Result<(), Trouble> {
+) -> u8
+    ensures known { IsStatus result }
+    ensures plain { (plain : Plain) → place.now ≡ located.Input → plain_edit edit.entry ≡ Some plain → inputs.old.rules ≡ rules.Library
+        → EndsPlainly plain (I.remaining inputs.old.input) (W.contents out.old) (W.contents out.new) result }
+{
+    let told = Told {
+        name: place.name(),
+        rules: inputs.rules,
+    };
     match place.path() {
-        Some(path) => edit_in_place(inputs.rt, path, edit, inputs.outside, err),
-        None => put(&edited_input(inputs, place, edit)?, out),
+        Some(path) => match edit_in_place(inputs.rt, path, edit, inputs.outside, err) {
+            Ok(()) => 0,
+            Err(trouble) => report(&trouble, told.name, told.rules, err),
+        },
+        None => {
+            let edited = edited_input(inputs, place, edit);
+            show(edited, &told, out, err)
+        }
     }
 }
 
@@ -108,18 +127,29 @@ fn edited_input<R: AllocGlobal, I: Read + Drop>(
     inputs: &mut Inputs<'_, R, I>,
     place: &Located,
     edit: Edit<'_>,
-) -> Result<BString, Trouble> {
+) -> Result<Vec<u8>, Trouble>
+    ensures { (plain : Plain) → plain_edit edit.entry ≡ Some plain → inputs.old.rules ≡ rules.Library
+        → GivesOfInput (λ text. text.items) (IsOutcome plain) (I.remaining inputs.old.input) result }
+{
     let alloc = inputs.rt.alloc();
-    let text = read_all(alloc, &mut inputs.input)?;
-    match (inputs.rules, edit) {
-        (Rules::Library, Edit::Set(set)) => {
-            Ok(library::with_value(alloc, text, set.key, set.value)?.to_bstring()?)
-        }
-        (Rules::Library, Edit::Unset(unset)) => {
-            Ok(library::without_entry(alloc, text, unset.key)?.to_bstring()?)
-        }
-        (Rules::Library, Edit::Fmt(fmt)) => told(alloc, normalize(alloc, &text, layout_of(fmt))),
-        (_, edit) => edited(alloc, edit, place.name(), &text, inputs.outside),
+    match read_all(alloc, &mut inputs.input) {
+        Ok(text) => match inputs.rules {
+            Rules::Library => edited_plainly(alloc, text, edit),
+            Rules::Git => Ok(edited(alloc, edit, place.name(), &text, inputs.outside)?.into_vec()),
+        },
+        Err(trouble) => Err(trouble),
+    }
+}
+
+/// What an edit without options makes of a text. No other edit goes by the library's rules.
+fn edited_plainly(alloc: Global, text: Vec<u8>, edit: Edit<'_>) -> Result<Vec<u8>, Trouble>
+    ensures { (plain : Plain) → plain_edit edit.entry ≡ Some plain → Gives (λ text. text.items) (IsOutcome plain text.items) result }
+{
+    match edit {
+        Edit::Set(set) => library::with_value(alloc, text, set.key, set.value),
+        Edit::Unset(unset) => library::without_entry(alloc, text, unset.key),
+        Edit::Fmt(fmt) => library::laid_out(alloc, text.as_slice(), fmt),
+        Edit::RenameSection(_) | Edit::RemoveSection(_) => Err(Trouble::NoSection),
     }
 }
 

@@ -1,5 +1,11 @@
 //! `fmt`.
-ghost use Rattle.std.specs.Prelude.{◌≡◌, IfErr, IfOk};
+ghost use Rattle.std.specs.Prelude.{◌≡◌, IfErr, IfOk, Some};
+ghost use Rattle.gixcfg_words.specs.Plain.{Plain};
+ghost use Rattle.gixcfg_words.specs.declared.command.Target.TheVariants as targets;
+ghost use Rattle.gixcfg_words.specs.declared.rules.Rules.TheVariants as rules;
+ghost use Rattle.gixcfg_core.specs.declared.origins.Located.TheVariants as located;
+ghost use Rattle.gixcfg_commands.specs.Plainly.{plain_edit, EndsPlainly};
+ghost use Rattle.gixcfg_commands.specs.declared.edits.Edit.TheVariants as edits;
 ghost use Rattle.bstr.specs.Owned.{bstring_bytes};
 ghost use Rattle.gitconf_layout.specs.Layout.{IsLayout};
 ghost use Rattle.gixcfg_core.specs.Answers.{IsRefusedText};
@@ -26,7 +32,9 @@ pub fn fmt<R: EditFiles + Env + AllocGlobal, I: Read + Drop, W: Write, E: Write>
     out: &mut W,
     err: &mut E,
 ) -> u8
-    ensures { IsStatus result }
+    ensures known { IsStatus result }
+    ensures plain { (plain : Plain) → plain_edit (edits.Fmt fmt.entry) ≡ Some plain → inputs.old.rules ≡ rules.Library
+        → EndsPlainly plain (I.remaining inputs.old.input) (W.contents out.old) (W.contents out.new) result }
 {
     match &fmt.files {
         Files::One(target) => fmt_target(inputs, *target, fmt, out, err),
@@ -59,13 +67,12 @@ fn fmt_target<R: EditFiles + Env + AllocGlobal, I: Read + Drop, W: Write, E: Wri
     out: &mut W,
     err: &mut E,
 ) -> u8
-    ensures { IsStatus result }
+    ensures known { IsStatus result }
+    ensures plain { (plain : Plain) → target.entry ≡ targets.Input → plain_edit (edits.Fmt fmt.entry) ≡ Some plain → inputs.old.rules ≡ rules.Library
+        → EndsPlainly plain (I.remaining inputs.old.input) (W.contents out.old) (W.contents out.new) result }
 {
     match located_target(inputs.rt, target) {
-        Ok(place) => match lay_out(inputs, &place, fmt, out, err) {
-            Ok(()) => 0,
-            Err(trouble) => report(&trouble, place.name(), inputs.rules, err),
-        },
+        Ok(place) => lay_out(inputs, &place, fmt, out, err),
         Err(trouble) => report(&trouble, target.word(), inputs.rules, err),
     }
 }
@@ -77,10 +84,27 @@ fn lay_out<R: EditFiles + AllocGlobal, I: Read + Drop, W: Write, E: Write>(
     fmt: &Fmt<'_>,
     out: &mut W,
     err: &mut E,
-) -> Result<(), Trouble> {
-    if !fmt.is_check {
-        return carry_out(inputs, place, Edit::Fmt(fmt), out, err);
+) -> u8
+    ensures known { IsStatus result }
+    ensures plain { (plain : Plain) → place.now ≡ located.Input → plain_edit (edits.Fmt fmt.entry) ≡ Some plain → inputs.old.rules ≡ rules.Library
+        → EndsPlainly plain (I.remaining inputs.old.input) (W.contents out.old) (W.contents out.new) result }
+{
+    if fmt.is_check {
+        match check_layout(inputs, place, fmt) {
+            Ok(()) => 0,
+            Err(trouble) => report(&trouble, place.name(), inputs.rules, err),
+        }
+    } else {
+        carry_out(inputs, place, Edit::Fmt(fmt), out, err)
     }
+}
+
+/// Finds whether a file is laid out.
+fn check_layout<R: EditFiles + AllocGlobal, I: Read + Drop>(
+    inputs: &mut Inputs<'_, R, I>,
+    place: &Located,
+    fmt: &Fmt<'_>,
+) -> Result<(), Trouble> {
     let Some(text) = inputs.text_of(place.path())? else {
         return Err(Trouble::NoFile);
     };

@@ -25,7 +25,7 @@ mod reads;
 mod refusals;
 mod system;
 
-pub use calls::{Streams, Terminal, run_words, tell_ill_formed};
+pub use calls::{Invocation, Terminal, run_words, tell_ill_formed};
 pub use loads::Loads;
 pub use paths::{located, located_target};
 pub use reads::{Asked, answer};

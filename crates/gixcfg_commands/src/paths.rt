@@ -1,4 +1,8 @@
 //! Where the file is that a call is about.
+ghost use Rattle.std.specs.Prelude.{◌≡◌, Ok};
+ghost use Rattle.gixcfg_words.specs.declared.command.Source.TheVariants as sources;
+ghost use Rattle.gixcfg_words.specs.declared.command.Target.TheVariants as targets;
+ghost use Rattle.gixcfg_core.specs.declared.origins.Located.TheVariants.{Input};
 
 use gix_config::refusals::Refusal;
 use gix_config::{File, KeyRef};
@@ -16,10 +20,9 @@ use std::rt::{Env, Files};
 /// # Errors
 ///
 /// It is a file of git's that isn't found; out of memory.
-pub fn located<R: Files + Env + AllocGlobal>(
-    rt: &R,
-    source: Source<'_>,
-) -> Result<Located, Trouble> {
+pub fn located<R: Files + Env + AllocGlobal>(rt: &R, source: Source<'_>) -> Result<Located, Trouble>
+    ensures { source.entry ≡ sources.Target targets.Input → result ≡ Ok Input }
+{
     match source {
         Source::Effective => Ok(Located::Effective),
         Source::Target(Target::Default) => match variable(rt, "GIT_CONFIG")? {
@@ -38,7 +41,9 @@ pub fn located<R: Files + Env + AllocGlobal>(
 pub fn located_target<R: Files + Env + AllocGlobal>(
     rt: &R,
     target: Target<'_>,
-) -> Result<Located, Trouble> {
+) -> Result<Located, Trouble>
+    ensures { target.entry ≡ targets.Input → result ≡ Ok Input }
+{
     match target {
         Target::Input => Ok(Located::Input),
         Target::File(path) => Ok(Located::File(String::from_str(rt.alloc(), path)?, None)),

@@ -1,5 +1,9 @@
 //! `get`, `list` and `print`.
-ghost use Rattle.std.specs.Prelude.{◌≡◌, IfOk, None, map};
+ghost use Rattle.std.specs.Prelude.{◌≡◌, IfOk, None, Some, map, true};
+ghost use Rattle.gixcfg_words.specs.Plain.{Entries, Plain, plain_of_get};
+ghost use Rattle.gixcfg_words.specs.declared.rules.Rules.TheVariants as rules;
+ghost use Rattle.gixcfg_core.specs.declared.origins.Located.TheVariants as located;
+ghost use Rattle.gixcfg_commands.specs.Plainly.{is_of_input, plain_asked, GivesOfInput, IsOutcome};
 ghost use Rattle.gixcfg_core.specs.Entries.{plain_found};
 ghost use Rattle.gixcfg_commands.specs.Getting.{AreFound, AreMeantLines, IsSought};
 
@@ -35,8 +39,12 @@ pub enum Asked<'a> {
 }
 
 impl<'a> Asked<'a> {
+    ghost use Rattle.gixcfg_commands.specs.Plainly.{source_of};
+
     /// What is read for it.
-    pub fn source(&self) -> Source<'a> {
+    pub fn source(&self) -> Source<'a>
+        ensures { result ≡ source_of self.now }
+    {
         match self {
             Asked::Get(get) => get.reading.source,
             Asked::List(list) => list.reading.source,
@@ -54,14 +62,19 @@ pub fn answer<R: Files + Env + Loads + AllocGlobal + Copy, I: Read + Drop>(
     inputs: &mut Inputs<'_, R, I>,
     asked: Asked<'_>,
     read: &Located,
-) -> Result<Vec<u8>, Trouble> {
+) -> Result<Vec<u8>, Trouble>
+    ensures { (plain : Plain) → plain_asked asked.entry ≡ Some plain → is_of_input plain ≡ true → inputs.old.rules ≡ rules.Library → read.now ≡ located.Input
+        → GivesOfInput (λ lines. lines.items) (IsOutcome plain) (I.remaining inputs.old.input) result }
+{
     match asked {
         Asked::Get(call) => get(inputs, call, read),
         Asked::List(call) => list(inputs, call, read),
         Asked::Input => {
             let alloc = inputs.rt.alloc();
-            let file = library::load(alloc, read_all(alloc, &mut inputs.input)?)?;
-            Ok(file.to_bstring()?.into_vec())
+            match read_all(alloc, &mut inputs.input) {
+                Ok(text) => library::printed(alloc, text),
+                Err(trouble) => Err(trouble),
+            }
         }
     }
 }
@@ -82,10 +95,25 @@ fn get<R: Files + Env + Loads + AllocGlobal + Copy, I: Read + Drop>(
     inputs: &mut Inputs<'_, R, I>,
     get: &Get<'_>,
     read: &Located,
-) -> Result<Vec<u8>, Trouble> {
-    if let (Rules::Library, Wanted::Key(key)) = (inputs.rules, get.wanted) {
-        return library::values(inputs, key, get, read);
+) -> Result<Vec<u8>, Trouble>
+    ensures { (plain : Plain) → plain_of_get get.now ≡ Some plain → is_of_input plain ≡ true → inputs.old.rules ≡ rules.Library → read.now ≡ located.Input
+        → GivesOfInput (λ lines. lines.items) (IsOutcome plain) (I.remaining inputs.old.input) result }
+{
+    match inputs.rules {
+        Rules::Library => match get.wanted {
+            Wanted::Key(key) => library::values(inputs, key, get, read),
+            Wanted::Keys(_) | Wanted::ForUrl(_) => get_as_git(inputs, get, read),
+        },
+        Rules::Git => get_as_git(inputs, get, read),
     }
+}
+
+/// The same, as git does it.
+fn get_as_git<R: Files + Env + Loads + AllocGlobal + Copy, I: Read + Drop>(
+    inputs: &mut Inputs<'_, R, I>,
+    get: &Get<'_>,
+    read: &Located,
+) -> Result<Vec<u8>, Trouble> {
     if let Some(key) = key_alone(get, read) {
         return last_line(inputs, key, &get.form, read);
     }
@@ -150,11 +178,28 @@ fn list<R: Files + Env + Loads + AllocGlobal, I: Read + Drop>(
     inputs: &mut Inputs<'_, R, I>,
     list: &List<'_>,
     read: &Located,
+) -> Result<Vec<u8>, Trouble>
+    ensures { inputs.old.rules ≡ rules.Library → GivesOfInput (λ lines. lines.items) (IsOutcome Entries) (I.remaining inputs.old.input) result }
+{
+    match inputs.rules {
+        Rules::Library => {
+            let alloc = inputs.rt.alloc();
+            match read_all(alloc, &mut inputs.input) {
+                Ok(text) => library::entries(alloc, text),
+                Err(trouble) => Err(trouble),
+            }
+        }
+        Rules::Git => list_as_git(inputs, list, read),
+    }
+}
+
+/// The same, as git does it.
+fn list_as_git<R: Files + Env + Loads + AllocGlobal, I: Read + Drop>(
+    inputs: &mut Inputs<'_, R, I>,
+    list: &List<'_>,
+    read: &Located,
 ) -> Result<Vec<u8>, Trouble> {
     let (alloc, home) = (inputs.rt.alloc(), inputs.outside.home);
-    if inputs.rules == Rules::Library {
-        return library::entries(alloc, read_all(alloc, &mut inputs.input)?);
-    }
     match (file_at(inputs, &list.reading, read)?, list.form.kind) {
         (Some(file), None) => all_lines(alloc, &file, &list.form, read),
         (Some(file), Some(_)) => {

@@ -20,7 +20,7 @@ pub fn told<T: Drop, E: Refusal + Display + Drop>(
     made: Result<T, E>,
 ) -> Result<T, Trouble>
     ensures done { IfOk result (λ value. made ≡ Ok value) }
-    ensures refused { IfErr result (λ trouble. (trouble ≡ Memory) ⊎ ((refusal : E) × (made ≡ Err refusal) × (status_of trouble ≡ refusal_status (E.number_of refusal)))) }
+    ensures refused { IfErr result (λ trouble. (trouble ≡ Memory) ⊎ ((refusal : E) × (made ≡ Err refusal) × (E.number_of refusal ≡ 27 → trouble ≡ Memory) × (status_of trouble ≡ refusal_status (E.number_of refusal)))) }
 {
     match made {
         Ok(value) => Ok(value),
@@ -30,7 +30,8 @@ pub fn told<T: Drop, E: Refusal + Display + Drop>(
 
 /// The trouble that a refusal by the library is, told by its number.
 pub fn by_number<E: Refusal + Display>(alloc: Global, refusal: &E) -> Trouble
-    ensures { (result ≡ Memory) ⊎ (status_of result ≡ refusal_status (E.number_of refusal.now)) }
+    ensures status { (result ≡ Memory) ⊎ (status_of result ≡ refusal_status (E.number_of refusal.now)) }
+    ensures memory { E.number_of refusal.now ≡ 27 → result ≡ Memory }
 {
     let number = refusal.number();
     let message = match number {

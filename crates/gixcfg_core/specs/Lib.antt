@@ -12,6 +12,7 @@ pub mod Origins
 pub mod Patterns
 pub mod Posix
 pub mod Quoted
+pub mod Shown
 pub mod Telling
 pub mod Troubles
 pub mod Typed

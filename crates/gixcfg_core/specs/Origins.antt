@@ -12,6 +12,12 @@ use Rattle.gixcfg_core.specs.declared.lines.Line.{Line}
 use Rattle.gixcfg_core.specs.declared.origins.Located.{Located}
 use Rattle.gixcfg_core.specs.declared.origins.Located.TheVariants.{Input, File, Effective}
 
+-- the path of what is read, if it is a file
+abbrev pub path_of : Located → Option (List ℕ)
+path_of Input = None
+path_of (File path place) = Some (string_bytes path)
+path_of Effective = None
+
 -- the scope of a source, by git's word for it
 abbrev pub scope_of_source : Source → List ℕ
 scope_of_source sources.GitInstallation = codes "system"

@@ -25,6 +25,7 @@ mod posix;
 mod quoted;
 mod reason;
 pub mod refusals;
+pub mod showing;
 pub mod streams;
 pub mod telling;
 pub mod texts;

@@ -21,6 +21,10 @@ pub enum Located {
 }
 
 impl Located {
+    ghost use Rattle.std.specs.Option.{option_copied};
+    ghost use Rattle.std.specs.Prelude.{◌≡◌};
+    ghost use Rattle.gixcfg_core.specs.Origins.{path_of};
+
     /// What it is called in messages.
     pub fn name(&self) -> &str {
         match self {
@@ -40,7 +44,9 @@ impl Located {
     }
 
     /// The path of the file, if it is one.
-    pub fn path(&self) -> Option<&str> {
+    pub fn path(&self) -> Option<&str>
+        ensures { option_copied result ≡ path_of self.now }
+    {
         match self {
             Located::File(path, _) => Some(path.as_str()),
             Located::Input | Located::Effective => None,

@@ -1,6 +1,7 @@
 //! Refusals of the library's calls, as troubles.
 ghost use Rattle.std.specs.Prelude.{◌≡◌};
 ghost use Rattle.gixcfg_core.specs.Troubles.{refusal_status, status_of};
+ghost use Rattle.gixcfg_core.specs.declared.trouble.Trouble.TheVariants.{Memory};
 
 use crate::trouble::Trouble;
 use std::alloc::Global;
@@ -16,7 +17,8 @@ pub fn trouble_of<D: Display>(alloc: Global, number: u8, refusal: &D) -> Trouble
 
 /// The trouble that a refusal of this number is, with its message.
 pub fn of_refusal(number: u8, message: String) -> Trouble
-    ensures { status_of result ≡ refusal_status number }
+    ensures status { status_of result ≡ refusal_status number }
+    ensures memory { number ≡ 27 → result ≡ Memory }
 {
     if number == 27 {
         Trouble::Memory

@@ -4,7 +4,7 @@ use crate::machine::{Machine, State};
 use crate::streams::{Source, Target};
 use crate::tree::{Node, Tree};
 use gix_config::NoMemory;
-use gixcfg_commands::{Streams, Terminal, run_words, tell_ill_formed};
+use gixcfg_commands::{Invocation, Terminal, run_words, tell_ill_formed};
 use std::alloc::{AllocError, Global};
 use std::mem::replace;
 
@@ -54,13 +54,12 @@ impl Session {
         let mut input = replace(&mut self.input, Source::of(Vec::new(self.alloc)));
         let mut out = Target::new(self.alloc, self.out)?;
         let mut err = Target::new(self.alloc, self.err)?;
-        let streams = Streams {
-            input: &mut input,
-            out: &mut out,
-            err: &mut err,
+        let called = Invocation {
+            words,
+            terminal: Terminal::none(),
         };
         let machine = Machine { state: &self.state };
-        let status = run_words(&machine, words, Terminal::none(), streams)?;
+        let status = run_words(&machine, called, &mut input, &mut out, &mut err)?;
         ended(status, out, err, input.count())
     }
 

@@ -3,7 +3,7 @@
 use crate::machine::{Machine, State};
 use crate::tree::{Node, Tree};
 use gix_config::NoMemory;
-use gixcfg_commands::{Streams, Terminal, run_words};
+use gixcfg_commands::{Invocation, Terminal, run_words};
 use std::alloc::{AllocError, AllocGlobal, Global};
 
 /// The rights that files have.
@@ -125,11 +125,10 @@ fn called_on(
     let alloc = machine.alloc();
     let words: Vec<&str> = words.split(' ').collect(alloc)?;
     let (mut out, mut err) = (Vec::new(alloc), Vec::new(alloc));
-    let streams = Streams {
-        input: input.as_bytes(),
-        out: &mut out,
-        err: &mut err,
+    let called = Invocation {
+        words: &words,
+        terminal,
     };
-    let status = run_words(&machine, &words, terminal, streams)?;
+    let status = run_words(&machine, called, input.as_bytes(), &mut out, &mut err)?;
     Ok(Done { status, out, err })
 }

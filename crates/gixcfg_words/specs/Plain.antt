@@ -1,10 +1,11 @@
 -- What the words of a call without options ask for.
 -- Source: this project's manual page, "Description".
-use Rattle.std.specs.Prelude.{ℕ, ◌&&◌, Bool as Truth, true, false, not, List, [], ◌∷◌, Option, Some, None, if◌then◌else◌, codes, is_none, option_and_then, option_map}
+use Rattle.std.specs.Prelude.{◌≡◌, Result, Ok, Err, ℕ, ◌&&◌, Bool as Truth, true, false, not, List, [], ◌∷◌, Option, Some, None, if◌then◌else◌, codes, is_none, option_and_then, option_map}
 use Rattle.std.specs.Borrow.{Bor}
 use Rattle.std.specs.Str.{bytes_eq}
 use Rattle.gitconf_sources.specs.Key.{Key, key_of}
 use Rattle.gixcfg_words.specs.Keys.{key_asked}
+use Rattle.gixcfg_words.specs.declared.command.Call.{Call}
 use Rattle.gixcfg_words.specs.declared.command.Choice.{Choice}
 use Rattle.gixcfg_words.specs.declared.command.Choice.TheVariants as choices
 use Rattle.gixcfg_words.specs.declared.command.Command.{Command}
@@ -26,6 +27,7 @@ use Rattle.gixcfg_words.specs.declared.command.Values.{Values}
 use Rattle.gixcfg_words.specs.declared.command.Values.TheVariants.{Any}
 use Rattle.gixcfg_words.specs.declared.command.Wanted.{Wanted}
 use Rattle.gixcfg_words.specs.declared.command.Wanted.TheVariants as wanted
+use Rattle.gixcfg_words.specs.declared.rules.Rules.TheVariants as rules
 use Rattle.gixcfg_words.specs.declared.kinds.Kind.{Kind}
 use Rattle.gixcfg_words.specs.declared.kinds.Kind.TheVariants as kinds
 
@@ -101,6 +103,13 @@ plain_of (commands.Set set) = plain_of_set set.target set.kind set.placing set.c
 plain_of (commands.Unset unset) = plain_of_unset unset.target unset.values unset.is_all (key_of unset.key)
 plain_of (commands.Fmt fmt) = plain_of_fmt fmt.files fmt.is_check fmt.indent fmt.newline
 plain_of command = None
+
+-- a call without options asks for what its words do, by the library's rules; all others go by git's
+abbrev pub IsCallOf : {E : Type 0} → Option Plain → Result Call E → Type 0
+IsCallOf (Some plain) (Ok call) = (plain_of call.command ≡ Some plain) × (call.rules ≡ rules.Library)
+IsCallOf (Some plain) (Err fault) = ⊥
+IsCallOf None (Ok call) = call.rules ≡ rules.Git
+IsCallOf None (Err fault) = Unit {0}
 
 -- what one word asks for
 abbrev pub asked_alone : (word : List ℕ) → Option Plain

@@ -1,4 +1,6 @@
 //! What the words of a call ask for.
+ghost use Rattle.std.specs.Prelude.{map};
+ghost use Rattle.gixcfg_words.specs.Plain.{asked, IsCallOf};
 
 use crate::command::{
     Call, Check, Choice, Command, Diff, Fallback, Files, Fmt, ForUrl, Get, List, Placing, Removal,
@@ -20,7 +22,9 @@ use std::alloc::Global;
 /// # Errors
 ///
 /// What is wrong with the first word that isn't understood, else with their number, else with how options go together. Out of memory.
-pub fn read<'a>(alloc: Global, words: &[&'a str]) -> Result<Call<'a>, Fault<'a>> {
+pub fn read<'a>(alloc: Global, words: &[&'a str]) -> Result<Call<'a>, Fault<'a>>
+    ensures { IsCallOf (asked (map (λ w. w.now) words.now)) result }
+{
     match plain_command(words) {
         Some(command) => Ok(Call {
             command,

@@ -1,0 +1,7 @@
+use Rattle.gixcfg_commands.proofs.PlainLemmas.{shown_so}
+use Rattle.gixcfg_commands.proofs.edits.carry_out.Goals as goal
+
+pub returns-in-None-clause-plain : goal.returns-in-None-clause-plain
+returns-in-None-clause-plain g c = λ plain at is by.
+    shown_so (λ text. text.items) plain (g.I.Read.remaining c.args.inputs.now.input) (g.W.Write.contents c.args.out.now) (g.W.Write.contents c.show.new.out) c.edited_input-edited.result c.show.result
+    (c.edited_input-edited.ensures plain is by) c.show.ensures.shown

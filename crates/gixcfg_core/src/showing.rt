@@ -1,0 +1,36 @@
+//! What a call answers, on standard output, or why not, on standard error.
+ghost use Rattle.gixcfg_core.specs.Shown.{IsShown};
+ghost use Rattle.gixcfg_core.specs.Troubles.{IsStatus};
+
+use crate::streams::put;
+use crate::trouble::{Trouble, report};
+use gixcfg_words::rules::Rules;
+use std::io::Write;
+
+/// How a trouble is told: with which name, by whose rules.
+#[derive(Clone, Copy)]
+pub struct Told<'a> {
+    /// What is called so that was read.
+    pub name: &'a str,
+    /// The rules.
+    pub rules: Rules,
+}
+
+/// Writes an answer to standard output, or tells the trouble for which there is none, and returns the exit status.
+pub fn show<W: Write, E: Write>(
+    answer: Result<Vec<u8>, Trouble>,
+    told: &Told<'_>,
+    out: &mut W,
+    err: &mut E,
+) -> u8
+    ensures known { IsStatus result }
+    ensures shown { IsShown (λ text. text.items) answer (W.contents out.old) (W.contents out.new) result }
+{
+    match answer {
+        Ok(text) => match put(&text, out) {
+            Ok(()) => 0,
+            Err(trouble) => report(&trouble, told.name, told.rules, err),
+        },
+        Err(trouble) => report(&trouble, told.name, told.rules, err),
+    }
+}
