@@ -468,14 +468,14 @@ typedef struct gix_config_view {
  *
  * 3 if the file would be too long. 102 if a handle has no file, 27 when out of memory. The file is then as it
  * was. */
-uint32_t gix_config_file_append(gix_config_file *file, gix_config_file *other_file);
+uint32_t gix_config_file_append(gix_config_file *file, const gix_config_file *other_file);
 
 /* Tells whether two files are equal: the same sections in order, with the same keys that mean the same. Names
  * are compared without ASCII case. Comments, blanks, what comes before the first section and where sections come
  * from aren't compared.
  *
  * 102 if a handle has no file; the boolean is then as it was. */
-uint32_t gix_config_file_equal(gix_config_file *file, gix_config_file *other_file, bool *equal);
+uint32_t gix_config_file_equal(const gix_config_file *file, const gix_config_file *other_file, bool *equal);
 
 /* Hands out what two files say differently, sorted by key: of each key of which they say different things the
  * entries of the file, in order, and then those of the other file. What was in the list's handle is closed. The
@@ -483,12 +483,14 @@ uint32_t gix_config_file_equal(gix_config_file *file, gix_config_file *other_fil
  * look-ups of it find the same value.
  *
  * 102 if a handle of a file has none, 27 when out of memory; the list's handle is then as it was. */
-uint32_t gix_config_differences(gix_config_file *file, gix_config_file *other_file, gix_config_list *list);
+uint32_t gix_config_differences(const gix_config_file *file, const gix_config_file *other_file,
+    gix_config_list *list);
 
 /* Tells where the parts of a difference of a list lie, counted from 0. They lie there until the list is closed.
  *
  * 100 for a number past the end, 102 if the handle has no list of differences; the place is then as it was. */
-uint32_t gix_config_list_difference(gix_config_list *list, size_t index, gix_config_difference *difference);
+uint32_t gix_config_list_difference(const gix_config_list *list, size_t index,
+    gix_config_difference *difference);
 
 /* Adds an entry to the last section of the key's names, after all others that it has: also one of a name that is
  * there already. Without a value it is the name alone, which is true as a boolean.
@@ -511,12 +513,12 @@ uint32_t gix_config_remove_value(gix_config_file *file, const gix_config_key *ke
  * before the first section are not among them: no key names them.
  *
  * 102 if the handle has no file, 27 when out of memory; the list's handle is then as it was. */
-uint32_t gix_config_entries(gix_config_file *file, gix_config_list *list);
+uint32_t gix_config_entries(const gix_config_file *file, gix_config_list *list);
 
 /* Tells where the parts of an entry of a list lie, counted from 0. They lie there until the list is closed.
  *
  * 100 for a number past the end, 102 if the handle has no list of entries; the place is then as it was. */
-uint32_t gix_config_list_entry(gix_config_list *list, size_t index, gix_config_entry *entry);
+uint32_t gix_config_list_entry(const gix_config_list *list, size_t index, gix_config_entry *entry);
 
 /* Loads the file of the entries that variables of the environment set (`GIT_CONFIG_COUNT`, `GIT_CONFIG_KEY_0`,
  * `GIT_CONFIG_VALUE_0` and so on), with what it includes, from what a program told of variables and of files.
@@ -530,7 +532,7 @@ uint32_t gix_config_list_entry(gix_config_list *list, size_t index, gix_config_e
  * of one is refused: its path is then in the block. 3 and 12 to 18 if an include is refused. 101 if a text that
  * has to be UTF-8 isn't, 102 if the handle is not one for what is told, 27 when out of memory. The file's handle
  * is as it was after any number but 0, and the block after any but 1, 2, 19, 20, 22 to 26, 103 and 105. */
-uint32_t gix_config_load_env_told(gix_config_told *told, const gix_config_includes *includes,
+uint32_t gix_config_load_env_told(const gix_config_told *told, const gix_config_includes *includes,
     gix_config_file *file, gix_config_bytes *asked);
 
 /* Gives the last entry of a key another value: in the last section of the key's names that has one. No entry is
@@ -555,7 +557,7 @@ uint32_t gix_config_set_existing_values(gix_config_file *file, const gix_config_
 /* Hands out the text of a file. What the block had is freed.
  *
  * 102 if the handle has no file, 27 when out of memory; the block is then as it was. */
-uint32_t gix_config_file_text(gix_config_file *file, gix_config_bytes *text);
+uint32_t gix_config_file_text(const gix_config_file *file, gix_config_bytes *text);
 
 /* Frees the bytes of a block, and leaves it empty; an empty one stays empty. */
 void gix_config_bytes_free(gix_config_bytes *bytes);
@@ -566,26 +568,26 @@ void gix_config_refusal_text(uint32_t number, gix_config_text *text);
 
 /* As gix_config_value, in the sections that the filter keeps: the numbers 7 and 8 are those of gix_config_value,
  * and 9 is also that none of the sections that are kept has such a value. */
-uint32_t gix_config_value_filter(gix_config_file *file, const gix_config_key *key,
+uint32_t gix_config_value_filter(const gix_config_file *file, const gix_config_key *key,
     const gix_config_filter *filter, gix_config_bytes *value);
 
 /* As gix_config_values, in the sections that the filter keeps. The numbers are those of gix_config_value_filter. */
-uint32_t gix_config_values_filter(gix_config_file *file, const gix_config_key *key,
+uint32_t gix_config_values_filter(const gix_config_file *file, const gix_config_key *key,
     const gix_config_filter *filter, gix_config_list *list);
 
 /* As gix_config_boolean, in the sections that the filter keeps. The numbers are the same. */
-uint32_t gix_config_boolean_filter(gix_config_file *file, const gix_config_key *key,
+uint32_t gix_config_boolean_filter(const gix_config_file *file, const gix_config_key *key,
     const gix_config_filter *filter, bool *value);
 
 /* As gix_config_integer, in the sections that the filter keeps. The numbers are the same. */
-uint32_t gix_config_integer_filter(gix_config_file *file, const gix_config_key *key,
+uint32_t gix_config_integer_filter(const gix_config_file *file, const gix_config_key *key,
     const gix_config_filter *filter, int64_t *value);
 
 /* Hands out the text of what comes before the first section, and of the sections that the filter keeps. What the
  * block had is freed.
  *
  * 102 if the handle has no file, 27 when out of memory; the block is then as it was. */
-uint32_t gix_config_file_text_filter(gix_config_file *file, const gix_config_filter *filter,
+uint32_t gix_config_file_text_filter(const gix_config_file *file, const gix_config_filter *filter,
     gix_config_bytes *text);
 
 /* Loads the configuration of the machine and of the user, from what a program told of files and of variables:
@@ -598,7 +600,7 @@ uint32_t gix_config_file_text_filter(gix_config_file *file, const gix_config_fil
  * of one is refused: its path is then in the block, too. 3 and 12 to 18 if a file or its includes are refused.
  * 101 if a place is not UTF-8, 102 if the handle is not one for what is told, 27 when out of memory. The file's
  * handle is as it was after any number but 0, and the block after any but 1, 2, 19 to 21, 103 and 105. */
-uint32_t gix_config_load_globals_told(gix_config_told *told, const gix_config_places *places,
+uint32_t gix_config_load_globals_told(const gix_config_told *told, const gix_config_places *places,
     gix_config_file *file, gix_config_bytes *asked);
 
 /* Fills in the usual layout: a tab before names, ` = `, the line ending of the text, one line ending at the end,
@@ -645,12 +647,12 @@ uint32_t gix_config_remove_marked_at(gix_config_file *file, size_t place, const 
     size_t name_len, const bool *marks, size_t marks_len, size_t *count);
 
 /* Tells how many texts, entries, sections or differences are in a list: 0 if the handle has no list. */
-size_t gix_config_list_len(gix_config_list *list);
+size_t gix_config_list_len(const gix_config_list *list);
 
 /* Tells where a text of a list lies, counted from 0. It lies there until the list is closed.
  *
  * 100 for a number past the end, 102 if the handle has no list of texts; the place is then as it was. */
-uint32_t gix_config_list_at(gix_config_list *list, size_t index, gix_config_text *text);
+uint32_t gix_config_list_at(const gix_config_list *list, size_t index, gix_config_text *text);
 
 /* Closes a list; an empty handle stays empty. */
 void gix_config_list_close(gix_config_list *list);
@@ -665,7 +667,7 @@ void gix_config_list_close(gix_config_list *list);
  * isn't, 104 if no source or trust has the number, 102 if the handle is not one for what is told, 27 when out of
  * memory. The file's handle is as it was after any number but 0, and the block after any but 1, 2, 19 to 21 and
  * 103. */
-uint32_t gix_config_load_told(gix_config_told *told, const gix_config_load *load, gix_config_file *file,
+uint32_t gix_config_load_told(const gix_config_told *told, const gix_config_load *load, gix_config_file *file,
     gix_config_bytes *path);
 
 /* Reads the files that a file's sections include, from what a program told, and puts each after the section that
@@ -676,7 +678,7 @@ uint32_t gix_config_load_told(gix_config_told *told, const gix_config_load *load
  * refused: its path is then in the block, too. 3 and 12 to 18 if an include is refused. 101 if a text that has
  * to be UTF-8 isn't, 102 if a handle is not one for what is told or has no file, 27 when out of memory. The file
  * is as it was after any number but 0, and the block after any but 1, 2, 19 to 21 and 103. */
-uint32_t gix_config_resolve_includes_told(gix_config_told *told, gix_config_file *file,
+uint32_t gix_config_resolve_includes_told(const gix_config_told *told, gix_config_file *file,
     const gix_config_includes *includes, gix_config_bytes *path);
 
 /* Hands out what the last value of a key means. What the block had is freed.
@@ -684,31 +686,32 @@ uint32_t gix_config_resolve_includes_told(gix_config_told *told, gix_config_file
  * 7, 8 or 9 if there is none: no section has the name, none of these has the subsection, or these have no such
  * value. 101 if the section's or the value's name is not UTF-8, 102 if the handle has no file, 27 when out of
  * memory. The block is then as it was. */
-uint32_t gix_config_value(gix_config_file *file, const gix_config_key *key, gix_config_bytes *value);
+uint32_t gix_config_value(const gix_config_file *file, const gix_config_key *key, gix_config_bytes *value);
 
 /* Hands out what all values of a key mean, one or more, in file order. What was in the list's handle is closed.
  *
  * The numbers of gix_config_value; the list's handle is then as it was. */
-uint32_t gix_config_values(gix_config_file *file, const gix_config_key *key, gix_config_list *list);
+uint32_t gix_config_values(const gix_config_file *file, const gix_config_key *key, gix_config_list *list);
 
 /* Tells what the last value of a key means as a boolean; an entry without `=` is true.
  *
  * 100 if there is no entry, 11 for a value that is no boolean. 101 if the section's or the value's name is not
  * UTF-8, 102 if the handle has no file, 27 when out of memory. The boolean is then as it was. */
-uint32_t gix_config_boolean(gix_config_file *file, const gix_config_key *key, bool *value);
+uint32_t gix_config_boolean(const gix_config_file *file, const gix_config_key *key, bool *value);
 
 /* Tells what the last value of a key means as an integer, times its suffix.
  *
  * 100 if there is none, 11 for a value that is no integer or that 64 bits don't hold. 101 if the section's or
  * the value's name is not UTF-8, 102 if the handle has no file, 27 when out of memory. The integer is then as it
  * was. */
-uint32_t gix_config_integer(gix_config_file *file, const gix_config_key *key, int64_t *value);
+uint32_t gix_config_integer(const gix_config_file *file, const gix_config_key *key, int64_t *value);
 
 /* Tells where a file comes from, and hands out its path, if it has one: that of the file itself, also where its
  * sections come from others. What the block had is freed then.
  *
  * 102 if the handle has no file, 27 when out of memory. Origin and block are then as they were. */
-uint32_t gix_config_file_origin(gix_config_file *file, gix_config_origin *origin, gix_config_bytes *path);
+uint32_t gix_config_file_origin(const gix_config_file *file, gix_config_origin *origin,
+    gix_config_bytes *path);
 
 /* Adds a line to the section at a place, counted from 0, after all others that it has: also one of a name that
  * is there already, with the blanks that the section uses. A comment comes after ` #`.
@@ -785,7 +788,7 @@ void gix_config_file_close(gix_config_file *file);
 /* Makes a copy of a file. What was in its handle before is closed.
  *
  * 102 if the handle has no file, 27 when out of memory; the other handle is then as it was. */
-uint32_t gix_config_file_clone(gix_config_file *file, gix_config_file *other_file);
+uint32_t gix_config_file_clone(const gix_config_file *file, gix_config_file *other_file);
 
 /* Hands out the last value of a key as a path, with the shorthand at its front replaced: `%(prefix)/` by the
  * folder where git is installed, `~/` by the user's home folder. What the block had is freed.
@@ -794,8 +797,8 @@ uint32_t gix_config_file_clone(gix_config_file *file, gix_config_file *other_fil
  * users; 13 for a path that is not UTF-8, 14 for the name of a user that is not. 101 if the section's or the
  * value's name, or a folder that is known, is not UTF-8, 102 if the handle has no file, 27 when out of memory.
  * The block is then as it was. */
-uint32_t gix_config_path(gix_config_file *file, const gix_config_key *key, const gix_config_folders *folders,
-    gix_config_bytes *path);
+uint32_t gix_config_path(const gix_config_file *file, const gix_config_key *key,
+    const gix_config_folders *folders, gix_config_bytes *path);
 
 /* Tells the names of a key that is written in one text, such as `remote.origin.url`: the section's is before the
  * first dot, the value's behind the last one, and the subsection's between them, if these are two. They lie in
@@ -829,27 +832,28 @@ uint32_t gix_config_integer_parse(const uint8_t *text, size_t text_len, int64_t 
  * them. 3 to 6 and 12 to 18 if a file, an entry or an include is refused. 101 if a text that has to be UTF-8
  * isn't, 102 if the handle is not one for what is told, 27 when out of memory. The file's handle is as it was
  * after any number but 0, and the block after any but 1, 2, 19 to 26, 103 and 105. */
-uint32_t gix_config_load_repository_told(gix_config_told *told, const gix_config_repository *repository,
+uint32_t gix_config_load_repository_told(const gix_config_told *told, const gix_config_repository *repository,
     gix_config_file *file, gix_config_bytes *asked);
 
 /* Hands out the sections of a file, in order: their names, where they come from, and how many entries each has.
  * What was in the list's handle is closed.
  *
  * 102 if the handle has no file, 27 when out of memory; the list's handle is then as it was. */
-uint32_t gix_config_sections(gix_config_file *file, gix_config_list *list);
+uint32_t gix_config_sections(const gix_config_file *file, gix_config_list *list);
 
 /* Tells where the names of a section of a list lie, counted from 0, where it comes from, and how many entries it
  * has. They lie there until the list is closed.
  *
  * 100 for a number past the end, 102 if the handle has no list of sections; the place is then as it was. */
-uint32_t gix_config_list_section(gix_config_list *list, size_t index, gix_config_listed_section *section);
+uint32_t gix_config_list_section(const gix_config_list *list, size_t index,
+    gix_config_listed_section *section);
 
 /* Hands out the entries of a section, counted from 0 as in the list of gix_config_sections, in order. What was
  * in the list's handle is closed.
  *
  * 100 for a number past the end, 102 if the handle has no file, 27 when out of memory; the list's handle is then
  * as it was. */
-uint32_t gix_config_section_entries(gix_config_file *file, size_t index, gix_config_list *list);
+uint32_t gix_config_section_entries(const gix_config_file *file, size_t index, gix_config_list *list);
 
 /* Removes the last section that has the name, without ASCII case, and exactly the subsection.
  *
@@ -948,7 +952,7 @@ uint32_t gix_config_text_values(const uint8_t *text, size_t text_len, const gix_
  * Refusal 1 for a text that can't be read on at some place, 2 for one of more than 4294967295 bytes; then the
  * place says where, else it is as it was. 0 for a text that can be read, 100 if no text was told of the path.
  * 101 if the path is not UTF-8, 102 if the handle is not one for what is told, 27 when out of memory. */
-uint32_t gix_config_told_place(gix_config_told *told, const uint8_t *path, size_t path_len,
+uint32_t gix_config_told_place(const gix_config_told *told, const uint8_t *path, size_t path_len,
     gix_config_place *place);
 
 /* Tells the version of the library that a program runs with, such as `0.1.0`; that of the header is
@@ -959,7 +963,7 @@ void gix_config_version(gix_config_text *text);
  * the file. What the view had is freed. Entries before the first section are not among them: no key names them.
  *
  * 102 if the handle has no file, 27 when out of memory; the view is then as it was. */
-uint32_t gix_config_view_file(gix_config_file *file, gix_config_view *view);
+uint32_t gix_config_view_file(const gix_config_file *file, gix_config_view *view);
 
 /* Frees what a view has; an empty one stays empty. */
 void gix_config_view_free(gix_config_view *view);

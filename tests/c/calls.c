@@ -3,7 +3,7 @@
 
 static const char *const TEXT = "# mine\n[core]\n\teditor = vi ; was ed\n\tbare\n\tn = 2k\n[remote \"or.igin\"]\n\turl = \"a b\" c\n\turl = d\n";
 
-static void look_ups(gix_config_file *file)
+static void look_ups(const gix_config_file *file)
 {
     gix_config_bytes value = { NULL, 0, NULL };
     gix_config_key editor = key_of("core", NULL, "editor"), url = key_of("REMOTE", "or.igin", "URL");
@@ -34,7 +34,7 @@ static void look_ups(gix_config_file *file)
     gix_config_bytes_free(&value);
 }
 
-static void entries(gix_config_file *file)
+static void entries(const gix_config_file *file)
 {
     gix_config_list list = { NULL };
     gix_config_entry entry;
@@ -54,7 +54,7 @@ static void entries(gix_config_file *file)
     gix_config_list_close(&list);
 }
 
-static void sections(gix_config_file *file)
+static void sections(const gix_config_file *file)
 {
     gix_config_list list = { NULL }, of_section = { NULL };
     gix_config_listed_section section;
@@ -80,7 +80,7 @@ static void sections(gix_config_file *file)
 }
 
 /* Filters that keep all, and that keep nothing for its source and for its trust. */
-static void filters(gix_config_file *file)
+static void filters(const gix_config_file *file)
 {
     gix_config_filter all = { GIX_CONFIG_SOURCES_ALL, GIX_CONFIG_TRUST_REDUCED }, api = { GIX_CONFIG_SOURCE_API, GIX_CONFIG_TRUST_FULL };
     gix_config_filter others = { GIX_CONFIG_SOURCES_ALL - GIX_CONFIG_SOURCE_API, GIX_CONFIG_TRUST_REDUCED }, untrusted = { GIX_CONFIG_SOURCE_API, 2 };
@@ -201,7 +201,7 @@ static bool is_key(const gix_config_key *key, const char *section, const char *s
         && is_text(key->subsection.at, key->subsection.len, subsection != NULL ? subsection : "");
 }
 
-static void keys(gix_config_file *file)
+static void keys(const gix_config_file *file)
 {
     gix_config_key key = key_of("a", "b", "c");
     gix_config_bytes value = { NULL, 0, NULL };

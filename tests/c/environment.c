@@ -59,7 +59,7 @@ static bool asks(uint32_t answer)
     return answer == GIX_CONFIG_NOT_TOLD || answer == GIX_CONFIG_VARIABLE_NOT_TOLD;
 }
 
-static bool is_value(gix_config_file *file, const char *section, const char *subsection, const char *name, const char *wanted)
+static bool is_value(const gix_config_file *file, const char *section, const char *subsection, const char *name, const char *wanted)
 {
     gix_config_bytes value = { NULL, 0, NULL };
     gix_config_key key = key_of(section, subsection, name);

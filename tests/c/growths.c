@@ -85,22 +85,22 @@ static int calls(bool lossy)
 }
 
 /* A call that hands out a list of entries. */
-typedef uint32_t (*listing)(gix_config_file *file, gix_config_file *other_file, gix_config_list *list);
+typedef uint32_t (*listing)(const gix_config_file *file, const gix_config_file *other_file, gix_config_list *list);
 
-static uint32_t all_entries(gix_config_file *file, gix_config_file *other_file, gix_config_list *list)
+static uint32_t all_entries(const gix_config_file *file, const gix_config_file *other_file, gix_config_list *list)
 {
     (void)other_file;
     return gix_config_entries(file, list);
 }
 
-static uint32_t entries_of_second(gix_config_file *file, gix_config_file *other_file, gix_config_list *list)
+static uint32_t entries_of_second(const gix_config_file *file, const gix_config_file *other_file, gix_config_list *list)
 {
     (void)other_file;
     return gix_config_section_entries(file, 1, list);
 }
 
 /* The lists are whole, or not there. */
-static int refused_list(listing call, gix_config_file *file, gix_config_file *other_file, size_t len, long growth)
+static int refused_list(listing call, const gix_config_file *file, const gix_config_file *other_file, size_t len, long growth)
 {
     gix_config_list list = { NULL };
     growths = 0;
@@ -113,7 +113,7 @@ static int refused_list(listing call, gix_config_file *file, gix_config_file *ot
 }
 
 /* The room for each of an entry's two names in lower case is asked for ahead; where it is refused, the name grows without it. */
-static void listed(listing call, gix_config_file *file, gix_config_file *other_file, size_t len)
+static void listed(listing call, const gix_config_file *file, const gix_config_file *other_file, size_t len)
 {
     CHECK(refused_list(call, file, other_file, len, -1) == 0);
     long all = growths, count = 0, asked_ahead = 2 * (long)len;

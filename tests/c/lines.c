@@ -1,7 +1,7 @@
 /* Lines put into sections by their places, several entries removed, where a file comes from, and where a text that was told is refused. */
 #include "checking.h"
 
-static bool has_text(gix_config_file *file, const char *wanted)
+static bool has_text(const gix_config_file *file, const char *wanted)
 {
     gix_config_bytes text = { NULL, 0, NULL };
     bool same = gix_config_file_text(file, &text) == GIX_CONFIG_DONE && is_text(text.at, text.len, wanted);

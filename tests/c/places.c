@@ -9,7 +9,7 @@ static gix_config_line line_of(const char *name, const char *value, const char *
     return line;
 }
 
-static bool has_text(gix_config_file *file, const char *words)
+static bool has_text(const gix_config_file *file, const char *words)
 {
     gix_config_bytes text = { NULL, 0, NULL };
     bool has = gix_config_file_text(file, &text) == GIX_CONFIG_DONE && is_text(text.at, text.len, words);

@@ -23,7 +23,7 @@ static bool is_section(const gix_config_view *view, size_t index, const char *na
         && row->entries_at == entries_at && row->entries_len == entries_len && row->origin < view->origins_len;
 }
 
-static void rows(gix_config_file *file, gix_config_view *view)
+static void rows(const gix_config_file *file, gix_config_view *view)
 {
     CHECK(gix_config_view_file(file, view) == GIX_CONFIG_DONE && view->sections_len == 4 && view->entries_len == 6 && view->origins_len == 1);
     CHECK(is_section(view, 0, "Core", NULL, 0, 3) && is_section(view, 1, "remote", "or\"igin", 3, 2));

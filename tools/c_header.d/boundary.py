@@ -138,8 +138,8 @@ def handle(where: str, name: str) -> Kind:
     return Kind("handle", kind)
 
 
-def parameters(where: str, it: rattle.Value) -> List[Value]:
-    """A parameter as it crosses: a slice is two."""
+def parameters(where: str, it: rattle.Value, is_same: bool) -> List[Value]:
+    """A parameter as it crosses: a slice is two. A handle that has afterwards what it had is `const`."""
     type_ = it.type
     if number(type_):
         return [Value(it.name, number(type_) or refuse(where, type_))]
@@ -150,7 +150,7 @@ def parameters(where: str, it: rattle.Value) -> List[Value]:
         of = number(type_.to.of) or text_of(type_.to.of) or refuse(f"{where}: {it.name}", type_)
         return [Value(it.name, of, pointer), Value(f"{it.name}_len", Kind("number", "usize"))]
     if type_.to == rattle.Named("Slot"):
-        return [Value(it.name, handle(where, it.name), "mut")]
+        return [Value(it.name, handle(where, it.name), "const" if is_same else "mut")]
     # (a text of the library's own)
     if isinstance(type_.to, rattle.Pointer) and type_.to.is_static and text_of(type_.to):
         return [Value(it.name, Kind("span"), pointer, stays=True)]
@@ -172,7 +172,7 @@ def version_of(words: str) -> Constants:
 
 
 def call(it: rattle.Function) -> Call:
-    given = [value for each in it.given if each.type != rattle.Named("Global") for value in parameters(it.name, each)]
+    given = [value for each in it.given if each.type != rattle.Named("Global") for value in parameters(it.name, each, each.name in it.same)]
     answer = None if it.answer is None else number(it.answer) or refuse(it.name, it.answer)
     return Call(it.name, given, answer, it.says)
 

@@ -3,6 +3,7 @@
 A source is cut into tokens, and these into items. What has to be understood is: anything else there is refused with file and line, and
 is never skipped. Bodies, contracts and items of other kinds are skipped as whole groups of tokens.
 """
+import re
 from dataclasses import dataclass, field
 from typing import Iterator, List, NamedTuple, NoReturn, Optional, Tuple, Union
 
@@ -10,6 +11,9 @@ CLOSES = {"(": ")", "[": "]", "{": "}"}
 
 # The words before the groups of a contract.
 CLAUSES = {"requires", "ensures", "decreases"}
+
+# The clause that a handle has afterwards what it had.
+SAME = re.compile(r"\{(\w+)\.new\.it≡\1\.old\.it\}")
 
 
 class Refused(Exception):
@@ -83,6 +87,8 @@ class Function:
     given: List[Value]
     answer: Optional[Type]
     says: List[str]
+    same: List[str] = field(default_factory=list)
+    """The handles of which its contract says, whatever it answers, that they have afterwards what they had."""
 
 
 @dataclass
@@ -259,29 +265,30 @@ class Reader:
             says += self.says()
         return Attributes(says, marks)
 
-    def skip_item(self) -> None:
-        """Skips an item: up to its `;`, or its group in braces, but for those of contracts."""
+    def skip_item(self) -> List[str]:
+        """Skips an item: up to its `;`, or its group in braces, but for those of contracts, which are returned."""
+        clauses: List[str] = []
         while not self.is_done():
             if self.take(";"):
-                return
+                return clauses
             if self.left[self.at].kind == "word" and self.left[self.at].text in CLAUSES:
-                self.skip_clause()
+                clauses.append(self.clause())
             elif self.seen("{"):
                 self.group()
                 # (as `use a::{b, c};`)
                 self.take(";")
-                return
+                return clauses
             elif self.left[self.at].kind == "mark" and self.left[self.at].text in CLOSES:
                 self.group()
             else:
                 self.at += 1
         self.refuse("an item is never closed")
 
-    def skip_clause(self) -> None:
+    def clause(self) -> str:
         self.at += 1
         if not self.seen("{"):
             self.next("word")
-        self.group()
+        return self.group()
 
     def type(self) -> Type:
         """A type, as far as one can cross."""
@@ -414,8 +421,8 @@ class Reader:
         self.want("(")
         given = self.values(")", False)
         answer = self.type() if self.take("->") else None
-        source.functions.append(Function(name, given, answer, before.says))
-        self.skip_item()
+        same = [found[1] for found in map(SAME.fullmatch, self.skip_item()) if found]
+        source.functions.append(Function(name, given, answer, before.says, same))
 
 
 def paragraphs(lines: List[str]) -> List[str]:

@@ -49,6 +49,8 @@ impl<'a> Pair<'a> {
 pub extern "C" fn do_it<'a>(alloc: Global, pair: &mut Pair<'_>, names: &[&[u8]], text: &mut &'static [u8]) -> u32
     requires { 0 < 1 }
     ensures answer { result ≡ 0 }
+    ensures same { pair.new.it ≡ pair.old.it }
+    ensures kept { (result ≡ 0 → ⊥) → text.new.it ≡ text.old.it }
 {
     0
 }
@@ -115,7 +117,7 @@ FAULTS: Dict[str, Dict[str, Tuple[str, str]]] = {
         "a field less": ("    /// Whether there is a branch.\n    pub(crate) has_branch: bool,\n", ""),
         "a number is another": ("NOT_TOLD: u32 = 103", "NOT_TOLD: u32 = 106"),
         "a parameter is written": ("filter: *const Filter", "filter: *mut Filter"),
-        "an answer has another type": ("fn gix_config_list_len(list: *mut List) -> usize", "fn gix_config_list_len(list: *mut List) -> u32"),
+        "an answer has another type": ("fn gix_config_list_len(list: *const List) -> usize", "fn gix_config_list_len(list: *const List) -> u32"),
         "a call more": ('extern "C" {\n', 'extern "C" {\n    pub(super) fn gix_config_more() -> u32;\n'),
     },
 }
@@ -133,6 +135,7 @@ def try_whole(report: Report) -> None:
         (types, [rattle.Named("Global"), rattle.Pointer(rattle.Named("Pair"), True), rattle.Pointer(rattle.Slice(rattle.Pointer(byte, False)), False),
                  rattle.Pointer(rattle.Pointer(byte, False, is_static=True), True)]),
         ([it.answer for it in source.functions], [rattle.Named("u32"), None]),
+        ([it.same for it in source.functions], [["pair"], []]),
     ]
     for found, wanted in same:
         tell(report, found == wanted, f"a source that is read whole: {found} is not {wanted}")

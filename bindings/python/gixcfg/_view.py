@@ -5,7 +5,7 @@ import functools
 import gc
 import os
 import struct
-from itertools import islice
+from itertools import islice, repeat
 from typing import Any, Dict, Iterator, List, Optional, Tuple, Type
 
 from gixcfg import _calls as c
@@ -18,7 +18,6 @@ FORMATS: Dict[Any, str] = {ctypes.c_size_t: "N", ctypes.c_uint32: "I", ctypes.c_
 # (as `Entry` and the others of a tuple, but in a third of the time)
 _new: Any = tuple.__new__
 _entry = functools.partial(_new, Entry)
-_name = functools.partial(_new, Name)
 _section = functools.partial(_new, Section)
 
 
@@ -100,22 +99,32 @@ class View:
         entries = [_entry(map(_told, it)) for it in section.entries]
         return section._replace(name=_told(section.name), subsection=_told(section.subsection), entries=entries)
 
+    def _parts(self) -> List[Tuple[Optional[str], ...]]:
+        """What the entries of all sections have, in order."""
+        text, lower, rows = self._text, self._lower, ENTRY.iter_unpack(self._entries)
+        found: List[Tuple[Optional[str], ...]] = []
+        for at, length, behind, more, is_there, _origin, _first, count in SECTION.iter_unpack(self._sections):
+            name, subsection = lower[at:at + length], text[behind:behind + more] if is_there else None
+            found += [(name, subsection, lower[i:i + m], text[j:j + n] if has_value else None) for i, m, j, n, has_value in islice(rows, count)]
+        return found if self._is_ascii else [tuple(map(_told, it)) for it in found]
+
+    @_no_collections()
     def entries(self) -> List[Entry]:
         """The entries of all sections, in order."""
-        return [entry for section in self.sections() for entry in section.entries]
+        return list(map(_new, repeat(Entry), self._parts()))
 
     @_no_collections()
     def names(self) -> List[Name]:
         """The keys, each once, in the order in which they first occur."""
-        return list(dict.fromkeys([_name(it[:3]) for it in self.entries()]))
+        return list(map(_new, repeat(Name), dict.fromkeys([it[:3] for it in self._parts()])))
 
     @_no_collections()
     def values(self) -> Dict[Name, str]:
         """The keys with their last values, as a look-up finds them: an entry without `=` that is the last one of its section leaves the
         value to the sections before, and is empty where these have none."""
-        found: Dict[Name, Optional[str]] = {}
+        found: Dict[Tuple[str, Optional[str], str], Optional[str]] = {}
         for section in self.sections():
-            for name, value in {_name(it[:3]): it.value for it in section.entries}.items():
+            for name, value in {it[:3]: it.value for it in section.entries}.items():
                 if value is not None or name not in found:
                     found[name] = value
-        return {name: value or "" for name, value in found.items()}
+        return {_new(Name, name): value or "" for name, value in found.items()}

@@ -1,29 +1,23 @@
 //! A file of configuration.
-use std::env;
 use std::fmt;
-use std::fs;
 use std::io;
-use std::path::{Path, PathBuf};
 use std::str::FromStr;
 
 use bstr::{BStr, BString};
 
 use crate::key::{AsKey, KeyRef};
-use crate::parse::section::{header, unvalidated};
-use crate::source::{Source, Trust};
-use crate::sys::{self, Wanted};
+use crate::parse::section::{header, unvalidated, value_name};
+use crate::sys;
 use crate::{lookup, parse, path, value};
 
+pub use crate::ids::SectionId;
 pub use crate::includes;
+pub use crate::init;
 pub use crate::meta::Metadata;
 pub use crate::section::{self, Section, SectionMut};
 pub use crate::text::{AsBStr, AsBStrOpt, IntoBStringOpt};
+pub use crate::value_mut::ValueMut;
 pub use crate::view::{BodyRef, BodyRefIter, HeaderRef, SectionRef};
-
-/// Files that are made.
-pub mod init {
-    pub use crate::includes;
-}
 
 /// Values that are set.
 pub mod set_raw_value {
@@ -63,9 +57,13 @@ pub mod set_raw_value {
         pub(crate) fn of(number: u32) -> Self {
             match number {
                 span::Error::NUMBER => Error::Span(span::Error),
-                4 | 5 => Error::Header(header::Error::of(number)),
+                sys::number::INVALID_SECTION_NAME | sys::number::INVALID_SUBSECTION => {
+                    Error::Header(header::Error::of(number))
+                }
                 value_name::Error::NUMBER => Error::ValueName(value_name::Error),
-                7..=9 => Error::Lookup(lookup::existing::Error::of(number)),
+                sys::number::SECTION_MISSING..=sys::number::KEY_MISSING => {
+                    Error::Lookup(lookup::existing::Error::of(number))
+                }
                 number => sys::unforeseen(number),
             }
         }
@@ -80,8 +78,8 @@ pub mod set_raw_value {
 
 /// Sections that are renamed.
 pub mod rename_section {
-    use crate::lookup;
     use crate::parse::section::header;
+    use crate::{lookup, sys};
 
     /// Why a section isn't renamed.
     #[derive(Clone, Copy, Debug, PartialEq, Eq, thiserror::Error)]
@@ -106,7 +104,9 @@ pub mod rename_section {
 
         pub(crate) fn of(number: u32) -> Self {
             match number {
-                7..=9 => Error::Lookup(lookup::existing::Error::of(number)),
+                sys::number::SECTION_MISSING..=sys::number::KEY_MISSING => {
+                    Error::Lookup(lookup::existing::Error::of(number))
+                }
                 number => Error::Section(header::Error::of(number)),
             }
         }
@@ -159,20 +159,6 @@ fn section_key_of<Key: AsBStr>(
     unvalidated::KeyRef::parse(key).ok_or(lookup::existing::Error::KeyMissing)
 }
 
-/// The user's home folder.
-fn home() -> Option<PathBuf> {
-    env::var_os("HOME").map(PathBuf::from)
-}
-
-/// The places of the machine, with the user's home folder.
-fn places(home: Option<&Path>) -> includes::Places<'_> {
-    includes::Places {
-        installation_config: None,
-        system_prefix: Path::new("/"),
-        home,
-    }
-}
-
 /// The value in a type, of what a lookup answered, if there is one. One of another type is told with its text.
 pub(crate) fn typed<T>(
     found: Result<T, u32>,
@@ -191,13 +177,14 @@ pub(crate) fn typed<T>(
 }
 
 impl File {
-    fn parsed(text: &[u8]) -> Result<File, parse::Error> {
-        let sys = sys::File::parse(text).map_err(parse::Error::of)?;
+    pub(crate) fn parsed(text: &[u8]) -> Result<File, parse::Error> {
+        let parsed = sys::File::parse(text);
+        let sys = parsed.map_err(|refused| parse::Error::of(refused, text))?;
         Ok(File { sys })
     }
 
     /// A file that is yet to be loaded.
-    fn empty() -> File {
+    pub(crate) fn empty() -> File {
         File {
             sys: sys::File::empty(),
         }
@@ -319,15 +306,33 @@ impl File {
 
     /// Where the file comes from; its sections may come from others.
     #[must_use]
-    pub fn meta(&self) -> Metadata {
-        let (origin, path) = self.sys.origin();
-        let path = origin.has_path.then(|| path.bytes());
-        Metadata::of(path, origin.source, origin.level, origin.trust)
+    pub fn meta(&self) -> &Metadata {
+        self.sys.meta()
+    }
+
+    /// As [`File::meta`], for another file.
+    #[must_use]
+    pub fn meta_owned(&self) -> Metadata {
+        self.meta().clone()
     }
 
     /// The sections in the file's order. The first call after an edit takes a pass over the file; the others take none.
     pub fn sections(&self) -> impl DoubleEndedIterator<Item = SectionRef<'_>> + ExactSizeIterator {
         self.sys.seen().sections()
+    }
+
+    /// As [`File::sections`], each with its number.
+    pub fn sections_and_ids(
+        &self,
+    ) -> impl DoubleEndedIterator<Item = (SectionRef<'_>, SectionId)> + ExactSizeIterator {
+        self.sections().map(|it| (it, it.id()))
+    }
+
+    /// The numbers of the sections, in the file's order.
+    pub fn section_ids(
+        &self,
+    ) -> impl DoubleEndedIterator<Item = SectionId> + ExactSizeIterator + '_ {
+        self.sections().map(|it| it.id())
     }
 
     /// The sections of the names, one or more, in order.
@@ -432,6 +437,15 @@ impl File {
         self.sections_by_name_and_filter(name, |_| true)
     }
 
+    /// As [`File::sections_by_name`], each with its number.
+    #[must_use]
+    pub fn sections_and_ids_by_name(
+        &self,
+        name: impl AsRef<str>,
+    ) -> Option<impl Iterator<Item = (SectionRef<'_>, SectionId)>> {
+        Some(self.sections_by_name(name)?.map(|it| (it, it.id())))
+    }
+
     /// As [`File::sections_by_name`], those whose metadata the filter keeps; `None` if no section has the name, kept or not.
     #[must_use]
     pub fn sections_by_name_and_filter(
@@ -475,6 +489,17 @@ impl File {
         let last = self.last_of(name.as_ref(), subsection_name.as_bstr_opt(), filter)?;
         let place = last.map(|it| it.place());
         Ok(place.map(move |place| SectionMut::at(self, place)))
+    }
+
+    /// The place of the section that has the number, if one has it.
+    fn place_of(&self, id: SectionId) -> Option<usize> {
+        self.sys.ids().place(id, self.sections().len())
+    }
+
+    /// An editor of the section that has the number, if one has it.
+    pub fn section_mut_by_id(&mut self, id: SectionId) -> Option<SectionMut<'_>> {
+        let place = self.place_of(id)?;
+        Some(SectionMut::at(self, place))
     }
 
     /// As [`File::section_mut`], by the section's key, such as `remote.origin`.
@@ -562,6 +587,30 @@ impl File {
         self.remove_section_filter(name, subsection_name, |_| true)
     }
 
+    /// Removes the section that has the number. Returns it as it was, if one has it.
+    ///
+    /// # Examples
+    ///
+    /// ```
+    /// let mut file = gix_config::File::try_from("[a]\n[a]\n\tk = 1\n")?;
+    /// let first = file.section_ids().next().expect("a section");
+    /// assert_eq!(file.remove_section_by_id(first).expect("the first").num_values(), 0);
+    /// assert_eq!(file.to_string(), "[a]\n\tk = 1\n");
+    /// assert!(file.section_mut_by_id(first).is_none());
+    /// # Ok::<(), Box<dyn std::error::Error>>(())
+    /// ```
+    pub fn remove_section_by_id(&mut self, id: SectionId) -> Option<Section> {
+        let place = self.place_of(id)?;
+        Some(self.remove_section_at(place))
+    }
+
+    /// Removes the section at a place, where there is one.
+    fn remove_section_at(&mut self, place: usize) -> Section {
+        let removed = self.sys.seen().section(place).to_owned();
+        self.sys.remove_section_at(place);
+        removed
+    }
+
     /// As [`File::remove_section`], the last whose metadata the filter keeps, if it keeps one.
     pub fn remove_section_filter(
         &mut self,
@@ -570,188 +619,8 @@ impl File {
         filter: impl FnMut(&Metadata) -> bool,
     ) -> Option<Section> {
         let last = self.last_of(name.as_ref(), subsection_name.as_bstr_opt(), filter);
-        let last = last.ok()??;
-        let (place, removed) = (last.place(), last.to_owned());
-        self.sys.remove_section_at(place);
-        Some(removed)
-    }
-
-    /// The file at a path, with the sections of the files that it includes, each where it is included.
-    ///
-    /// # Errors
-    ///
-    /// A file can't be opened or read, or an include is refused.
-    pub fn from_path_with_includes(
-        path: impl AsRef<Path>,
-        options: includes::Options<'_>,
-    ) -> Result<File, includes::Error> {
-        File::from_files(path.as_ref(), options, &mut includes::Disk)
-    }
-
-    /// As [`File::from_path_with_includes`], with files from elsewhere.
-    ///
-    /// # Errors
-    ///
-    /// Those of [`File::from_path_with_includes`].
-    pub fn from_files(
-        path: &Path,
-        options: includes::Options<'_>,
-        files: &mut impl includes::Files,
-    ) -> Result<File, includes::Error> {
-        let mut file = File::empty();
-        let real = options.real_git_dir();
-        let load = sys::Load {
-            path: sys::Text::of(includes::bytes(path)),
-            source: Source::Api.number(),
-            trust: Trust::Full.number(),
-            includes: options.given(real.as_bstr()),
-        };
-        let mut files = includes::Followed::of(files, 1, &options);
-        includes::Host::new(&mut files, &mut includes::Process)
-            .load(&mut file.sys, Wanted::File(&load))?;
-        Ok(file)
-    }
-
-    /// The configuration of the machine and of the user, by the variables of the process (`GIT_CONFIG_NOSYSTEM`, `GIT_CONFIG_SYSTEM`,
-    /// `GIT_CONFIG_GLOBAL`, `XDG_CONFIG_HOME`, `HOME`), with what it includes; an empty file if there is none. What was installed with git
-    /// is not looked for: [`File::from_globals_of`] takes its path.
-    ///
-    /// # Errors
-    ///
-    /// A file can't be opened or read, or an include is refused.
-    pub fn from_globals() -> Result<File, includes::Error> {
-        let home = home();
-        File::from_globals_of(
-            &places(home.as_deref()),
-            &mut includes::Disk,
-            &mut includes::Process,
-        )
-    }
-
-    /// As [`File::from_globals`], with places, files and variables from elsewhere.
-    ///
-    /// # Errors
-    ///
-    /// Those of [`File::from_globals`].
-    pub fn from_globals_of(
-        places: &includes::Places<'_>,
-        files: &mut impl includes::Files,
-        variables: &mut impl includes::Variables,
-    ) -> Result<File, includes::Error> {
-        let (mut file, given) = (File::empty(), places.given());
-        includes::Host::new(files, variables).load(&mut file.sys, Wanted::Globals(&given))?;
-        Ok(file)
-    }
-
-    /// The file of the entries that variables of the process set (`GIT_CONFIG_COUNT`, `GIT_CONFIG_KEY_0`, `GIT_CONFIG_VALUE_0` and so on),
-    /// with what it includes; `None` if they set none.
-    ///
-    /// # Errors
-    ///
-    /// The count is no number, a key or a value isn't set or isn't UTF-8, a key has no dot, a name can't be written into a file; or an
-    /// include is refused.
-    pub fn from_env(options: includes::Options<'_>) -> Result<Option<File>, includes::Error> {
-        File::from_env_of(options, &mut includes::Disk, &mut includes::Process)
-    }
-
-    /// As [`File::from_env`], with files and variables from elsewhere.
-    ///
-    /// # Errors
-    ///
-    /// Those of [`File::from_env`].
-    pub fn from_env_of(
-        options: includes::Options<'_>,
-        files: &mut impl includes::Files,
-        variables: &mut impl includes::Variables,
-    ) -> Result<Option<File>, includes::Error> {
-        let (mut file, real) = (File::empty(), options.real_git_dir());
-        let given = options.given(real.as_bstr());
-        let mut files = includes::Followed::of(files, 0, &options);
-        let host = includes::Host::new(&mut files, variables);
-        let is_set = host.load(&mut file.sys, Wanted::Variables(&given))?;
-        Ok(is_set.then_some(file))
-    }
-
-    /// [`File::from_env`], whose includes know the user's home folder; an empty file if that is `None`.
-    ///
-    /// # Errors
-    ///
-    /// Those of [`File::from_env`].
-    pub fn from_environment_overrides() -> Result<File, includes::Error> {
-        let home = home();
-        let options = includes::Options::follow_without_conditional(home.as_deref());
-        Ok(File::from_env(options)?.unwrap_or_default())
-    }
-
-    /// The configuration of a repository by its folder, as `.git`: that of [`File::from_globals`], its own, that of its worktree if
-    /// `extensions.worktreeConfig` is true, and the entries of [`File::from_env`], one after the other.
-    ///
-    /// # Errors
-    ///
-    /// Those of the calls named above; and the repository's `config` is missing.
-    pub fn from_git_dir(dir: impl AsRef<Path>) -> Result<File, includes::Error> {
-        let home = home();
-        File::from_git_dir_of(
-            dir.as_ref(),
-            &places(home.as_deref()),
-            &mut includes::Disk,
-            &mut includes::Process,
-        )
-    }
-
-    /// As [`File::from_git_dir`], with places, files and variables from elsewhere.
-    ///
-    /// # Errors
-    ///
-    /// Those of [`File::from_git_dir`].
-    pub fn from_git_dir_of(
-        dir: &Path,
-        places: &includes::Places<'_>,
-        files: &mut impl includes::Files,
-        variables: &mut impl includes::Variables,
-    ) -> Result<File, includes::Error> {
-        let mut file = File::empty();
-        let real = fs::canonicalize(dir).unwrap_or_else(|_| dir.to_owned());
-        let repository = sys::Repository {
-            git_folder: sys::Text::of(includes::bytes(dir)),
-            real_git_folder: sys::Text::of(includes::bytes(&real)),
-            places: places.given(),
-        };
-        includes::Host::new(files, variables)
-            .load(&mut file.sys, Wanted::Repository(&repository))?;
-        Ok(file)
-    }
-
-    /// Reads the files that the sections include, from the disk, and puts the sections of each where it is included.
-    ///
-    /// # Errors
-    ///
-    /// A file can't be opened or read, or an include is refused. The file is then as it was.
-    pub fn resolve_includes(
-        &mut self,
-        options: includes::Options<'_>,
-    ) -> Result<(), includes::Error> {
-        self.resolve_includes_of(options, &mut includes::Disk)
-    }
-
-    /// As [`File::resolve_includes`], with files from elsewhere.
-    ///
-    /// # Errors
-    ///
-    /// Those of [`File::resolve_includes`].
-    pub fn resolve_includes_of(
-        &mut self,
-        options: includes::Options<'_>,
-        files: &mut impl includes::Files,
-    ) -> Result<(), includes::Error> {
-        if !options.is_followed() {
-            return Ok(());
-        }
-        let real = options.real_git_dir();
-        let given = options.given(real.as_bstr());
-        includes::Host::new(files, &mut includes::Process)
-            .load(&mut self.sys, Wanted::Included(&given))?;
-        Ok(())
+        let place = last.ok()??.place();
+        Some(self.remove_section_at(place))
     }
 
     /// Gives a key a value: in the last section of its names, whose last entry of the name gets it; entry and section are made if there are
@@ -811,7 +680,7 @@ impl File {
     ) -> Result<Option<BString>, set_raw_value::Error> {
         let key = key.as_key();
         // (a name that can't be a value's is refused before a section is made)
-        File::default().set_raw_value_by("a", None, key.value_name, "")?;
+        value_name::checked(key.value_name)?;
         let (name, subsection_name) = (key.section_name, key.subsection_name);
         let last = self.last_of(name, subsection_name, filter);
         if let Some(place) = last.ok().flatten().map(|it| it.place()) {
@@ -998,6 +867,17 @@ impl File {
     #[must_use]
     pub fn to_bstring(&self) -> BString {
         self.sys.text(None).copy()
+    }
+
+    /// The first line ending of the text, or LF if it has none.
+    #[must_use]
+    pub fn detect_newline_style(&self) -> &BStr {
+        let text = self.sys.text(None);
+        let line = bstr::ByteSlice::lines_with_terminator(text.bytes()).next();
+        match line {
+            Some(line) if line.ends_with(b"\r\n") => "\r\n".into(),
+            _ => "\n".into(),
+        }
     }
 
     /// Writes the text of the file.

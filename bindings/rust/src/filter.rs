@@ -113,12 +113,10 @@ impl File {
         value_name: impl AsRef<str>,
         filter: impl FnMut(&Metadata) -> bool,
     ) -> Result<BString, lookup::existing::Error> {
-        let subsection_name = subsection_name.as_bstr_opt();
-        let kept = self.kept(section_name.as_ref(), subsection_name, filter)?;
-        // (the last one with a value decides, so that an entry without one leaves it to the sections before)
-        let mut values = kept.iter().rev().map(|it| it.value(value_name.as_ref()));
-        let found = values.find_map(|value| value);
-        found.ok_or(lookup::existing::Error::KeyMissing)
+        let (section, value) = (section_name, value_name);
+        let found =
+            self.raw_value_with_section_filter_by(section, subsection_name, value, filter)?;
+        Ok(found.0)
     }
 
     /// As [`File::raw_values`], in the sections whose metadata the filter keeps.
@@ -152,14 +150,10 @@ impl File {
         value_name: impl AsRef<str>,
         filter: impl FnMut(&Metadata) -> bool,
     ) -> Result<Vec<BString>, lookup::existing::Error> {
-        let subsection_name = subsection_name.as_bstr_opt();
-        let kept = self.kept(section_name.as_ref(), subsection_name, filter)?;
-        let values = kept.iter().flat_map(|it| it.values(value_name.as_ref()));
-        let values: Vec<_> = values.collect();
-        if values.is_empty() {
-            return Err(lookup::existing::Error::KeyMissing);
-        }
-        Ok(values)
+        let (section, value) = (section_name, value_name);
+        let found =
+            self.raw_values_with_sections_filter_by(section, subsection_name, value, filter)?;
+        Ok(found.into_iter().map(|it| it.0).collect())
     }
 
     /// As [`File::string`], in the sections whose metadata the filter keeps.

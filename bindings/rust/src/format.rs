@@ -96,6 +96,7 @@ pub fn normalize(input: &[u8], options: Options) -> Result<BString, parse::Error
         limits_blank_lines: options.max_consecutive_blank_lines.is_some(),
         max_blank_lines: options.max_consecutive_blank_lines.unwrap_or_default(),
     };
-    let laid_out = sys::normalize(input, &layout).map_err(parse::Error::of)?;
+    let laid_out = sys::normalize(input, &layout);
+    let laid_out = laid_out.map_err(|refused| parse::Error::of(refused, input))?;
     Ok(laid_out.copy())
 }

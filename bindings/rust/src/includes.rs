@@ -7,8 +7,8 @@ use bstr::{BStr, BString, ByteSlice};
 
 use crate::parse::section::{header, value_name};
 use crate::parse::span;
-use crate::sys::{self, Wanted};
-use crate::{parse, path};
+use crate::sys::{self, number, Wanted};
+use crate::{init, parse, path};
 
 /// What the conditions of `includeIf` are about.
 pub mod conditional {
@@ -64,6 +64,7 @@ impl<'a> Options<'a> {
         let interpolate = interpolate::Context {
             git_install_dir: None,
             home_dir,
+            home_for_user: Some(interpolate::home_for_user),
         };
         Options::follow(interpolate, conditional::Context::default())
     }
@@ -98,12 +99,12 @@ impl<'a> Options<'a> {
     }
 
     /// The same as the library takes it.
-    pub(crate) fn given(&self, real_git_folder: &'a BStr) -> sys::Includes<'a> {
+    fn given(&self, real_git_folder: &'a BStr, lossy: bool) -> sys::Includes<'a> {
         let (git_folder, has_git_folder) = known(self.conditional.git_dir);
         let branch = self.conditional.branch_name;
         sys::Includes {
             strict: self.strict,
-            lossy: false,
+            lossy,
             folders: self.interpolate.given(),
             has_git_folder,
             git_folder,
@@ -111,6 +112,13 @@ impl<'a> Options<'a> {
             has_branch: branch.is_some(),
             branch: sys::Text::of(branch.unwrap_or_default()),
         }
+    }
+}
+
+impl<'a> init::Options<'a> {
+    /// The same as the library takes it.
+    pub(crate) fn given(&self, real_git_folder: &'a BStr) -> sys::Includes<'a> {
+        self.includes.given(real_git_folder, self.lossy)
     }
 }
 
@@ -124,34 +132,26 @@ pub(crate) fn known(path: Option<&Path>) -> (sys::Text<'_>, bool) {
     (sys::Text::of(path.map_or(b"", bytes)), path.is_some())
 }
 
-/// Why a load is refused: for a file, an include or an entry that variables set.
+/// Why an include is refused.
 #[derive(Debug, thiserror::Error)]
 pub enum Error {
-    /// A file that is included can't be opened.
-    #[error("{}: '{}'", sys::words(19), path.display())]
-    Open {
-        /// Its path.
-        path: PathBuf,
-        /// Why it can't.
-        source: io::Error,
-    },
     /// A file that is included can't be read.
-    #[error("{}: '{}'", sys::words(20), path.display())]
-    Read {
+    #[error("{}: '{}'", sys::words(number::INCLUDE_NOT_READ), path.display())]
+    CopyBuffer {
         /// Its path.
         path: PathBuf,
         /// Why it can't.
         source: io::Error,
     },
-    /// Another file is missing, or can't be opened or read.
-    #[error("{}: '{}'", sys::words(21), path.display())]
+    /// A file that is included can't be opened.
+    #[error("{}: '{}'", sys::words(number::INCLUDE_NOT_OPENED), path.display())]
     Io {
         /// Its path.
         path: PathBuf,
         /// Why it can't.
         source: io::Error,
     },
-    /// The text of a file can't be read on at some place.
+    /// The text of a file can't be read on at some place: of one that is included, or one that is loaded.
     #[error("'{}': {source}", path.display())]
     Parse {
         /// Its path.
@@ -159,39 +159,27 @@ pub enum Error {
         /// The place, and the reason.
         source: parse::Error,
     },
+    /// The file would be too long.
+    #[error(transparent)]
+    Span(#[from] span::Error),
     /// An include's path stands for none.
     #[error(transparent)]
     Interpolate(#[from] path::interpolate::Error),
     /// Includes are deeper than they are followed.
-    #[error("{}: {max_depth}", sys::words(15))]
+    #[error("{}: {max_depth}", sys::words(number::INCLUDE_DEPTH_EXCEEDED))]
     IncludeDepthExceeded {
         /// How many files deep includes are followed.
         max_depth: u8,
     },
     /// An include's path is relative, and the file that names it has no path.
-    #[error("{}", sys::words(16))]
+    #[error("{}", sys::words(number::MISSING_CONFIG_PATH))]
     MissingConfigPath,
     /// A condition is about the git folder, and there is none.
-    #[error("{}", sys::words(17))]
+    #[error("{}", sys::words(number::MISSING_GIT_DIR))]
     MissingGitDir,
     /// The git folder can't be resolved.
-    #[error("{}", sys::words(18))]
+    #[error("{}", sys::words(number::REALPATH))]
     Realpath,
-    /// A variable that sets an entry is refused.
-    #[error("{name}: {}", sys::words(*number))]
-    Variable {
-        /// The variable's name.
-        name: BString,
-        /// The number of the refusal in docs/refusals.md: its count (23), a key or a value that isn't set (24, 26) or isn't UTF-8 (22), or a
-        /// key without a dot (25).
-        number: u32,
-    },
-    /// A section can't be made of the names of a key that a variable sets, or a file would be too long.
-    #[error(transparent)]
-    Header(#[from] header::Error),
-    /// The name of such a key can't be a value's.
-    #[error(transparent)]
-    ValueName(#[from] value_name::Error),
 }
 
 impl Error {
@@ -199,18 +187,55 @@ impl Error {
     #[must_use]
     pub fn number(&self) -> u32 {
         match self {
-            Error::Open { .. } => 19,
-            Error::Read { .. } => 20,
-            Error::Io { .. } => 21,
+            Error::CopyBuffer { .. } => number::INCLUDE_NOT_READ,
+            Error::Io { .. } => number::INCLUDE_NOT_OPENED,
             Error::Parse { source, .. } => source.number(),
+            Error::Span(error) => error.number(),
             Error::Interpolate(error) => error.number(),
-            Error::IncludeDepthExceeded { .. } => 15,
-            Error::MissingConfigPath => 16,
-            Error::MissingGitDir => 17,
-            Error::Realpath => 18,
-            Error::Variable { number, .. } => *number,
-            Error::Header(error) => error.number(),
-            Error::ValueName(error) => error.number(),
+            Error::IncludeDepthExceeded { .. } => number::INCLUDE_DEPTH_EXCEEDED,
+            Error::MissingConfigPath => number::MISSING_CONFIG_PATH,
+            Error::MissingGitDir => number::MISSING_GIT_DIR,
+            Error::Realpath => number::REALPATH,
+        }
+    }
+}
+
+/// Why a load is refused.
+pub(crate) enum Refusal {
+    /// For an include, or the text of a file.
+    Include(Error),
+    /// A file that is loaded is missing, or can't be opened or read.
+    File { path: PathBuf, source: io::Error },
+    /// A variable that sets an entry, with its name and what it is set to.
+    Variable {
+        number: u32,
+        name: String,
+        value: String,
+    },
+    /// A section can't be made of the names of a key that a variable sets.
+    Header(header::Error),
+    /// The name of such a key can't be a value's.
+    ValueName(value_name::Error),
+}
+
+impl Refusal {
+    /// Ends the program by a refusal that the call doesn't answer.
+    pub(crate) fn unforeseen(&self) -> ! {
+        sys::unforeseen(match self {
+            Refusal::Include(error) => error.number(),
+            Refusal::File { .. } => number::FILE_NOT_READ,
+            Refusal::Variable { number, .. } => *number,
+            Refusal::Header(error) => error.number(),
+            Refusal::ValueName(error) => error.number(),
+        })
+    }
+}
+
+impl From<Refusal> for Error {
+    fn from(refusal: Refusal) -> Self {
+        match refusal {
+            Refusal::Include(error) => error,
+            other => other.unforeseen(),
         }
     }
 }
@@ -277,15 +302,17 @@ pub(crate) struct Followed<'a> {
     /// How many files are found whatever they are.
     first: usize,
     is_followed: bool,
+    ignore_io_errors: bool,
 }
 
 impl<'a> Followed<'a> {
     /// So many files, and those that they include if the options follow these.
-    pub(crate) fn of(files: &'a mut dyn Files, first: usize, options: &Options<'_>) -> Self {
+    pub(crate) fn of(files: &'a mut dyn Files, first: usize, options: &init::Options<'_>) -> Self {
         Followed {
             files,
             first,
-            is_followed: options.is_followed(),
+            is_followed: options.includes.is_followed(),
+            ignore_io_errors: options.ignore_io_errors,
         }
     }
 }
@@ -296,7 +323,11 @@ impl Files for Followed<'_> {
             return Found::Missing;
         }
         self.first = self.first.saturating_sub(1);
-        self.files.find(path)
+        match self.files.find(path) {
+            Found::Unopened(_) if self.ignore_io_errors => Found::Missing,
+            Found::Unread(_) if self.ignore_io_errors => Found::Text(Vec::new()),
+            found => found,
+        }
     }
 }
 
@@ -346,7 +377,11 @@ impl<'a> Host<'a> {
     }
 
     /// Loads again and again, each time with one file or variable more, until none is asked for. Returns whether there is what was wanted.
-    pub(crate) fn load(mut self, file: &mut sys::File, wanted: Wanted<'_>) -> Result<bool, Error> {
+    pub(crate) fn load(
+        mut self,
+        file: &mut sys::File,
+        wanted: Wanted<'_>,
+    ) -> Result<bool, Refusal> {
         loop {
             let (answer, asked) = file.load(&mut self.told, wanted);
             let about = asked.bytes();
@@ -377,44 +412,58 @@ impl<'a> Host<'a> {
     }
 
     /// What a refusal comes to, with what the call named.
-    fn refused(mut self, number: u32, about: &[u8]) -> Error {
-        let fault = |host: Self| {
-            let missing = || io::Error::from(io::ErrorKind::NotFound);
-            (path_of(about), host.fault.unwrap_or_else(missing))
-        };
-        match number {
-            1 | 2 => match self.told.place(about) {
-                Some(refused) => Error::Parse {
-                    path: path_of(about),
-                    source: parse::Error::of(refused),
-                },
+    fn refused(mut self, number: u32, about: &[u8]) -> Refusal {
+        let path = path_of(about);
+        let missing = || io::Error::from(io::ErrorKind::NotFound);
+        let error = match number {
+            number::UNEXPECTED_TOKEN | number::INPUT_TOO_LARGE => match self.told.place(about) {
+                Some(refused) => {
+                    let text = match self.files.find(&path) {
+                        Found::Text(text) => text,
+                        _ => Vec::new(),
+                    };
+                    let source = parse::Error::of(refused, &text);
+                    Error::Parse { path, source }
+                }
                 None => sys::unforeseen(number),
             },
-            span::Error::NUMBER | 4 | 5 => Error::Header(header::Error::of(number)),
-            value_name::Error::NUMBER => Error::ValueName(value_name::Error),
-            12..=14 | sys::NOT_UTF8 => Error::Interpolate(path::interpolate::Error::of(number)),
-            15 => Error::IncludeDepthExceeded { max_depth: 10 },
-            16 => Error::MissingConfigPath,
-            17 => Error::MissingGitDir,
-            18 => Error::Realpath,
-            19 => {
-                let (path, source) = fault(self);
-                Error::Open { path, source }
+            span::Error::NUMBER => Error::Span(span::Error),
+            number::INVALID_SECTION_NAME | number::INVALID_SUBSECTION => {
+                return Refusal::Header(header::Error::of(number))
             }
-            20 => {
-                let (path, source) = fault(self);
-                Error::Read { path, source }
+            value_name::Error::NUMBER => return Refusal::ValueName(value_name::Error),
+            number::MISSING_FOLDER..=number::USER_NOT_UTF8 | sys::NOT_UTF8 => {
+                Error::Interpolate(path::interpolate::Error::of(number))
             }
-            21 => {
-                let (path, source) = fault(self);
-                Error::Io { path, source }
-            }
-            22..=26 => Error::Variable {
-                name: about.into(),
-                number,
+            number::INCLUDE_DEPTH_EXCEEDED => Error::IncludeDepthExceeded { max_depth: 10 },
+            number::MISSING_CONFIG_PATH => Error::MissingConfigPath,
+            number::MISSING_GIT_DIR => Error::MissingGitDir,
+            number::REALPATH => Error::Realpath,
+            number::INCLUDE_NOT_OPENED => Error::Io {
+                path,
+                source: self.fault.unwrap_or_else(missing),
             },
+            number::INCLUDE_NOT_READ => Error::CopyBuffer {
+                path,
+                source: self.fault.unwrap_or_else(missing),
+            },
+            number::FILE_NOT_READ => {
+                let source = self.fault.unwrap_or_else(missing);
+                return Refusal::File { path, source };
+            }
+            number::ILLFORMED_VARIABLE..=number::INVALID_VALUE_ID => {
+                let name = about.to_str_lossy().into_owned();
+                let value = self.variables.get(&name).unwrap_or_default();
+                let value = value.to_str_lossy().into_owned();
+                return Refusal::Variable {
+                    number,
+                    name,
+                    value,
+                };
+            }
             number => sys::unforeseen(number),
-        }
+        };
+        Refusal::Include(error)
     }
 }
 

@@ -16,8 +16,12 @@
 pub mod file;
 mod filter;
 pub mod format;
+mod ids;
 pub mod includes;
+pub mod init;
+pub mod integer;
 mod key;
+mod loads;
 pub mod lookup;
 mod meta;
 pub mod parse;
@@ -28,9 +32,12 @@ mod sys;
 mod text;
 mod typed;
 pub mod value;
+mod value_mut;
 mod view;
+mod with_sections;
 
 pub use file::File;
+pub use integer::Integer;
 pub use key::{AsKey, KeyRef};
 pub use path::Path;
 pub use source::{Source, Trust};

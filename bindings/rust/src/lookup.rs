@@ -13,7 +13,8 @@ pub enum Error<E> {
 
 /// Of values that have to be there.
 pub mod existing {
-    use crate::sys;
+    use crate::parse::section::value_name;
+    use crate::sys::{self, number};
 
     /// What is missing.
     #[derive(Clone, Copy, Debug, PartialEq, Eq, thiserror::Error)]
@@ -25,6 +26,8 @@ pub mod existing {
         SubSectionMissing,
         #[error("The key does not exist in the requested section")]
         KeyMissing,
+        #[error(transparent)]
+        ValueName(#[from] value_name::Error),
     }
 
     impl Error {
@@ -32,17 +35,18 @@ pub mod existing {
         #[must_use]
         pub fn number(&self) -> u32 {
             match self {
-                Error::SectionMissing => 7,
-                Error::SubSectionMissing => 8,
-                Error::KeyMissing => 9,
+                Error::SectionMissing => number::SECTION_MISSING,
+                Error::SubSectionMissing => number::SUBSECTION_MISSING,
+                Error::KeyMissing => number::KEY_MISSING,
+                Error::ValueName(error) => error.number(),
             }
         }
 
         pub(crate) fn of(number: u32) -> Self {
             match number {
-                7 => Error::SectionMissing,
-                8 => Error::SubSectionMissing,
-                9 => Error::KeyMissing,
+                number::SECTION_MISSING => Error::SectionMissing,
+                number::SUBSECTION_MISSING => Error::SubSectionMissing,
+                number::KEY_MISSING => Error::KeyMissing,
                 number => sys::unforeseen(number),
             }
         }

@@ -1,4 +1,5 @@
 //! What is known of where a file or a section comes from.
+use std::io;
 use std::path::PathBuf;
 
 use crate::includes::path_of;
@@ -40,6 +41,17 @@ impl Metadata {
     #[must_use]
     pub fn api() -> Self {
         Metadata::from(Source::Api)
+    }
+
+    /// That of the file at a path, which is trusted if who runs the program owns it.
+    ///
+    /// # Errors
+    ///
+    /// Nobody knows who owns it: there is none, for example.
+    pub fn try_from_path(path: impl Into<PathBuf>, source: Source) -> io::Result<Self> {
+        let path = path.into();
+        let trust = Trust::from_path_ownership(&path)?;
+        Ok(Metadata::from(source).with(trust).at(path))
     }
 
     /// The same with another trust.

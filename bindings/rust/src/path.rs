@@ -9,10 +9,13 @@ use crate::value::file_of;
 
 /// What the shorthands of paths stand for.
 pub mod interpolate {
-    use std::path::Path;
+    use std::fs;
+    use std::path::{Path, PathBuf};
 
-    use crate::includes::known;
-    use crate::sys;
+    use bstr::ByteSlice;
+
+    use crate::includes::{known, path_of};
+    use crate::sys::{self, number};
 
     /// What the shorthands of paths stand for. The default knows nothing.
     #[derive(Clone, Copy, Debug, Default)]
@@ -21,6 +24,19 @@ pub mod interpolate {
         pub git_install_dir: Option<&'a Path>,
         /// The user's home folder, for `~/`.
         pub home_dir: Option<&'a Path>,
+        /// What finds the home folders of other users, for `~user/`; not for the paths of includes.
+        pub home_for_user: Option<fn(&str) -> Option<PathBuf>>,
+    }
+
+    /// The home folder of a user, as `/etc/passwd` has it.
+    #[must_use]
+    pub fn home_for_user(name: &str) -> Option<PathBuf> {
+        let users = fs::read("/etc/passwd").ok()?;
+        let mut users = users
+            .lines()
+            .map(|it| it.split_str(":").collect::<Vec<_>>());
+        let user = users.find(|it| it[0] == name.as_bytes())?;
+        user.get(5).map(|home| path_of(home))
     }
 
     impl<'a> Context<'a> {
@@ -41,13 +57,13 @@ pub mod interpolate {
     #[derive(Clone, Copy, Debug, PartialEq, Eq, thiserror::Error)]
     pub enum Error {
         /// It is empty, or needs a folder that is not known, as those of other users.
-        #[error("{}", sys::words(12))]
+        #[error("{}", sys::words(number::MISSING_FOLDER))]
         Missing,
         /// It is not UTF-8.
-        #[error("{}", sys::words(13))]
+        #[error("{}", sys::words(number::PATH_NOT_UTF8))]
         Utf8Conversion,
         /// The name of a user in it is not UTF-8.
-        #[error("{}", sys::words(14))]
+        #[error("{}", sys::words(number::USER_NOT_UTF8))]
         UsernameConversion,
         /// A folder that is known, or the path of a file, is not UTF-8.
         #[error("{}", sys::words(sys::NOT_UTF8))]
@@ -59,18 +75,18 @@ pub mod interpolate {
         #[must_use]
         pub fn number(&self) -> u32 {
             match self {
-                Error::Missing => 12,
-                Error::Utf8Conversion => 13,
-                Error::UsernameConversion => 14,
+                Error::Missing => number::MISSING_FOLDER,
+                Error::Utf8Conversion => number::PATH_NOT_UTF8,
+                Error::UsernameConversion => number::USER_NOT_UTF8,
                 Error::FolderConversion => sys::NOT_UTF8,
             }
         }
 
         pub(crate) fn of(number: u32) -> Self {
             match number {
-                12 => Error::Missing,
-                13 => Error::Utf8Conversion,
-                14 => Error::UsernameConversion,
+                number::MISSING_FOLDER => Error::Missing,
+                number::PATH_NOT_UTF8 => Error::Utf8Conversion,
+                number::USER_NOT_UTF8 => Error::UsernameConversion,
                 sys::NOT_UTF8 => Error::FolderConversion,
                 number => sys::unforeseen(number),
             }
@@ -87,7 +103,7 @@ pub struct Path {
 
 impl Path {
     /// The path with the shorthand at its front replaced: `%(prefix)/` by the folder where git is installed, `~/` by the user's home
-    /// folder.
+    /// folder, `~user/` by that of another user.
     ///
     /// # Errors
     ///
@@ -109,6 +125,16 @@ impl Path {
         self,
         context: interpolate::Context<'_>,
     ) -> Result<PathBuf, interpolate::Error> {
+        if let (Some(found), Some(behind)) = (context.home_for_user, self.strip_prefix(b"~")) {
+            let end = behind.find_byte(b'/').unwrap_or(behind.len());
+            if end > 0 {
+                let user = behind[..end].to_str();
+                let user = user.map_err(|_| interpolate::Error::UsernameConversion)?;
+                let home = found(user).ok_or(interpolate::Error::Missing)?;
+                let below = path_of(behind[end..].strip_prefix(b"/").unwrap_or_default());
+                return Ok(home.join(below));
+            }
+        }
         let (file, key) = file_of(self.value.as_bstr());
         let path = file.sys.path(&key, &context.given());
         Ok(path_of(path.map_err(interpolate::Error::of)?.bytes()))

@@ -4,6 +4,7 @@ use std::fmt;
 use bstr::{BStr, BString};
 
 use crate::file::{section_names, File};
+use crate::ids::SectionId;
 use crate::meta::Metadata;
 use crate::parse::section::header;
 use crate::parse::span;
@@ -12,7 +13,7 @@ use crate::sys;
 use crate::text::{AsBStr, AsBStrOpt, IntoBStringOpt};
 
 use crate::view::{is_named, lookups};
-pub use crate::view::{BodyRef, BodyRefIter, HeaderRef, SectionRef};
+pub use crate::view::{BodyRef, BodyRefIter, Entries, HeaderRef, SectionRef};
 
 /// A section that was taken out of a file, or copied. Equal ones have the same header, entries and metadata.
 #[derive(Clone, Debug, PartialEq, Eq)]
@@ -47,8 +48,8 @@ impl Section {
     lookups!();
 
     /// The names of the entries, as they are spelled, in order, each as often as it occurs.
-    pub fn value_names(&self) -> impl DoubleEndedIterator<Item = &BStr> {
-        self.pairs().map(|(name, _)| name)
+    pub fn value_names(&self) -> impl DoubleEndedIterator<Item = String> + '_ {
+        self.pairs().map(|(name, _)| name.to_string())
     }
 }
 
@@ -111,6 +112,35 @@ impl<'a> SectionMut<'a> {
     #[must_use]
     pub fn section(&self) -> SectionRef<'_> {
         self.file.sys.seen().section(self.place)
+    }
+
+    /// The section's header as it is now.
+    #[must_use]
+    pub fn header(&self) -> HeaderRef<'_> {
+        self.section().header()
+    }
+
+    /// The section's entries as they are now.
+    #[must_use]
+    pub fn body(&self) -> BodyRef<'_> {
+        self.section().body()
+    }
+
+    /// Where the section comes from.
+    #[must_use]
+    pub fn meta(&self) -> &Metadata {
+        self.section().meta()
+    }
+
+    /// The section's number in its file.
+    #[must_use]
+    pub fn id(&self) -> SectionId {
+        self.section().id()
+    }
+
+    /// [`BodyRef::value_names`] of the section as it is now.
+    pub fn value_names(&self) -> impl DoubleEndedIterator<Item = String> + ExactSizeIterator + '_ {
+        self.section().body().value_names()
     }
 
     /// [`BodyRef::value`] of the section as it is now.

@@ -1,4 +1,15 @@
 //! Where configuration comes from.
+use std::env;
+use std::ffi::OsString;
+use std::fs;
+use std::io;
+use std::os::unix::ffi::OsStringExt;
+use std::os::unix::fs::MetadataExt;
+use std::path::{Path, PathBuf};
+
+use bstr::BString;
+
+use crate::value::Boolean;
 
 /// The place that configuration is read from; of two the later one counts.
 #[derive(Clone, Copy, Debug, PartialEq, Eq, PartialOrd, Ord, Hash)]
@@ -67,6 +78,54 @@ impl Source {
         }
     }
 
+    /// Where the file of the place is, by variables of the environment: that of a repository or a worktree in its folder. `None` for a place
+    /// without a file, and for what was installed with git, which isn't looked for.
+    ///
+    /// # Examples
+    ///
+    /// ```
+    /// use gix_config::Source;
+    /// let mut env = |name: &str| (name == "HOME").then(|| "/home/ada".into());
+    /// let user = Source::User.storage_location(&mut env).expect("a path");
+    /// assert_eq!(user, std::path::Path::new("/home/ada/.gitconfig"));
+    /// ```
+    pub fn storage_location(
+        self,
+        env_var: &mut dyn FnMut(&str) -> Option<OsString>,
+    ) -> Option<PathBuf> {
+        match self {
+            Source::System => {
+                let no_system = env_var("GIT_CONFIG_NOSYSTEM").map(OsString::into_vec);
+                let no_system = no_system.map(|it| Boolean::try_from(BString::from(it)));
+                if matches!(no_system, Some(Ok(Boolean(true)))) {
+                    return None;
+                }
+                let named = env_var("GIT_CONFIG_SYSTEM").map(PathBuf::from);
+                Some(named.unwrap_or_else(|| "/etc/gitconfig".into()))
+            }
+            Source::Git | Source::User => {
+                if let Some(named) = env_var("GIT_CONFIG_GLOBAL") {
+                    return Some(named.into());
+                }
+                let mut home = |below: &str| Some(PathBuf::from(env_var("HOME")?).join(below));
+                if self == Source::User {
+                    return home(".gitconfig");
+                }
+                let default = home(".config/git/config");
+                let folder = env_var("XDG_CONFIG_HOME").filter(|it| !it.is_empty());
+                let named = folder.map(|it| PathBuf::from(it).join("git/config"));
+                named.or(default)
+            }
+            Source::Local => Some("config".into()),
+            Source::Worktree => Some("config.worktree".into()),
+            Source::GitInstallation
+            | Source::Env
+            | Source::Cli
+            | Source::Api
+            | Source::EnvOverride => None,
+        }
+    }
+
     const ALL: [Source; 10] = [
         Source::GitInstallation,
         Source::System,
@@ -102,6 +161,22 @@ pub enum Trust {
 }
 
 impl Trust {
+    /// That of a file: full if who runs the program owns it, or, if that is root by `sudo`, who called it.
+    ///
+    /// # Errors
+    ///
+    /// Nobody knows who owns it: there is none, for example.
+    pub fn from_path_ownership(path: impl AsRef<Path>) -> io::Result<Trust> {
+        let owner = fs::symlink_metadata(path)?.uid();
+        let own = fs::metadata("/proc/self")?.uid();
+        let caller = || env::var("SUDO_UID").ok()?.parse().ok();
+        Ok(if owner == own || (own == 0 && caller() == Some(owner)) {
+            Trust::Full
+        } else {
+            Trust::Reduced
+        })
+    }
+
     /// The number of the library.
     pub(crate) const fn number(self) -> u32 {
         self as u32

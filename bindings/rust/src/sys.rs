@@ -10,18 +10,33 @@ use std::mem::MaybeUninit;
 
 use bstr::BString;
 
+use crate::ids::Ids;
 use crate::includes::Found;
+use crate::meta;
 use crate::view::Seen;
 
 // (as tools/c_header writes it)
 #[rustfmt::skip]
 mod raw;
 
+use raw::Origin;
+
 pub(crate) use raw::{
-    Assigned, EntryRow, Filter, Folders, Includes, Key, Layout, Line, Load, Origin, OriginRow,
+    Assigned, EntryRow, Filter, Folders, Includes, Key, Layout, Line, Load, Metadata, OriginRow,
     Part, Place, Places, Repository, Section, SectionRow, Text, NOTHING_THERE, NOT_TOLD, NOT_UTF8,
     SOURCES_ALL, VARIABLE_NOT_TOLD,
 };
+
+/// The numbers of refusals.
+pub(crate) mod number {
+    pub(crate) use super::raw::{
+        BAD_VALUE, FILE_NOT_READ, ILLFORMED_VARIABLE, INCLUDE_DEPTH_EXCEEDED, INCLUDE_NOT_OPENED,
+        INCLUDE_NOT_READ, INPUT_TOO_LARGE, INVALID_CONFIG_COUNT, INVALID_KEY_ID, INVALID_KEY_VALUE,
+        INVALID_SECTION_NAME, INVALID_SUBSECTION, INVALID_VALUE_ID, INVALID_VALUE_NAME,
+        KEY_MISSING, MISSING_CONFIG_PATH, MISSING_FOLDER, MISSING_GIT_DIR, PATH_NOT_UTF8, REALPATH,
+        SECTION_MISSING, SPAN_TOO_LARGE, SUBSECTION_MISSING, UNEXPECTED_TOKEN, USER_NOT_UTF8,
+    };
+}
 
 /// The number of a refusal.
 pub(crate) type Number = u32;
@@ -122,9 +137,14 @@ impl List {
         })
     }
 
+    /// The handle, which a call has for itself, also one that only reads.
+    fn at(&mut self) -> *mut raw::List {
+        &mut self.0
+    }
+
     fn len(&mut self) -> usize {
         // SAFETY: the handle is empty, or was filled by a call.
-        unsafe { raw::gix_config_list_len(&mut self.0) }
+        unsafe { raw::gix_config_list_len(self.at()) }
     }
 
     /// What is made of a thing of the list.
@@ -135,11 +155,11 @@ impl List {
     unsafe fn one<T, Made>(
         &mut self,
         index: usize,
-        call: unsafe extern "C" fn(*mut raw::List, usize, *mut T) -> u32,
+        call: unsafe extern "C" fn(*const raw::List, usize, *mut T) -> u32,
         make: impl Fn(&T) -> Made,
     ) -> Made {
         let mut thing = MaybeUninit::<T>::zeroed();
-        surely(call(&mut self.0, index, thing.as_mut_ptr()));
+        surely(call(self.at(), index, thing.as_mut_ptr()));
         make(&thing.assume_init())
     }
 
@@ -246,9 +266,25 @@ pub(crate) fn normalize(text: &[u8], layout: &Layout) -> Result<Bytes, (Number, 
     let answer = unsafe { raw::gix_config_normalize(at, len, layout, &mut laid_out.0, &mut place) };
     match done(answer) {
         Ok(()) => Ok(laid_out),
-        Err(number @ (1 | 2)) => Err((number, place)),
+        Err(number @ (number::UNEXPECTED_TOKEN | number::INPUT_TOO_LARGE)) => Err((number, place)),
         Err(number) => unforeseen(number),
     }
+}
+
+/// What a text means as a boolean.
+pub(crate) fn boolean_of(text: &[u8]) -> Result<bool, Number> {
+    let mut value = false;
+    // SAFETY: the text is as long as is said.
+    done(unsafe { raw::gix_config_boolean_parse(text.as_ptr(), text.len(), &mut value) })?;
+    Ok(value)
+}
+
+/// What a text means as an integer, times its suffix.
+pub(crate) fn integer_of(text: &[u8]) -> Result<i64, Number> {
+    let mut value = 0;
+    // SAFETY: the text is as long as is said.
+    done(unsafe { raw::gix_config_integer_parse(text.as_ptr(), text.len(), &mut value) })?;
+    Ok(value)
 }
 
 /// What is told of files and of variables, which is freed with this.
@@ -263,6 +299,11 @@ impl Told {
         // SAFETY: the handle is a new one.
         surely(unsafe { raw::gix_config_told_new(&mut told.0) });
         told
+    }
+
+    /// The handle, which a call has for itself, also one that only reads.
+    fn at(&mut self) -> *mut raw::Told {
+        &mut self.0
     }
 
     /// Tells what is at a path.
@@ -304,9 +345,11 @@ impl Told {
         let mut place = Place::default();
         let (at, len) = (path.as_ptr(), path.len());
         // SAFETY: the handle has what is told, and the path is as long as is said.
-        let answer = unsafe { raw::gix_config_told_place(&mut self.0, at, len, &mut place) };
+        let answer = unsafe { raw::gix_config_told_place(self.at(), at, len, &mut place) };
         match done(answer) {
-            Err(number @ (1 | 2)) => Some((number, place)),
+            Err(number @ (number::UNEXPECTED_TOKEN | number::INPUT_TOO_LARGE)) => {
+                Some((number, place))
+            }
             _ => None,
         }
     }
@@ -340,6 +383,10 @@ pub(crate) struct File {
     handle: UnsafeCell<raw::File>,
     /// Its sections, until it is edited.
     seen: Lazy<Seen>,
+    /// Where it comes from, until it is edited.
+    meta: Lazy<meta::Metadata>,
+    /// The numbers of its sections.
+    ids: Ids,
 }
 
 impl File {
@@ -350,6 +397,8 @@ impl File {
                 at: std::ptr::null_mut(),
             }),
             seen: Lazy::default(),
+            meta: Lazy::default(),
+            ids: Ids::default(),
         }
     }
 
@@ -360,6 +409,7 @@ impl File {
     /// The handle for a call that edits the file.
     fn edited(&mut self) -> *mut raw::File {
         self.seen.clear();
+        self.meta.clear();
         self.at()
     }
 
@@ -379,8 +429,12 @@ impl File {
             });
             // SAFETY: the handle has a file, which no other call has now, and the view is a new one.
             surely(unsafe { raw::gix_config_view_file(self.at(), &mut view.0) });
-            Seen::of(view)
+            Seen::of(view, self.ids.clone())
         })
+    }
+
+    pub(crate) fn ids(&self) -> &Ids {
+        &self.ids
     }
 
     /// The file of a text; else the number, and where the text is refused.
@@ -391,7 +445,29 @@ impl File {
         let answer = unsafe { raw::gix_config_file_parse(at, len, false, file.at(), &mut place) };
         match done(answer) {
             Ok(()) => Ok(file),
-            Err(number @ (1 | 2)) => Err((number, place)),
+            Err(number @ (number::UNEXPECTED_TOKEN | number::INPUT_TOO_LARGE)) => {
+                Err((number, place))
+            }
+            Err(number) => unforeseen(number),
+        }
+    }
+
+    /// As `parse`, of a text that comes from elsewhere; also the number for a path that is not UTF-8, with any place.
+    pub(crate) fn parse_as(
+        text: &[u8],
+        meta: &Metadata<'_>,
+        lossy: bool,
+    ) -> Result<Self, (Number, Place)> {
+        let (file, mut place) = (File::empty(), Place::default());
+        let (at, len) = (text.as_ptr(), text.len());
+        // SAFETY: the text is as long as is said, and the handle is a new one.
+        let answer =
+            unsafe { raw::gix_config_file_parse_as(at, len, meta, lossy, file.at(), &mut place) };
+        match done(answer) {
+            Ok(()) => Ok(file),
+            Err(number @ (number::UNEXPECTED_TOKEN | number::INPUT_TOO_LARGE | NOT_UTF8)) => {
+                Err((number, place))
+            }
             Err(number) => unforeseen(number),
         }
     }
@@ -402,7 +478,7 @@ impl File {
         told: &mut Told,
         wanted: Wanted<'_>,
     ) -> (Result<(), Number>, Bytes) {
-        let (told, file, mut asked) = (&mut told.0, self.edited(), Bytes::empty());
+        let (told, file, mut asked) = (told.at(), self.edited(), Bytes::empty());
         let about = &mut asked.0;
         // SAFETY: what is told is another handle than the file's, which no other call has now.
         let answer = unsafe {
@@ -422,12 +498,17 @@ impl File {
                 }
             }
         };
-        (done(answer), asked)
+        let loaded = done(answer);
+        if loaded.is_ok() {
+            self.ids = Ids::default();
+        }
+        (loaded, asked)
     }
 
     /// A copy.
     pub(crate) fn copy(&self) -> Self {
-        let copy = File::empty();
+        let mut copy = File::empty();
+        copy.ids = self.ids.clone();
         // SAFETY: the handle has a file, and the other is a new one.
         surely(unsafe { raw::gix_config_file_clone(self.at(), copy.at()) });
         copy
@@ -461,12 +542,15 @@ impl File {
         text
     }
 
-    /// Where the file comes from, and its path.
-    pub(crate) fn origin(&self) -> (Origin, Bytes) {
-        let (mut origin, mut path) = (Origin::default(), Bytes::empty());
-        // SAFETY: the handle has a file, which no other call has now.
-        surely(unsafe { raw::gix_config_file_origin(self.at(), &mut origin, &mut path.0) });
-        (origin, path)
+    /// Where the file comes from.
+    pub(crate) fn meta(&self) -> &meta::Metadata {
+        self.meta.get(|| {
+            let (mut origin, mut path) = (Origin::default(), Bytes::empty());
+            // SAFETY: the handle has a file, which no other call has now.
+            surely(unsafe { raw::gix_config_file_origin(self.at(), &mut origin, &mut path.0) });
+            let path = origin.has_path.then(|| path.bytes());
+            meta::Metadata::of(path, origin.source, origin.level, origin.trust)
+        })
     }
 
     /// The last value of a key; with a filter in the sections that it keeps.
@@ -580,6 +664,8 @@ impl File {
 
     /// Removes the section at a place, where there is one.
     pub(crate) fn remove_section_at(&mut self, place: usize) {
+        let sections = self.seen().sections().len();
+        self.ids.remove(place, sections);
         // SAFETY: the handle has a file.
         surely(unsafe { raw::gix_config_section_remove_at(self.edited(), place) });
     }

@@ -1,8 +1,8 @@
 //! Values in a type.
 use bstr::{BStr, BString};
 
-use crate::file::{names, typed, File};
-use crate::sys;
+use crate::file::{names, File};
+use crate::sys::{self, number};
 
 /// Why a value is not of the type.
 #[derive(Clone, Debug, PartialEq, Eq, thiserror::Error)]
@@ -16,7 +16,7 @@ pub struct Error {
 
 impl Error {
     /// The number of the refusal in docs/refusals.md.
-    pub(crate) const NUMBER: u32 = 11;
+    pub(crate) const NUMBER: u32 = number::BAD_VALUE;
 
     /// That a value is wrong, by what is.
     #[must_use]
@@ -34,13 +34,17 @@ pub(crate) fn file_of(value: &BStr) -> (File, sys::Key<'static>) {
     (file, key)
 }
 
+/// A value in a type, of what the library answers; one of another type is told with its text.
+fn of_type<T>(found: Result<T, u32>, message: &'static str, value: &BStr) -> Result<T, Error> {
+    found.map_err(|number| match number {
+        Error::NUMBER => Error::new(message, value),
+        number => sys::unforeseen(number),
+    })
+}
+
 /// A value as an integer, times its suffix.
 pub(crate) fn integer_of(value: &BStr) -> Result<i64, Error> {
-    let (file, key) = file_of(value);
-    let found = typed(file.sys.integer(&key, None), "not an integer", || {
-        value.into()
-    })?;
-    Ok(found.expect("the file has the value"))
+    of_type(sys::integer_of(value), "not an integer", value)
 }
 
 /// A boolean, as git takes it.
@@ -51,11 +55,7 @@ impl TryFrom<&BStr> for Boolean {
     type Error = Error;
 
     fn try_from(value: &BStr) -> Result<Self, Error> {
-        let (file, key) = file_of(value);
-        let found = typed(file.sys.boolean(&key, None), "not a boolean", || {
-            value.into()
-        })?;
-        Ok(Boolean(found.expect("the file has the value")))
+        of_type(sys::boolean_of(value), "not a boolean", value).map(Boolean)
     }
 }
 

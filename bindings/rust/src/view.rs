@@ -5,6 +5,7 @@ use std::ops::Deref;
 
 use bstr::{BStr, BString, ByteSlice};
 
+use crate::ids::{Ids, SectionId};
 use crate::meta::Metadata;
 use crate::section::Section;
 use crate::sys::{self, EntryRow, Lazy, Part, SectionRow};
@@ -13,6 +14,7 @@ use crate::sys::{self, EntryRow, Lazy, Part, SectionRow};
 pub(crate) struct Seen {
     rows: sys::View,
     metas: Vec<Metadata>,
+    ids: Ids,
     /// The places of the sections, by their names.
     by_names: Lazy<Vec<usize>>,
 }
@@ -28,7 +30,7 @@ fn by_name(one: &[u8], other: &[u8]) -> Ordering {
 }
 
 impl Seen {
-    pub(crate) fn of(rows: sys::View) -> Self {
+    pub(crate) fn of(rows: sys::View, ids: Ids) -> Self {
         let metas = rows.origins().iter().map(|it| {
             let path = it.has_path.then(|| rows.part(it.path));
             Metadata::of(path, it.source, it.level, it.trust)
@@ -38,6 +40,7 @@ impl Seen {
         Seen {
             rows,
             metas,
+            ids,
             by_names,
         }
     }
@@ -135,6 +138,12 @@ impl<'a> SectionRef<'a> {
         &self.body.seen.metas[self.row.origin]
     }
 
+    /// The section's number in its file.
+    #[must_use]
+    pub fn id(&self) -> SectionId {
+        self.body.seen.ids.at(self.place)
+    }
+
     /// Its place among the sections of the file, from 0.
     pub(crate) fn place(&self) -> usize {
         self.place
@@ -144,7 +153,7 @@ impl<'a> SectionRef<'a> {
     #[must_use]
     pub fn to_owned(&self) -> Section {
         let header = self.header();
-        let entries = self.body.into_iter();
+        let entries = self.body.entries();
         Section {
             name: header.name.into(),
             subsection_name: header.subsection_name.map(BString::from),
@@ -204,7 +213,7 @@ impl<'a> HeaderRef<'a> {
 }
 
 /// The entries of a section, as they are until the file is edited. Looked through they are pairs of a name, as it is spelled, and what the
-/// value means; `None` for an entry without `=`.
+/// value means, which is empty for an entry without `=`; [`BodyRef::entries`] borrows both.
 #[derive(Clone, Copy)]
 pub struct BodyRef<'a> {
     seen: &'a Seen,
@@ -256,32 +265,38 @@ pub(crate) fn is_named(name: &BStr, value_name: &str) -> bool {
 }
 
 impl<'a> BodyRef<'a> {
-    fn pairs(&self) -> BodyRefIter<'a> {
-        self.into_iter()
+    fn pairs(&self) -> Entries<'a> {
+        self.entries()
     }
 
     lookups!();
 
+    /// The entries, as pairs of a name, as it is spelled, and what the value means; `None` for an entry without `=`.
+    #[must_use]
+    pub fn entries(&self) -> Entries<'a> {
+        let left = self.entries.iter();
+        let seen = self.seen;
+        Entries { seen, left }
+    }
+
     /// The names of the entries, as they are spelled, in order, each as often as it occurs.
-    pub fn value_names(&self) -> impl DoubleEndedIterator<Item = &'a BStr> + ExactSizeIterator {
-        self.pairs().map(|(name, _)| name)
+    pub fn value_names(&self) -> impl DoubleEndedIterator<Item = String> + ExactSizeIterator + 'a {
+        self.entries().map(|(name, _)| name.to_string())
     }
 }
 
 impl<'a> IntoIterator for BodyRef<'a> {
-    type Item = (&'a BStr, Option<&'a BStr>);
+    type Item = (String, BString);
     type IntoIter = BodyRefIter<'a>;
 
     fn into_iter(self) -> BodyRefIter<'a> {
-        let left = self.entries.iter();
-        let seen = self.seen;
-        BodyRefIter { seen, left }
+        BodyRefIter(self.entries())
     }
 }
 
 impl PartialEq for BodyRef<'_> {
     fn eq(&self, other: &Self) -> bool {
-        self.into_iter().eq(*other)
+        self.entries().eq(other.entries())
     }
 }
 
@@ -289,25 +304,25 @@ impl Eq for BodyRef<'_> {}
 
 impl fmt::Debug for BodyRef<'_> {
     fn fmt(&self, f: &mut fmt::Formatter<'_>) -> fmt::Result {
-        f.debug_list().entries(*self).finish()
+        f.debug_list().entries(self.entries()).finish()
     }
 }
 
 /// The entries of a section, one after the other.
 #[derive(Clone)]
-pub struct BodyRefIter<'a> {
+pub struct Entries<'a> {
     seen: &'a Seen,
     left: std::slice::Iter<'a, EntryRow>,
 }
 
-impl<'a> BodyRefIter<'a> {
+impl<'a> Entries<'a> {
     fn entry(&self, row: &EntryRow) -> (&'a BStr, Option<&'a BStr>) {
         let value = row.has_value.then(|| self.seen.part(row.value));
         (self.seen.part(row.name), value)
     }
 }
 
-impl<'a> Iterator for BodyRefIter<'a> {
+impl<'a> Iterator for Entries<'a> {
     type Item = (&'a BStr, Option<&'a BStr>);
 
     fn next(&mut self) -> Option<Self::Item> {
@@ -320,10 +335,39 @@ impl<'a> Iterator for BodyRefIter<'a> {
     }
 }
 
-impl DoubleEndedIterator for BodyRefIter<'_> {
+impl DoubleEndedIterator for Entries<'_> {
     fn next_back(&mut self) -> Option<Self::Item> {
         let row = self.left.next_back()?;
         Some(self.entry(row))
+    }
+}
+
+impl ExactSizeIterator for Entries<'_> {}
+
+/// The entries of a section, one after the other, with names and values of their own.
+#[derive(Clone)]
+pub struct BodyRefIter<'a>(Entries<'a>);
+
+/// An entry with a name and a value of its own.
+fn owned((name, value): (&BStr, Option<&BStr>)) -> (String, BString) {
+    (name.to_string(), value.unwrap_or_default().into())
+}
+
+impl Iterator for BodyRefIter<'_> {
+    type Item = (String, BString);
+
+    fn next(&mut self) -> Option<Self::Item> {
+        self.0.next().map(owned)
+    }
+
+    fn size_hint(&self) -> (usize, Option<usize>) {
+        self.0.size_hint()
+    }
+}
+
+impl DoubleEndedIterator for BodyRefIter<'_> {
+    fn next_back(&mut self) -> Option<Self::Item> {
+        self.0.next_back().map(owned)
     }
 }
 

@@ -1,5 +1,6 @@
 //! The calls, as they are meant to be called.
 use bstr::{BStr, BString, ByteSlice};
+use gix_config::file::init::{self, from_env, from_git_dir, from_paths};
 use gix_config::file::Metadata;
 use gix_config::includes::{Error, Files, Found, Options, Places, Variables};
 use gix_config::parse::section::header;
@@ -148,10 +149,7 @@ fn sections() {
     assert_eq!(sections[0].value_implicit("none"), None);
     assert!(sections[0].contains_value_name("BARE") && !sections[1].contains_value_name("k"));
     assert_eq!(sections[1].num_values(), 0);
-    assert_eq!(
-        sections[2].value_names().collect::<Vec<_>>(),
-        ["j".as_bytes().as_bstr()]
-    );
+    assert_eq!(sections[2].value_names().collect::<Vec<_>>(), ["j"]);
     assert_eq!(sections[2].value("j"), Some("3".into()));
 }
 
@@ -171,7 +169,7 @@ fn sections_are_borrowed() {
         (a.header().name(), b.header().name()),
         ("A".into(), "b".into())
     );
-    let entries: Vec<_> = a.body().into_iter().collect();
+    let entries: Vec<_> = a.body().entries().collect();
     let (one, two): (&BStr, &BStr) = ("1".into(), "2".into());
     let named = |name: &'static str, value| (name.into(), value);
     let wanted = [
@@ -180,9 +178,12 @@ fn sections_are_borrowed() {
         named("k", Some(two)),
     ];
     assert_eq!(entries, wanted);
+    assert!(a.entries().rev().eq(wanted.into_iter().rev()));
+    assert_eq!(b.entries().next(), None);
+    let own = |name: &str, value: &str| (name.to_owned(), value.into());
+    let wanted = [own("K", "1"), own("bare", ""), own("k", "2")];
     assert_eq!(a.into_iter().len(), 3);
     assert!(a.body().into_iter().rev().eq(wanted.into_iter().rev()));
-    assert_eq!(b.body().into_iter().next(), None);
     assert!(std::ptr::eq(a.meta(), b.meta()));
     assert_eq!(a, file.section("a", "x").expect("a section"));
     assert_ne!(a, b);
@@ -197,7 +198,7 @@ fn sections_are_borrowed() {
     assert_eq!(kept.header().subsection_name(), Some("x".into()));
     assert_eq!(kept.value_implicit("bare"), Some(None));
     let names: Vec<_> = kept.value_names().collect();
-    assert_eq!(names, ["K".as_bytes(), b"bare", b"k"]);
+    assert_eq!(names, ["K", "bare", "k"]);
     let mut other = file.clone();
     other
         .append(File::try_from("[c]\n\tn = 1\n").expect("a text"))
@@ -369,7 +370,7 @@ fn includes_are_put_where_they_stand() {
         .expect_err("a file that doesn't open");
     assert_eq!(refused.number(), 19);
     match refused {
-        Error::Open { path, source } => {
+        from_paths::Error::Init(init::Error::Includes(Error::Io { path, source })) => {
             assert_eq!(path, Path::new("/b"));
             assert_eq!(source.kind(), io::ErrorKind::PermissionDenied);
         }
@@ -385,7 +386,8 @@ fn what_is_handed_out_may_be_sent() {
     is_send::<Metadata>();
     is_send::<KeyRef<'_>>();
     is_send::<Options<'_>>();
-    is_send::<gix_config::includes::Error>();
+    is_send::<Error>();
+    is_send::<from_git_dir::Error>();
     is_send::<gix_config::parse::Error>();
 }
 
@@ -442,7 +444,7 @@ fn machine_user_and_repository() {
         .expect_err("no repository");
     assert_eq!(refused.number(), 21);
     match refused {
-        Error::Io { path, source } => {
+        from_git_dir::Error::FromPaths(from_paths::Error::Io { path, source }) => {
             assert_eq!(path, Path::new("/repo/.git/config"));
             assert_eq!(source.kind(), io::ErrorKind::NotFound);
         }
@@ -459,15 +461,32 @@ fn entries_of_variables() {
     assert!(none.is_none());
     variables.0 = vec![("GIT_CONFIG_COUNT", b"1"), ("GIT_CONFIG_KEY_0", b"ab")];
     let refused = File::from_env_of(options, &mut files, &mut variables).expect_err("no value");
+    assert_eq!(refused.number(), 26);
     match refused {
-        Error::Variable { name, number } => {
-            assert_eq!((name, number), ("GIT_CONFIG_VALUE_0".into(), 26));
-        }
+        from_env::Error::InvalidValueId { value_id } => assert_eq!(value_id, 0),
         other => panic!("{other}"),
     }
     variables.0.push(("GIT_CONFIG_VALUE_0", b"1"));
     let refused = File::from_env_of(options, &mut files, &mut variables).expect_err("no dot");
-    assert_eq!(refused.number(), 25);
+    match refused {
+        from_env::Error::InvalidKeyValue { key_id, key_val } => {
+            assert_eq!((key_id, &*key_val), (0, "ab"));
+        }
+        other => panic!("{other}"),
+    }
+    variables.0[1].1 = b"a.\xff";
+    let refused = File::from_env_of(options, &mut files, &mut variables).expect_err("no text");
+    match refused {
+        from_env::Error::IllformedUtf8 { index, kind } => assert_eq!((index, kind), (0, "key")),
+        other => panic!("{other}"),
+    }
+    variables.0[0].1 = b"many";
+    let refused = File::from_env_of(options, &mut files, &mut variables).expect_err("no number");
+    match refused {
+        from_env::Error::InvalidConfigCount { input } => assert_eq!(input, "many"),
+        other => panic!("{other}"),
+    }
+    variables.0[0].1 = b"1";
     variables.0[1].1 = b"a.b";
     let made = File::from_env_of(options, &mut files, &mut variables).expect("an entry");
     assert_eq!(made.and_then(|it| it.string("a.b")), Some("1".into()));
@@ -499,6 +518,7 @@ fn paths() {
     let folders = Context {
         git_install_dir: Some(Path::new("/git")),
         home_dir: Some(Path::new("/home/ada")),
+        ..Context::default()
     };
     let path = file.path("p.home").expect("a path");
     assert_eq!(path.as_bytes(), b"~/x");
@@ -569,7 +589,7 @@ fn where_files_and_sections_come_from() {
     ];
     let found: Vec<_> = file.sections().map(|it| it.meta().clone()).collect();
     assert_eq!(found, wanted);
-    assert_eq!(file.meta(), wanted[0]);
+    assert_eq!(file.meta(), &wanted[0]);
     let of_text = Metadata {
         path: None,
         source: Source::Api,
@@ -577,8 +597,8 @@ fn where_files_and_sections_come_from() {
         trust: Trust::Full,
     };
     let mut file = File::try_from("[a]\n").expect("a text");
-    assert_eq!(file.meta(), of_text);
-    assert_eq!(File::default().meta(), of_text);
+    assert_eq!(file.meta(), &of_text);
+    assert_eq!(File::default().meta(), &of_text);
     let mut editor = file.section_mut("a", None).expect("a section");
     assert_eq!(editor.section().meta(), &of_text);
     editor.set_trust(Trust::Reduced);
@@ -885,9 +905,10 @@ fn a_text_that_is_refused_in_a_load_has_its_path_and_place() {
     let said = refused.to_string();
     assert!(said.starts_with("'/b': line 3, column 1: "), "{said}");
     match refused {
-        Error::Parse { path, source } => {
+        from_paths::Error::Init(init::Error::Includes(Error::Parse { path, source })) => {
             assert_eq!(path, Path::new("/b"));
             assert_eq!((source.line_number(), source.number()), (3, 1));
+            assert_eq!(source.remaining_data(), b"= 1\n");
         }
         other => panic!("{other}"),
     }
@@ -1032,7 +1053,7 @@ fn kinds_of_sources_and_metadata_that_is_made() {
         (made.path.as_deref(), made.source, made.level, made.trust),
         (Some(Path::new("/x")), Source::Local, 0, Trust::Reduced)
     );
-    assert_eq!(Metadata::default(), file().meta());
+    assert_eq!(&Metadata::default(), file().meta());
 }
 
 #[test]
@@ -1156,4 +1177,273 @@ fn edits_of_the_sections_that_a_filter_keeps() {
     let made = file.section_mut_or_create_new_filter("a", None, trusted);
     made.expect("a section").push("n", None).expect("a name");
     assert_eq!(file.sections().count(), 4);
+}
+
+#[test]
+fn values_with_their_sections() {
+    let text = "[a]\n\tk = 1\n\tk = 2\n[a]\n\tk\n[a]\n\tj = 3\n";
+    let file = File::try_from(text).expect("a text");
+    let place = |section: SectionRef<'_>| file.sections().position(|it| it.id() == section.id());
+    let (value, section) = file.raw_value_with_section("a.k").expect("a value");
+    assert_eq!((value, place(section)), ("2".into(), Some(0)));
+    let all = file.raw_values_with_sections("a.k").expect("values");
+    let all: Vec<_> = all.into_iter().map(|it| (it.0, place(it.1))).collect();
+    let wanted = [("1", 0), ("2", 0), ("", 1)];
+    let wanted = wanted.map(|(value, at)| (BString::from(value), Some(at)));
+    assert_eq!(all, wanted);
+    let (value, section) = file.value_with_section::<Vec<u8>>("a.j").expect("a value");
+    assert_eq!((&*value, place(section)), (&b"3"[..], Some(2)));
+    let all = file.values_with_sections_by::<Vec<u8>>("a", None, "k");
+    assert_eq!(all.expect("values").len(), 3);
+    let none = file.raw_value_with_section_filter("a.k", |meta| meta.level == 1);
+    assert_eq!(
+        none.map(|it| it.0),
+        Err(lookup::existing::Error::KeyMissing)
+    );
+}
+
+#[test]
+fn numbers_of_sections() {
+    let mut file = File::try_from("[a]\n\tk = 1\n[b]\n[a]\n\tk = 2\n").expect("a text");
+    let ids: Vec<_> = file.section_ids().collect();
+    let found = file.sections_and_ids_by_name("A").expect("sections");
+    assert_eq!(found.map(|it| it.1).collect::<Vec<_>>(), [ids[0], ids[2]]);
+    let removed = file.remove_section_by_id(ids[0]).expect("a section");
+    assert_eq!(removed.value("k"), Some("1".into()));
+    assert!(file.remove_section_by_id(ids[0]).is_none());
+    let new = file.new_section("c", None).expect("a section").id();
+    file.set_raw_value("d.k", "1").expect("a section");
+    let copy = file.clone();
+    let mut last = file.section_mut_by_id(ids[2]).expect("a section");
+    assert_eq!((last.id(), last.meta().level), (ids[2], 0));
+    last.set("k", "3").expect("a value");
+    assert_eq!(last.value_names().collect::<Vec<_>>(), ["k"]);
+    assert_eq!(
+        (last.header().name(), last.body().num_values()),
+        ("a".into(), 1)
+    );
+    assert_eq!(file.to_string(), "[b]\n[a]\n\tk = 3\n[c]\n[d]\n\tk = 1\n");
+    let all: Vec<_> = copy.sections_and_ids().map(|it| it.1).collect();
+    assert_eq!(all[..3], [ids[1], ids[2], new]);
+    assert!(!ids.contains(&all[3]) && all[3] != new);
+    assert!(file
+        .section_mut_by_id(gix_config::file::SectionId::default())
+        .is_none());
+}
+
+#[test]
+fn editors_of_values() {
+    let text = "[a]\n\tk = 1\n[a]\n\tk = 2 ; two\n\tbare\n";
+    let mut file = File::try_from(text).expect("a text");
+    let mut value = file.raw_value_mut("a.K").expect("an entry");
+    assert_eq!(value.get(), Ok("2".into()));
+    value.set("3").expect("room");
+    assert_eq!(value.section().values("k"), ["3"]);
+    value.delete();
+    value.delete();
+    assert_eq!(value.get(), Err(lookup::existing::Error::KeyMissing));
+    value.set_string("4").expect("room");
+    assert_eq!(value.into_section_mut().num_values(), 2);
+    assert_eq!(file.strings("a.k"), Some(texts(&["1", "4"])));
+    let bare = file.raw_value_mut_by("a", None, "bare").expect("an entry");
+    assert_eq!(bare.get(), Err(lookup::existing::Error::KeyMissing));
+    let none = file.raw_value_mut_filter("a.k", |_| false);
+    assert_eq!(none.map(drop), Err(lookup::existing::Error::KeyMissing));
+}
+
+#[test]
+fn files_of_texts_from_elsewhere() {
+    let meta = Metadata::from(Source::User).at("/home/ada/.gitconfig");
+    let text = b"[a]\n\tk = 1 ; one\n";
+    let file = File::from_bytes_no_includes(text, meta.clone(), Default::default());
+    let file = file.expect("a text");
+    assert_eq!(
+        (file.meta(), &file.to_string().into_bytes()[..]),
+        (&meta, &text[..])
+    );
+    let options = init::Options {
+        lossy: true,
+        ..Default::default()
+    };
+    let lossy = File::from_bytes_owned(&mut text.to_vec(), meta.clone(), options);
+    assert_eq!(lossy.expect("a text").to_string(), "[a]\nk=1\n");
+    let refused = File::from_bytes_no_includes(b"[", meta.clone(), options);
+    assert_eq!(refused.expect_err("no text").number(), 1);
+    let odd = meta.at(Path::new(std::ffi::OsStr::from_bytes(b"\xff")));
+    let refused = File::from_bytes_no_includes(text, odd, options);
+    assert_eq!(refused.expect_err("no path").number(), 101);
+
+    let mut file = File::new(Source::Cli);
+    file.set_raw_value("a.k", "1").expect("a value");
+    assert_eq!(
+        file.section("a", None).map(|it| it.meta().source),
+        Ok(Source::Cli)
+    );
+}
+
+#[test]
+fn files_of_the_disk() {
+    let room = std::env::temp_dir().join(format!("gix-config-{}", std::process::id()));
+    std::fs::create_dir_all(&room).expect("a folder");
+    let write = |name: &str, text: &str| {
+        let path = room.join(name);
+        std::fs::write(&path, text).expect("a file");
+        path
+    };
+    let one = write("one", "[a]\n\tk = 1\n[include]\n\tpath = two\n");
+    let two = write("two", "[a]\n\tk = 2\n");
+    let file = File::from_path_no_includes(one.clone(), Source::Local).expect("a file");
+    assert_eq!(file.meta(), &Metadata::from(Source::Local).at(&one));
+    assert_eq!(file.strings("a.k"), Some(texts(&["1"])));
+    assert_eq!(
+        Metadata::try_from_path(&one, Source::Local).ok().as_ref(),
+        Some(file.meta())
+    );
+
+    let none = room.join("none");
+    let of = |path: &Path| Metadata::from(Source::User).at(path);
+    let options = init::Options::from(Options::follow_without_conditional(None));
+    let metas = [of(&one), Metadata::api(), of(&one), of(&two)];
+    let file = File::from_paths_metadata(metas, options).expect("files");
+    let file = file.expect("files");
+    assert_eq!(file.strings("a.k"), Some(texts(&["1", "2", "2"])));
+    match File::from_paths_metadata(Some(of(&none)), options) {
+        Err(from_paths::Error::Io { path, source }) => {
+            assert_eq!(
+                (path, source.kind()),
+                (none.clone(), io::ErrorKind::NotFound)
+            );
+        }
+        other => panic!("{other:?}"),
+    }
+    let mut missing = Some(of(&none)).into_iter();
+    let file = File::from_paths_metadata_buf(&mut missing, &mut Vec::new(), false, options);
+    assert!(file.expect("no files").is_none());
+    let ignoring = init::Options {
+        ignore_io_errors: true,
+        ..options
+    };
+    let file = File::from_paths_metadata([of(&room), of(&none)], ignoring).expect("a folder");
+    assert_eq!(file.expect("a folder").to_string(), "");
+    std::fs::remove_dir_all(&room).expect("a folder");
+}
+
+#[test]
+fn names_that_can_be_made() {
+    use gix_config::parse::section::{name, Name};
+    assert_eq!(
+        Name::try_from("Core").map(|it| it.to_string()),
+        Ok("Core".into())
+    );
+    assert_eq!(Name::try_from("core"), Name::try_from(String::from("CORE")));
+    assert_eq!(Name::try_from("a b"), Err(name::Error));
+    assert!(header::is_valid_subsection("a b\\"));
+    assert!(!header::is_valid_subsection("a\nb"));
+    let mut file = file();
+    match file.raw_value_mut_by("core", None, "1") {
+        Err(lookup::existing::Error::ValueName(error)) => assert_eq!(error.number(), 6),
+        other => panic!("{other:?}"),
+    }
+}
+
+#[test]
+fn integers_as_they_are_written() {
+    use gix_config::integer::{Integer, Suffix};
+    let integer =
+        |text: &str| Integer::try_from(text.as_bytes().as_bstr()).map_err(|it| it.message);
+    let kibi = Integer {
+        value: -2,
+        suffix: Some(Suffix::Kibi),
+    };
+    assert_eq!((integer("-2k"), kibi.to_string()), (Ok(kibi), "-2k".into()));
+    assert_eq!(kibi.to_decimal(), Some(-2048));
+    let large = integer("9223372036854775807G").expect("an integer");
+    assert_eq!(
+        (large.suffix, large.to_decimal()),
+        (Some(Suffix::Gibi), None)
+    );
+    for text in ["", "k", "1kk", "1x", "9223372036854775808"] {
+        assert_eq!(integer(text), Err("not an integer"), "{text}");
+    }
+}
+
+#[test]
+fn line_endings_of_a_text() {
+    let newline = |text: &str| {
+        File::try_from(text)
+            .expect("a text")
+            .detect_newline_style()
+            .to_string()
+    };
+    assert_eq!(
+        (newline(""), newline("[a]\n\tk = 1\r\n")),
+        ("\n".into(), "\n".into())
+    );
+    assert_eq!(newline("; c\r\n[a]\n"), "\r\n");
+}
+
+#[test]
+fn texts_that_were_read() {
+    use gix_config::parse::Events;
+    let text = "[a]\n\tk = 1 ; one\n";
+    let events = Events::from_bytes(text.as_bytes(), None).expect("a text");
+    assert_eq!(Events::try_from(text), Ok(events.clone()));
+    let file = File::from_parse_events_no_includes(events, Source::Local);
+    assert_eq!(file.to_string(), text);
+    assert_eq!(file.meta_owned(), Metadata::from(Source::Local));
+    let refused = Events::try_from(&b"[a]\n= 1\n"[..]).expect_err("no text");
+    assert_eq!(refused.remaining_data(), b"= 1\n");
+}
+
+#[test]
+fn places_of_sources() {
+    let mut set = vec![("HOME", "/home/ada")];
+    let place = |source: Source, set: &[(&str, &str)]| {
+        let mut env = |name: &str| Some(set.iter().find(|it| it.0 == name)?.1.into());
+        let found = source.storage_location(&mut env);
+        found.map(|it| it.display().to_string())
+    };
+    let own = |words: &str| Some(words.to_owned());
+    assert_eq!(place(Source::System, &set), own("/etc/gitconfig"));
+    assert_eq!(
+        place(Source::Git, &set),
+        own("/home/ada/.config/git/config")
+    );
+    assert_eq!(place(Source::User, &set), own("/home/ada/.gitconfig"));
+    assert_eq!(place(Source::Worktree, &set), own("config.worktree"));
+    assert_eq!(
+        (place(Source::Api, &set), place(Source::User, &[])),
+        (None, None)
+    );
+    set.extend([("XDG_CONFIG_HOME", "/x"), ("GIT_CONFIG_NOSYSTEM", "yes")]);
+    assert_eq!(
+        (place(Source::System, &set), place(Source::Git, &set)),
+        (None, own("/x/git/config"))
+    );
+    set.push(("GIT_CONFIG_GLOBAL", "/g"));
+    assert_eq!(
+        (place(Source::Git, &set), place(Source::User, &set)),
+        (own("/g"), own("/g"))
+    );
+}
+
+#[test]
+fn home_folders_of_other_users() {
+    use gix_config::path::interpolate::{home_for_user, Error};
+    let of = |text: &str, home_for_user| {
+        let path = gix_config::Path::from(BString::from(text));
+        path.interpolate(Context {
+            home_dir: Some(Path::new("/home/ada")),
+            home_for_user,
+            ..Context::default()
+        })
+    };
+    let known: fn(&str) -> _ = |user| (user == "bob").then(|| "/home/bob".into());
+    assert_eq!(of("~bob/a/b", Some(known)), Ok("/home/bob/a/b".into()));
+    assert_eq!(of("~bob", Some(known)), Ok("/home/bob/".into()));
+    assert_eq!(of("~/a", Some(known)), Ok("/home/ada/a".into()));
+    assert_eq!(of("~eve/a", Some(known)), Err(Error::Missing));
+    assert_eq!(of("~bob/a", None), Err(Error::Missing));
+    assert_eq!(home_for_user("root"), Some("/root".into()));
+    assert_eq!(home_for_user("nobody here"), None);
 }

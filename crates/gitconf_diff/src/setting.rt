@@ -3,7 +3,7 @@ ghost use Rattle.std.specs.Prelude.{◌≡◌};
 ghost use Rattle.gitconf_diff.specs.PlainSettings.{names_cmp, names_of, same_names, plain_setting, setting_cmp};
 
 use bstr::BString;
-use gitconf_table::table::SectionId;
+use gitconf_sections::id::SectionId;
 use std::cmp::Ordering;
 
 /// Which of two files.

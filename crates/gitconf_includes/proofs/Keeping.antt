@@ -4,6 +4,7 @@ use Rattle.std.specs.List.{AllByRecursion}
 use Rattle.std.specs.Option.{unwrap_or}
 use Rattle.gitconf_sources.specs.Metadata.{Meta}
 use Rattle.gitconf_sources.specs.Reports.{is_there}
+use Rattle.gitconf_includes.specs.Said.{NoRoom, OutOfMemory, Said, TooDeep}
 use Rattle.gitconf_includes.specs.Paths.{file_named}
 use Rattle.gitconf_state.specs.Including.{has_room, spliced, visited, whole, with_sections}
 use Rattle.gitconf_state.specs.State.{SectionState, State}
@@ -43,13 +44,13 @@ followed_named : (P : List ℕ → Type 0) (rules : Rules) (from : Meta) (search
     → AllByRecursion P (named_paths includes) → AllByRecursion P paths
 followed_named P rules from searched includes paths is named = go includes is named
   where
-    paths_in : Result (List (List ℕ)) ℕ → List (List ℕ)
+    paths_in : Result (List (List ℕ)) Said → List (List ℕ)
     paths_in (Ok all) = all
-    paths_in (Err number) = []
+    paths_in (Err said) = []
 
-    of_condition : (all : List (List ℕ)) (follows : Result Bool ℕ)
-        → ◌≡◌ {A = Result (List (List ℕ)) ℕ} (elim follows [ Err number ↦ Err number | Ok on ↦ if on then Ok all else Ok [] ]) (Ok paths) → AllByRecursion P all → AllByRecursion P paths
-    of_condition all (Err number) e holds = absurd (cc)
+    of_condition : (all : List (List ℕ)) (follows : Result Bool Said)
+        → ◌≡◌ {A = Result (List (List ℕ)) Said} (elim follows [ Err said ↦ Err said | Ok on ↦ if on then Ok all else Ok [] ]) (Ok paths) → AllByRecursion P all → AllByRecursion P paths
+    of_condition all (Err said) e holds = absurd (cc)
     of_condition all (Ok true) e holds = subst (AllByRecursion P) (ap paths_in e) holds
     of_condition all (Ok false) e holds = subst (AllByRecursion P) (ap paths_in e) tt
 
@@ -60,7 +61,7 @@ followed_named P rules from searched includes paths is named = go includes is na
 -- an outcome, with what is still to be visited
 abbrev pub Kept : (P : State → List SectionState → Type 0) (F : State → Type 0) (rest : List SectionState) → Reached → Type 0
 Kept P F rest (On now) = P now rest
-Kept P F rest (Ended number file) = F file
+Kept P F rest (Ended said file) = F file
 
 module _ (P : State → List SectionState → Type 0) (At : Meta → State → List SectionState → Type 0) (Q : Meta → State → Type 0) (F : State → Type 0) (asks : Asks) (deeper : Deeper)
     (keeps : EachStepKeeps P At Q F) (Named : Meta → (file : List ℕ) → Type 0) (names : (s : SectionState) (rest : List SectionState) (done : State) → P done (s ∷ rest) → HoldsOfNamed asks Named s)
@@ -72,42 +73,42 @@ module _ (P : State → List SectionState → Type 0) (At : Meta → State → L
   whole_file : (from : Meta) (rest : List SectionState) (done : State) → At from done rest → F (whole done rest)
   whole_file from rest done kept = keeps.file rest done (keeps.leave from rest done kept)
 
-  ended : (from : Meta) (rest : List SectionState) (done : State) (number : ℕ) (r : Reached) → At from done rest → r ≡ Ended number (whole done rest) → Kept (At from) F rest r
-  ended from rest done number r kept is = subst (Kept (At from) F rest) (sym is) (whole_file from rest done kept)
+  ended : (from : Meta) (rest : List SectionState) (done : State) (said : Said) (r : Reached) → At from done rest → r ≡ Ended said (whole done rest) → Kept (At from) F rest r
+  ended from rest done said r kept is = subst (Kept (At from) F rest) (sym is) (whole_file from rest done kept)
 
   put_in : (rest : List SectionState) (done : State) (from : Meta) (path : List ℕ) (other : State) (inner r : Reached) → At from done rest → Named from path → IsFetched asks from path (Ok other)
       → deeper (Some (whole done rest)) other inner → IsPutIn rest done inner r → Kept (At from) F rest r
-  put_in rest done from path other (Ended number file) r kept named fetched expands is = ended from rest done number r kept is
+  put_in rest done from path other (Ended said file) r kept named fetched expands is = ended from rest done said r kept is
   put_in rest done from path other (On full) r kept named fetched expands is = go (has_room full rest done) refl is
     where
-      go : (b : Bool) → has_room full rest done ≡ b → elim b as (λ _. Type 0) [ true ↦ r ≡ On (spliced full rest done) | false ↦ r ≡ Ended 3 (whole done rest) ] → Kept (At from) F rest r
+      go : (b : Bool) → has_room full rest done ≡ b → elim b as (λ _. Type 0) [ true ↦ r ≡ On (spliced full rest done) | false ↦ r ≡ Ended (NoRoom 3) (whole done rest) ] → Kept (At from) F rest r
       go true room put = subst (Kept (At from) F rest) (sym put) (keeps.put from full rest done room kept (holds from path other (whole done rest) full named fetched expands))
-      go false room none = ended from rest done 3 r kept none
+      go false room none = ended from rest done (NoRoom 3) r kept none
 
   follows : (from : Meta) (path : List ℕ) (rest : List SectionState) (done : State) (r : Reached) → At from done rest → HoldsAt from path → Follows deeper asks from path rest done r → Kept (At from) F rest r
-  follows from path rest done r kept named (inl wanting) = ended from rest done 27 r kept wanting
+  follows from path rest done r kept named (inl wanting) = ended from rest done OutOfMemory r kept wanting
   follows from path rest done r kept named (inr is) = go (file_named asks.rules from path) refl is
     where
-      joined : (file : List ℕ) (fetched : Result State ℕ) → Named from file → IsFetched asks from file fetched → IsJoined deeper rest done fetched r → Kept (At from) F rest r
-      joined file (Err number) asked fetches ends = ended from rest done number r kept ends
+      joined : (file : List ℕ) (fetched : Result State Said) → Named from file → IsFetched asks from file fetched → IsJoined deeper rest done fetched r → Kept (At from) F rest r
+      joined file (Err said) asked fetches ends = ended from rest done said r kept ends
       joined file (Ok other) asked fetches joins = put_in rest done from file other joins.0 r kept asked fetches joins.1 joins.2
 
       there_or_not : (file : List ℕ) (there : Bool) → Named from file → elim there as (λ _. Type 0) [
         | false ↦ r ≡ On done
-        | true ↦ (fetched : Result State ℕ) × IsFetched asks from file fetched × IsJoined deeper rest done fetched r
+        | true ↦ (fetched : Result State Said) × IsFetched asks from file fetched × IsJoined deeper rest done fetched r
       ] → Kept (At from) F rest r
       there_or_not file false asked left_out = subst (Kept (At from) F rest) (sym left_out) kept
       there_or_not file true asked found = joined file found.0 asked found.1 found.2
 
-      go : (file : Result (Option (List ℕ)) ℕ) → file_named asks.rules from path ≡ file → elim file as (λ _. Type 0) [
-        | Err number ↦ r ≡ Ended number (whole done rest)
+      go : (file : Result (Option (List ℕ)) Said) → file_named asks.rules from path ≡ file → elim file as (λ _. Type 0) [
+        | Err said ↦ r ≡ Ended said (whole done rest)
         | Ok None ↦ r ≡ On done
         | Ok (Some file) ↦ (there : Bool) × May asks.table (λ told. there ≡ is_there (told file)) × elim there as (λ _. Type 0) [
           | false ↦ r ≡ On done
-          | true ↦ (fetched : Result State ℕ) × IsFetched asks from file fetched × IsJoined deeper rest done fetched r
+          | true ↦ (fetched : Result State Said) × IsFetched asks from file fetched × IsJoined deeper rest done fetched r
         ]
       ] → Kept (At from) F rest r
-      go (Err number) at refused = ended from rest done number r kept refused
+      go (Err said) at refused = ended from rest done said r kept refused
       go (Ok None) at left_out = subst (Kept (At from) F rest) (sym left_out) kept
       go (Ok (Some file)) at found = there_or_not file found.0 (named file at) found.2
 
@@ -115,7 +116,7 @@ module _ (P : State → List SectionState → Type 0) (At : Meta → State → L
   pub goes_on : (Here There : State → List SectionState → Type 0) (behind : State → Reached → Type 0) (rest left : List SectionState) (mid r : Reached) → Kept Here F rest mid
       → ((now : State) → Here now rest → behind now r → Kept There F left r) → GoesOn behind mid r → Kept There F left r
   goes_on Here There behind rest left (On now) r kept later is = later now kept is
-  goes_on Here There behind rest left (Ended number file) r kept later is = subst (Kept There F left) (sym is) kept
+  goes_on Here There behind rest left (Ended said file) r kept later is = subst (Kept There F left) (sym is) kept
 
   pub follows_all : (from : Meta) (paths : List (List ℕ)) (rest : List SectionState) (done : State) (r : Reached) → At from done rest → AllByRecursion (HoldsAt from) paths
       → FollowsAll deeper asks from paths rest done r → Kept (At from) F rest r
@@ -126,14 +127,14 @@ module _ (P : State → List SectionState → Type 0) (At : Meta → State → L
 
   pub gives : (parent : Option State) (from : Meta) (inclusion : Inclusion) (rest : List SectionState) (done : State) (r : Reached) → At from done rest
       → AllByRecursion (HoldsAt from) (named_paths inclusion) → Gives deeper asks parent from inclusion rest done r → Kept (At from) F rest r
-  gives parent from inclusion rest done r kept named (inl wanting) = ended from rest done 27 r kept wanting
+  gives parent from inclusion rest done r kept named (inl wanting) = ended from rest done OutOfMemory r kept wanting
   gives parent from inclusion rest done r kept named (inr is) = go (followed asks.rules from (unwrap_or parent (whole done rest)) inclusion) refl is
     where
-      go : (paths : Result (List (List ℕ)) ℕ) → followed asks.rules from (unwrap_or parent (whole done rest)) inclusion ≡ paths → elim paths as (λ _. Type 0) [
-        | Err number ↦ r ≡ Ended number (whole done rest)
+      go : (paths : Result (List (List ℕ)) Said) → followed asks.rules from (unwrap_or parent (whole done rest)) inclusion ≡ paths → elim paths as (λ _. Type 0) [
+        | Err said ↦ r ≡ Ended said (whole done rest)
         | Ok all ↦ FollowsAll deeper asks from all rest done r
       ] → Kept (At from) F rest r
-      go (Err number) at refused = ended from rest done number r kept refused
+      go (Err said) at refused = ended from rest done said r kept refused
       go (Ok paths) at all =
           follows_all from paths rest done r kept (followed_named (HoldsAt from) asks.rules from (unwrap_or parent (whole done rest)) inclusion paths at named) all
 
@@ -146,17 +147,17 @@ module _ (P : State → List SectionState → Type 0) (At : Meta → State → L
   -- the file that follows an outcome, once all is visited
   pub at_end : (r : Reached) → Kept P F [] r → F (file_of r)
   at_end (On now) kept = subst F (all_done now) (keeps.file [] now kept)
-  at_end (Ended number file) kept = kept
+  at_end (Ended said file) kept = kept
 
   pub one_level : (parent : Option State) (old : State) (r : Reached) → P (with_sections [] old) old.sections → Wanting old r ⊎ Visits deeper asks parent old.sections (with_sections [] old) r → F (file_of r)
   one_level parent old r kept (inl wanting) = subst (λ x. F (file_of x)) (sym wanting) (keeps.file old.sections (with_sections [] old) kept)
   one_level parent old r kept (inr is) = at_end r (visits parent old.sections (with_sections [] old) r kept is)
 
 -- at the last level all stays
-pub limit : (F : State → Type 0) (asks : Asks) (old : State) (r : Reached) → F old → r ≡ (if asks.rules.refuses_depth then Ended 15 old else On old) → F (file_of r)
+pub limit : (F : State → Type 0) (asks : Asks) (old : State) (r : Reached) → F old → r ≡ (if asks.rules.refuses_depth then Ended (TooDeep asks.rules.max_depth) old else On old) → F (file_of r)
 limit F asks old r kept is = go asks.rules.refuses_depth is
   where
-    go : (refuses : Bool) → r ≡ (if refuses then Ended 15 old else On old) → F (file_of r)
+    go : (refuses : Bool) → r ≡ (if refuses then Ended (TooDeep asks.rules.max_depth) old else On old) → F (file_of r)
     go true ends = subst (λ x. F (file_of x)) (sym ends) kept
     go false on = subst (λ x. F (file_of x)) (sym on) kept
 

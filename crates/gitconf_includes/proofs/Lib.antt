@@ -4,6 +4,7 @@ pub mod Behind
 pub mod Fetching
 pub mod Keeping
 pub mod Lossy
+pub mod Memory
 pub mod Nothing
 pub mod Numbers
 pub mod OneLoad

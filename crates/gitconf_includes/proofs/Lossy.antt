@@ -12,6 +12,7 @@ use Rattle.gitconf_items.specs.TokenDocument.{keeps_meaning}
 use Rattle.gitconf_read.proofs.OneDocument.{one_document}
 use Rattle.gitconf_sources.specs.Reports.{FileReport, is_there}
 use Rattle.gitconf_sources.specs.declared.fault.FileFault.{FileFault}
+use Rattle.gitconf_includes.specs.Said.{NoRoom, Said, TooDeep}
 use Rattle.gitconf_includes.specs.Conditions.{holds}
 use Rattle.gitconf_includes.specs.Paths.{file_named}
 use Rattle.gitconf_includes.specs.Rules.{Rules}
@@ -112,7 +113,7 @@ followed_alike : (rules : Rules) (from : Meta) (one other : State) (inclusion : 
 followed_alike rules from one other NoInclude same = refl
 followed_alike rules from one other (Includes None paths) same = refl
 followed_alike rules from one other (Includes (Some condition) paths) same =
-    ap (λ (h : List ℕ → Bool). elim (holds rules from h condition) as (λ _. Result (List (List ℕ)) ℕ) [ Err number ↦ Err number | Ok follows ↦ if follows then Ok paths else Ok [] ])
+    ap (λ (h : List ℕ → Bool). elim (holds rules from h condition) as (λ _. Result (List (List ℕ)) Said) [ Err said ↦ Err said | Ok follows ↦ if follows then Ok paths else Ok [] ])
     (has_url_alike one other same)
 
 -- files of one text that come from one place
@@ -163,23 +164,23 @@ module _ (rules : Rules) (files : List ℕ → FileReport) where
   FoundOrNot lossy deeper from file rest done now false = now ≡ done
   FoundOrNot lossy deeper from file rest done now true = IsPut lossy deeper from file rest done now
 
-  abbrev WentOn : (lossy : Bool) → Deeper → (from : Meta) → (rest : List SectionState) → (done now : State) → Result (Option (List ℕ)) ℕ → Type 0
-  WentOn lossy deeper from rest done now (Err number) = ⊥
+  abbrev WentOn : (lossy : Bool) → Deeper → (from : Meta) → (rest : List SectionState) → (done now : State) → Result (Option (List ℕ)) Said → Type 0
+  WentOn lossy deeper from rest done now (Err said) = ⊥
   WentOn lossy deeper from rest done now (Ok None) = now ≡ done
   WentOn lossy deeper from rest done now (Ok (Some file)) = FoundOrNot lossy deeper from file rest done now (is_there (files file))
 
   put_went : (lossy : Bool) (deeper : Deeper) (from : Meta) (file : List ℕ) (rest : List SectionState) (done now other : State) (inner : Reached) → IsFetched (asks_with lossy rules files) from file (Ok other)
       → deeper (Some (whole done rest)) other inner → IsPutIn rest done inner (On now) → IsPut lossy deeper from file rest done now
-  put_went lossy deeper from file rest done now other (Ended number state) fetched expands is = absurd (cc)
+  put_went lossy deeper from file rest done now other (Ended said state) fetched expands is = absurd (cc)
   put_went lossy deeper from file rest done now other (On full) fetched expands is = go (has_room full rest done) is
     where
-      go : (b : Bool) → elim b as (λ _. Type 0) [ true ↦ On now ≡ On (spliced full rest done) | false ↦ On now ≡ Ended 3 (whole done rest) ] → IsPut lossy deeper from file rest done now
+      go : (b : Bool) → elim b as (λ _. Type 0) [ true ↦ On now ≡ On (spliced full rest done) | false ↦ On now ≡ Ended (NoRoom 3) (whole done rest) ] → IsPut lossy deeper from file rest done now
       go true put = record { other = other; full = full; fetched = fetched; expands = expands; put = cc }
       go false none = absurd (cc)
 
-  joined_went : (lossy : Bool) (deeper : Deeper) (from : Meta) (file : List ℕ) (rest : List SectionState) (done now : State) (fetched : Result State ℕ) → IsFetched (asks_with lossy rules files) from file fetched
+  joined_went : (lossy : Bool) (deeper : Deeper) (from : Meta) (file : List ℕ) (rest : List SectionState) (done now : State) (fetched : Result State Said) → IsFetched (asks_with lossy rules files) from file fetched
       → IsJoined deeper rest done fetched (On now) → IsPut lossy deeper from file rest done now
-  joined_went lossy deeper from file rest done now (Err number) fetches joins = absurd (cc)
+  joined_went lossy deeper from file rest done now (Err said) fetches joins = absurd (cc)
   joined_went lossy deeper from file rest done now (Ok other) fetches joins = put_went lossy deeper from file rest done now other joins.0 fetches joins.1 joins.2
 
   went_on : (lossy : Bool) (deeper : Deeper) (from : Meta) (path : List ℕ) (rest : List SectionState) (done now : State) → Follows deeper (asks_with lossy rules files) from path rest done (On now)
@@ -189,20 +190,20 @@ module _ (rules : Rules) (files : List ℕ → FileReport) where
     where
       there_or_not : (file : List ℕ) (there : Bool) → elim there as (λ _. Type 0) [
         | false ↦ On now ≡ On done
-        | true ↦ (fetched : Result State ℕ) × IsFetched (asks_with lossy rules files) from file fetched × IsJoined deeper rest done fetched (On now)
+        | true ↦ (fetched : Result State Said) × IsFetched (asks_with lossy rules files) from file fetched × IsJoined deeper rest done fetched (On now)
       ] → FoundOrNot lossy deeper from file rest done now there
       there_or_not file false left_out = cc
       there_or_not file true found = joined_went lossy deeper from file rest done now found.0 found.1 found.2
 
-      go : (named : Result (Option (List ℕ)) ℕ) → elim named as (λ _. Type 0) [
-        | Err number ↦ On now ≡ Ended number (whole done rest)
+      go : (named : Result (Option (List ℕ)) Said) → elim named as (λ _. Type 0) [
+        | Err said ↦ On now ≡ Ended said (whole done rest)
         | Ok None ↦ On now ≡ On done
         | Ok (Some file) ↦ (there : Bool) × (there ≡ is_there (files file)) × elim there as (λ _. Type 0) [
           | false ↦ On now ≡ On done
-          | true ↦ (fetched : Result State ℕ) × IsFetched (asks_with lossy rules files) from file fetched × IsJoined deeper rest done fetched (On now)
+          | true ↦ (fetched : Result State Said) × IsFetched (asks_with lossy rules files) from file fetched × IsJoined deeper rest done fetched (On now)
         ]
       ] → WentOn lossy deeper from rest done now named
-      go (Err number) refused = absurd (cc)
+      go (Err said) refused = absurd (cc)
       go (Ok None) left_out = cc
       go (Ok (Some file)) found = subst (FoundOrNot lossy deeper from file rest done now) found.1 (there_or_not file found.0 found.2)
 
@@ -235,8 +236,8 @@ module _ (rules : Rules) (files : List ℕ → FileReport) where
         found file false is too = as_before is too
         found file true is too = put_alike from file rest left done begun now then_now rests same is too
 
-        go : (named : Result (Option (List ℕ)) ℕ) → WentOn false keeping from rest done now named → WentOn true leaving from left begun then_now named → SayTheSame now then_now
-        go (Err number) is too = absurd is
+        go : (named : Result (Option (List ℕ)) Said) → WentOn false keeping from rest done now named → WentOn true leaving from left begun then_now named → SayTheSame now then_now
+        go (Err said) is too = absurd is
         go (Ok None) is too = as_before is too
         go (Ok (Some file)) is too = found file (is_there (files file)) is too
 
@@ -246,8 +247,8 @@ module _ (rules : Rules) (files : List ℕ → FileReport) where
         let here : now ≡ done = cc in
         let there : then_now ≡ begun = cc in
         subst (λ n. SayTheSame n then_now) (sym here) (subst (SayTheSame done) (sym there) same)
-    follows_all_alike from (path ∷ paths) rest left done begun now then_now rests same (Ended number file, is, later) too = absurd (cc)
-    follows_all_alike from (path ∷ paths) rest left done begun now then_now rests same (On mid, is, later) (Ended number file, is_too, later_too) = absurd (cc)
+    follows_all_alike from (path ∷ paths) rest left done begun now then_now rests same (Ended said file, is, later) too = absurd (cc)
+    follows_all_alike from (path ∷ paths) rest left done begun now then_now rests same (On mid, is, later) (Ended said file, is_too, later_too) = absurd (cc)
     follows_all_alike from (path ∷ paths) rest left done begun now then_now rests same (On mid, is, later) (On mid_too, is_too, later_too) =
         follows_all_alike from paths rest left mid mid_too now then_now rests (follows_alike from path rest left done begun mid mid_too rests same is is_too) later later_too
 
@@ -267,17 +268,17 @@ module _ (rules : Rules) (files : List ℕ → FileReport) where
         (followed_alike rules from (unwrap_or parent (whole done rest)) (unwrap_or above (whole begun left)) inclusion
         (searched_alike parent above (whole done rest) (whole begun left) parents (whole_alike rest left done begun rests same))) is too
       where
-        go : (one other : Result (List (List ℕ)) ℕ) → one ≡ other
+        go : (one other : Result (List (List ℕ)) Said) → one ≡ other
             → elim one as (λ _. Type 0) [
-              | Err number ↦ On now ≡ Ended number (whole done rest)
+              | Err said ↦ On now ≡ Ended said (whole done rest)
               | Ok all ↦ FollowsAll keeping (asks_with false rules files) from all rest done (On now)
             ]
             → elim other as (λ _. Type 0) [
-              | Err number ↦ On then_now ≡ Ended number (whole begun left)
+              | Err said ↦ On then_now ≡ Ended said (whole begun left)
               | Ok all ↦ FollowsAll leaving (asks_with true rules files) from all left begun (On then_now)
             ] → SayTheSame now then_now
-        go (Err number) other e is too = absurd (cc)
-        go (Ok paths) (Err number) e is too = absurd (cc)
+        go (Err said) other e is too = absurd (cc)
+        go (Ok paths) (Err said) e is too = absurd (cc)
         go (Ok paths) (Ok others) e is too =
             let same_paths : paths ≡ others = cc in
             follows_all_alike from paths rest left done begun now then_now rests same is (subst (λ p. FollowsAll leaving (asks_with true rules files) from p left begun (On then_now)) (sym same_paths) too)
@@ -291,8 +292,8 @@ module _ (rules : Rules) (files : List ℕ → FileReport) where
         subst (λ n. SayTheSame n then_now) (sym here) (subst (SayTheSame done) (sym there) same)
     visits_alike parent above [] (t ∷ left) done begun now then_now parents rests same is too = absurd (cc)
     visits_alike parent above (s ∷ rest) [] done begun now then_now parents rests same is too = absurd (cc)
-    visits_alike parent above (s ∷ rest) (t ∷ left) done begun now then_now parents rests same (Ended number file, is, later) too = absurd (cc)
-    visits_alike parent above (s ∷ rest) (t ∷ left) done begun now then_now parents rests same (On mid, is, later) (Ended number file, is_too, later_too) = absurd (cc)
+    visits_alike parent above (s ∷ rest) (t ∷ left) done begun now then_now parents rests same (Ended said file, is, later) too = absurd (cc)
+    visits_alike parent above (s ∷ rest) (t ∷ left) done begun now then_now parents rests same (On mid, is, later) (Ended said file, is_too, later_too) = absurd (cc)
     visits_alike parent above (s ∷ rest) (t ∷ left) done begun now then_now parents rests same (On mid, is, later) (On mid_too, is_too, later_too) =
         let here = listed_first s t rest left rests in
         let others = listed_behind s t rest left rests in
@@ -310,9 +311,9 @@ module _ (rules : Rules) (files : List ℕ → FileReport) where
         visits_alike parent above old.sections other.sections (with_sections [] old) (with_sections [] other) full lossy parents same.sections
         (record { front = same.front; sections = refl; next = same.next }) is too
 
-limit_alike : (refuses : Bool) (old other full lossy : State) → SayTheSame old other → On full ≡ (if refuses then Ended 15 old else On old) → On lossy ≡ (if refuses then Ended 15 other else On other) → SayTheSame full lossy
-limit_alike true old other full lossy same is too = absurd (cc)
-limit_alike false old other full lossy same is too =
+limit_alike : (refuses : Bool) (depth : ℕ) (old other full lossy : State) → SayTheSame old other → On full ≡ (if refuses then Ended (TooDeep depth) old else On old) → On lossy ≡ (if refuses then Ended (TooDeep depth) other else On other) → SayTheSame full lossy
+limit_alike true depth old other full lossy same is too = absurd (cc)
+limit_alike false depth old other full lossy same is too =
     let here : full ≡ old = cc in
     let there : lossy ≡ other = cc in
     subst (λ n. SayTheSame n lossy) (sym here) (subst (SayTheSame old) (sym there) same)
@@ -321,7 +322,7 @@ limit_alike false old other full lossy same is too =
 pub say_the_same : (rules : Rules) (files : List ℕ → FileReport) (left : ℕ) (parent above : Option State) (old other full lossy : State) → ParentsSayTheSame parent above → SayTheSame old other
     → Expands left (asks_with false rules files) parent old (On full) → Expands left (asks_with true rules files) above other (On lossy) → SayTheSame full lossy
 unfolding Expands
-say_the_same rules files zero parent above old other full lossy parents same is too = limit_alike rules.refuses_depth old other full lossy same is too
+say_the_same rules files zero parent above old other full lossy parents same is too = limit_alike rules.refuses_depth rules.max_depth old other full lossy same is too
 say_the_same rules files (suc left) parent above old other full lossy parents same is too =
     level_alike rules files (Expands left (asks_with false rules files)) (Expands left (asks_with true rules files))
     (λ one another inner inner_too full lossy. say_the_same rules files left (Some one) (Some another) inner inner_too full lossy) parent above old other full lossy parents same is too

@@ -1,5 +1,5 @@
--- A text that comes from one place has one load, apart from running out of memory: one state, or one number that refuses it.
-use Rattle.std.proofs.Common.{◌≡◌, ◌≢◌, ◌⊎◌, ◌<◌, ◌≤◌, ◌^◌, ℕ, suc, Bool, List, [], ◌∷◌, ◌++◌, length, map, flat_map, Result, Ok, Err, IfErr, inl, inr, refl, sym, ap, subst, ◌∙◌, append-nil, arith}
+-- A text that comes from one place has one load, apart from running out of memory: one state, or one refusal.
+use Rattle.std.proofs.Common.{◌≡◌, ◌≢◌, ◌⊎◌, ◌<◌, ◌≤◌, ◌^◌, ◌==◌, if◌then◌else◌, ℕ, suc, Bool, List, [], ◌∷◌, ◌++◌, length, map, flat_map, Result, Ok, Err, IfErr, inl, inr, refl, sym, ap, subst, ◌∙◌, append-nil, arith}
 use Rattle.std.specs.List.{range_with_len, AllByRecursion}
 use Rattle.gitconf_text.specs.Document.{unmarked}
 use Rattle.gitconf_text.specs.Header.{Header}
@@ -9,10 +9,12 @@ use Rattle.gitconf_sources.specs.Metadata.{Meta}
 use Rattle.gitconf_read.specs.EventResult.{IsRefused}
 use Rattle.gitconf_read.specs.ParseError.{Refusal}
 use Rattle.gitconf_read.proofs.OneDocument.{one_tokens}
+use Rattle.gitconf_read.proofs.OneFault.{one_fault}
 use Rattle.gitconf_state.specs.Made.{IsMade}
 use Rattle.gitconf_state.specs.State.{SectionState, State}
 use Rattle.gitconf_state.proofs.Loading.Tokens.{own_parts, own_section_parts, own_tokens, same_parts}
 use Rattle.gitconf_includes.specs.Expansion.{kept_tokens, IsLoaded, IsLoadOf}
+use Rattle.gitconf_includes.specs.Said.{known, parse_said, CannotParse, OutOfMemory, Said}
 
 -- the items before the first header, the headers, and the items after each
 record Cut : Type 0 where
@@ -110,23 +112,51 @@ not_refused lossy text place state e is refused known = go refused.cause
         omega (arith, long, short)
     go (inr (inr memory)) = known memory
 
--- apart from running out of memory one number refuses a text
-one_number : (text : List ℕ) (e f : Refusal) → IsRefused text e → IsRefused text f → e.number ≢ 27 → f.number ≢ 27 → e.number ≡ f.number
-one_number text e f refused refused_too known known_too = go refused.cause refused_too.cause
-  where
-    go : (e.number ≡ 1) ⊎ (e.number ≡ 2) ⊎ (e.number ≡ 27) → (f.number ≡ 1) ⊎ (f.number ≡ 2) ⊎ (f.number ≡ 27) → e.number ≡ f.number
-    go (inr (inr memory)) is = absurd (known memory)
-    go is (inr (inr memory)) = absurd (known_too memory)
-    go (inl stuck) (inl stuck_too) = stuck ∙ sym stuck_too
-    go (inr (inl large)) (inr (inl large_too)) = large ∙ sym large_too
-    go (inl stuck) (inr (inl large)) = ap (λ (r : Refusal). r.number) (refused.small (refused_too.large large)) ∙ sym large
-    go (inr (inl large)) (inl stuck) = large ∙ sym (ap (λ (r : Refusal). r.number) (refused_too.small (refused.large large)))
+-- refusals of which the same is known
+known_alike : (e f : Refusal) → e.number ≡ f.number → e.line ≡ f.line → e.kind ≡ f.kind → e.data ≡ f.data → (known e).size ≡ (known f).size → known e ≡ known f
+known_alike e f number line kind rest size = λ i. record { number = number i; line = line i; kind = kind i; «data» = rest i; size = size i }
 
--- Apart from running out of memory, a text has one load.
-pub one_load : (lossy : Bool) (text : List ℕ) (place : Meta) (one other : Result State ℕ) → IfErr one (λ n. n ≢ 27) → IfErr other (λ n. n ≢ 27)
-    → IsLoadOf lossy text place one → IsLoadOf lossy text place other → one ≡ other
-one_load lossy text place (Ok state) (Ok other) known known_too is too = ap Ok (one_state lossy text place state other is too)
-one_load lossy text place (Ok state) (Err number) known known_too is (e, refused, same) = absurd (not_refused lossy text place state e is refused (λ w. known_too (same ∙ w)))
-one_load lossy text place (Err number) (Ok state) known known_too (e, refused, same) too = absurd (not_refused lossy text place state e too refused (λ w. known (same ∙ w)))
-one_load lossy text place (Err number) (Err other) known known_too (e, refused, same) (f, refused_too, same_too) =
-    ap Err (same ∙ one_number text e f refused refused_too (λ w. known (same ∙ w)) (λ w. known_too (same_too ∙ w)) ∙ sym same_too)
+-- a text that can't be read is refused at one place
+one_stop : (text : List ℕ) (e f : Refusal) → IsRefused text e → IsRefused text f → e.number ≡ 1 → f.number ≡ 1 → known e ≡ known f
+one_stop text e f refused refused_too is too =
+    let place = one_fault text e.line f.line e.data f.data e.kind f.kind (refused.stuck is) (refused_too.stuck too) in
+    known_alike e f (is ∙ sym too) place.0 place.2 place.1 (sized e is ∙ sym (sized f too))
+  where
+    sized : (r : Refusal) → r.number ≡ 1 → (known r).size ≡ 0
+    sized r is = rw is refl
+
+-- Apart from running out of memory, what is known of a refusal of a text is one thing.
+pub one_refusal : (text : List ℕ) (e f : Refusal) → IsRefused text e → IsRefused text f → e.number ≢ 27 → f.number ≢ 27 → known e ≡ known f
+one_refusal text e f refused refused_too answered answered_too = go refused.cause refused_too.cause
+  where
+    large : 2 ^ 32 ≤ length text → known e ≡ known f
+    large long = ap known (refused.small long ∙ sym (refused_too.small long))
+
+    go : (e.number ≡ 1) ⊎ (e.number ≡ 2) ⊎ (e.number ≡ 27) → (f.number ≡ 1) ⊎ (f.number ≡ 2) ⊎ (f.number ≡ 27) → known e ≡ known f
+    go (inr (inr memory)) is = absurd (answered memory)
+    go is (inr (inr memory)) = absurd (answered_too memory)
+    go (inl is) (inl too) = one_stop text e f refused refused_too is too
+    go (inr (inl is)) too = large (refused.large is)
+    go is (inr (inl too)) = large (refused_too.large too)
+
+-- Apart from running out of memory, a text has one load, where what is told of a refusal is what is known of it.
+pub one_load_told : {E : Type 0} (tells : Refusal → E) (Answered : E → Type 0) (answers : (e : Refusal) → Answered (tells e) → e.number ≢ 27)
+    (alike : (e f : Refusal) → known e ≡ known f → tells e ≡ tells f) (lossy : Bool) (text : List ℕ) (place : Meta) (one other : Result State E) → IfErr one Answered → IfErr other Answered
+    → IsLoadOf tells lossy text place one → IsLoadOf tells lossy text place other → one ≡ other
+one_load_told tells Answered answers alike lossy text place (Ok state) (Ok other) answered answered_too is too = ap Ok (one_state lossy text place state other is too)
+one_load_told tells Answered answers alike lossy text place (Ok state) (Err told) answered answered_too is (e, refused, same) =
+    absurd (not_refused lossy text place state e is refused (answers e (subst Answered same answered_too)))
+one_load_told tells Answered answers alike lossy text place (Err told) (Ok state) answered answered_too (e, refused, same) too =
+    absurd (not_refused lossy text place state e too refused (answers e (subst Answered same answered)))
+one_load_told tells Answered answers alike lossy text place (Err told) (Err other) answered answered_too (e, refused, same) (f, refused_too, same_too) =
+    ap Err (same ∙ alike e f (one_refusal text e f refused refused_too (answers e (subst Answered same answered)) (answers f (subst Answered same_too answered_too))) ∙ sym same_too)
+
+pub one_load : (lossy : Bool) (text : List ℕ) (place : Meta) (one other : Result State Refusal) → IfErr one (λ e. e.number ≢ 27) → IfErr other (λ e. e.number ≢ 27)
+    → IsLoadOf known lossy text place one → IsLoadOf known lossy text place other → one ≡ other
+one_load = one_load_told known (λ (e : Refusal). e.number ≢ 27) (λ e answered. answered) (λ e f same. same)
+
+-- so has a text at a path
+pub one_said : (path : List ℕ) (lossy : Bool) (text : List ℕ) (place : Meta) (one other : Result State Said) → IfErr one (λ said. said ≢ OutOfMemory) → IfErr other (λ said. said ≢ OutOfMemory)
+    → IsLoadOf (parse_said path) lossy text place one → IsLoadOf (parse_said path) lossy text place other → one ≡ other
+one_said path = one_load_told (parse_said path) (λ (said : Said). said ≢ OutOfMemory) (λ e answered memory. answered (rw memory refl))
+    (λ e f same. ap (λ (r : Refusal). if r.number == 27 then OutOfMemory else CannotParse path r) same)

@@ -1,17 +1,17 @@
 -- What one path of a section leaves, by how the call ends.
 use Rattle.std.proofs.Common.{◌≡◌, ◌≢◌, ◌⊎◌, ℕ, ◌==◌, Bool, true, false, List, Option, Some, None, Result, Ok, Err, inl, inr, refl, sym, ap, subst, ◌∙◌}
 use Rattle.std.specs.Prelude.{IfSome, IsErrAnd}
-use Rattle.std.proofs.lemmas.Bool.{eqb-true}
 use Rattle.gitconf_sources.specs.Metadata.{Meta}
 use Rattle.gitconf_sources.specs.Reports.{is_there}
 use Rattle.gitconf_includes.specs.declared.includes.Error.{Error}
-use Rattle.gitconf_includes.specs.declared.includes.Error.TheVariants as refusals
-use Rattle.gitconf_includes.specs.Errors.{include_of_span, includes_number}
+use Rattle.gitconf_includes.specs.Errors.{include_of_span, says}
 use Rattle.gitconf_includes.specs.Paths.{file_named, Names}
+use Rattle.gitconf_includes.specs.Said.{NoRoom, OutOfMemory, Said}
 use Rattle.gitconf_state.specs.Including.{has_room, spliced, whole}
 use Rattle.gitconf_state.specs.State.{SectionState, State}
 use Rattle.gitconf_includes.specs.Expansion.{Asks, Deeper, Ended, Follows, IsFetched, IsJoined, IsPutIn, Leaves, May, On, Reached}
 use Rattle.gitconf_includes.specs.Outcomes.{LeavesDone, told}
+use Rattle.gitconf_includes.proofs.Says.{told_names}
 
 module _ (deeper : Deeper) (asks : Asks) (from : Meta) (path : List ℕ) (rest : List SectionState) (done : State) where
   -- some outcome of the definition is what the call leaves
@@ -19,29 +19,17 @@ module _ (deeper : Deeper) (asks : Asks) (from : Meta) (path : List ℕ) (rest :
   FollowsTo result left now = (r : Reached) × Follows deeper asks from path rest done r × LeavesDone result left now r
 
   -- a refusal of a path, or out of memory, leaves all as it is
-  pub ended : (e : Error) (result : Result Unit Error) → (includes_number e ≡ 27) ⊎ (file_named asks.rules from path ≡ Err (includes_number e))
+  pub ended : (e : Error) (result : Result Unit Error) → (says e ≡ OutOfMemory) ⊎ (file_named asks.rules from path ≡ Err (says e))
       → IsErrAnd result (λ r. r ≡ e) → FollowsTo result rest done
   ended e (Ok made) why err = absurd err
-  ended e (Err r) why err = subst (λ x. FollowsTo (Err x) rest done) (sym err) (Ended (includes_number e) (whole done rest), follows why, (refl, refl))
+  ended e (Err r) why err = subst (λ x. FollowsTo (Err x) rest done) (sym err) (Ended (says e) (whole done rest), follows why, (refl, refl))
     where
-      follows : (includes_number e ≡ 27) ⊎ (file_named asks.rules from path ≡ Err (includes_number e)) → Follows deeper asks from path rest done (Ended (includes_number e) (whole done rest))
+      follows : (says e ≡ OutOfMemory) ⊎ (file_named asks.rules from path ≡ Err (says e)) → Follows deeper asks from path rest done (Ended (says e) (whole done rest))
       follows (inl wanting) = inl (ap (λ n. Ended n (whole done rest)) wanting)
       follows (inr is) = inr (rw is refl)
 
   pub unnamed : (e : Error) (result : Result Unit Error) → Names (Err e) (file_named asks.rules from path) → IsErrAnd result (λ r. r ≡ e) → FollowsTo result rest done
-  unnamed e result names err = ended e result (why e names) err
-    where
-      why : (e : Error) → Names (Err e) (file_named asks.rules from path) → (includes_number e ≡ 27) ⊎ (file_named asks.rules from path ≡ Err (includes_number e))
-      why (refusals.CopyBuffer at fault) is = inr is
-      why (refusals.Io at fault) is = inr is
-      why (refusals.Parse at it) is = inr is
-      why (refusals.Span it) is = inr is
-      why (refusals.Interpolate it) is = inr is
-      why (refusals.IncludeDepthExceeded depth) is = inr is
-      why refusals.MissingConfigPath is = inr is
-      why refusals.MissingGitDir is = inr is
-      why (refusals.Realpath fault) is = inr is
-      why refusals.Memory is = inl refl
+  unnamed e result names err = ended e result (told_names e (file_named asks.rules from path) names) err
 
   -- a path that is left out
   pub left_out : file_named asks.rules from path ≡ Ok None → FollowsTo (Ok tt) rest done
@@ -57,27 +45,27 @@ module _ (deeper : Deeper) (asks : Asks) (from : Meta) (path : List ℕ) (rest :
   no_file file is answered = (On done, inr (rw is (false, may (λ files. false ≡ is_there (files file)) asks.table answered, refl)), refl)
 
   -- a file that is fetched, and what comes of it
-  pub joins : (file : List ℕ) (fetched : Result State ℕ) (r : Reached) → file_named asks.rules from path ≡ Ok (Some file) → IfSome asks.table (λ files. true ≡ is_there (files file))
+  pub joins : (file : List ℕ) (fetched : Result State Said) (r : Reached) → file_named asks.rules from path ≡ Ok (Some file) → IfSome asks.table (λ files. true ≡ is_there (files file))
       → IsFetched asks from file fetched → IsJoined deeper rest done fetched r → Follows deeper asks from path rest done r
   joins file fetched r is answered fetches joined = inr (rw is (true, may (λ files. true ≡ is_there (files file)) asks.table answered, (fetched, fetches, joined)))
 
   -- one that is refused
   pub not_fetched : {T : Type 0} (file : List ℕ) (e : Error) (f : T → State) (result : Result Unit Error) → file_named asks.rules from path ≡ Ok (Some file) → IfSome asks.table (λ files. true ≡ is_there (files file))
-      → (told f (Err e) ≡ Err 27) ⊎ IsFetched asks from file (told f (Err e)) → IsErrAnd result (λ r. r ≡ e) → FollowsTo result rest done
+      → (told f (Err e) ≡ Err OutOfMemory) ⊎ IsFetched asks from file (told f (Err e)) → IsErrAnd result (λ r. r ≡ e) → FollowsTo result rest done
   not_fetched file e f (Ok made) is answered fetches err = absurd err
-  not_fetched file e f (Err r) is answered fetches err = subst (λ x. FollowsTo (Err x) rest done) (sym err) (Ended (includes_number e) (whole done rest), follows fetches, (refl, refl))
+  not_fetched file e f (Err r) is answered fetches err = subst (λ x. FollowsTo (Err x) rest done) (sym err) (Ended (says e) (whole done rest), follows fetches, (refl, refl))
     where
-      number_of : Result State ℕ → ℕ
-      number_of (Ok state) = 0
-      number_of (Err n) = n
+      said_in : Result State Said → Said
+      said_in (Ok state) = OutOfMemory
+      said_in (Err said) = said
 
-      follows : (told f (Err e) ≡ Err 27) ⊎ IsFetched asks from file (told f (Err e)) → Follows deeper asks from path rest done (Ended (includes_number e) (whole done rest))
-      follows (inl wanting) = inl (ap (λ n. Ended n (whole done rest)) (ap number_of wanting))
-      follows (inr is_fetched) = joins file (Err (includes_number e)) (Ended (includes_number e) (whole done rest)) is answered is_fetched refl
+      follows : (told f (Err e) ≡ Err OutOfMemory) ⊎ IsFetched asks from file (told f (Err e)) → Follows deeper asks from path rest done (Ended (says e) (whole done rest))
+      follows (inl wanting) = inl (ap (λ n. Ended n (whole done rest)) (ap said_in wanting))
+      follows (inr is_fetched) = joins file (Err (says e)) (Ended (says e) (whole done rest)) is answered is_fetched refl
 
   -- one that is refused further down is not put in
   pub not_expanded : (file : List ℕ) (other : State) (e : Error) (result : Result Unit Error) (state : State) → file_named asks.rules from path ≡ Ok (Some file) → IfSome asks.table (λ files. true ≡ is_there (files file))
-      → IsFetched asks from file (Ok other) → (inner : Reached) → deeper (Some (whole done rest)) other inner → Leaves includes_number (Err e) state inner
+      → IsFetched asks from file (Ok other) → (inner : Reached) → deeper (Some (whole done rest)) other inner → Leaves says (Err e) state inner
       → IsErrAnd result (λ r. r ≡ e) → FollowsTo result rest done
   not_expanded file other e result state is answered fetches (On full) expands leaves err = absurd leaves
   not_expanded file other e (Ok made) state is answered fetches (Ended n full) expands leaves err = absurd err
@@ -95,28 +83,23 @@ module _ (deeper : Deeper) (asks : Asks) (from : Meta) (path : List ℕ) (rest :
       go true has = rw (has, IsPutIn) (ap On put)
       go false has = absurd (room has)
 
-  -- a refusal of a span keeps its number
-  pub span_number : (n : ℕ) → includes_number (include_of_span n) ≡ n
-  span_number n = go (n == 27) refl
-    where
-      go : (b : Bool) → (n == 27) ≡ b → includes_number (include_of_span n) ≡ n
-      go true is = rw is (sym (eqb-true n 27 is))
-      go false is = rw is refl
-
   -- one for which there is no room, or for which memory ran out
   pub not_put : (file : List ℕ) (other full now : State) (n : ℕ) (result : Result Unit Error) → file_named asks.rules from path ≡ Ok (Some file) → IfSome asks.table (λ files. true ≡ is_there (files file))
       → IsFetched asks from file (Ok other) → (inner : Reached) → deeper (Some (whole done rest)) other inner → inner ≡ On full
       → (n ≡ 3 → has_room full rest done ≡ false) → (n ≡ 3) ⊎ (n ≡ 27) → now ≡ done → IsErrAnd result (λ r. r ≡ include_of_span n) → FollowsTo result rest now
   not_put file other full now n (Ok made) is answered fetches inner expands on room known same err = absurd err
   not_put file other full now n (Err r) is answered fetches inner expands on room known same err =
-      (Ended n (whole done rest), follows known, (sym (ap includes_number err ∙ span_number n), ap (λ d. whole d rest) same))
+      (Ended (says r) (whole done rest), follows known, (refl, ap (λ d. whole d rest) same))
     where
-      follows : (n ≡ 3) ⊎ (n ≡ 27) → Follows deeper asks from path rest done (Ended n (whole done rest))
-      follows (inr wanting) = inl (ap (λ m. Ended m (whole done rest)) wanting)
-      follows (inl large) = joins file (Ok other) (Ended n (whole done rest)) is answered fetches
-          (On full, subst (deeper (Some (whole done rest)) other) on expands, rw (room large, IsPutIn) (ap (λ m. Ended m (whole done rest)) large))
+      said_of : (m : ℕ) → n ≡ m → says r ≡ says (include_of_span m)
+      said_of m is = ap says err ∙ ap (λ k. says (include_of_span k)) is
+
+      follows : (n ≡ 3) ⊎ (n ≡ 27) → Follows deeper asks from path rest done (Ended (says r) (whole done rest))
+      follows (inr wanting) = inl (ap (λ s. Ended s (whole done rest)) (said_of 27 wanting))
+      follows (inl large) = joins file (Ok other) (Ended (says r) (whole done rest)) is answered fetches
+          (On full, subst (deeper (Some (whole done rest)) other) on expands, rw (room large, IsPutIn) (ap (λ s. Ended s (whole done rest)) (said_of 3 large)))
 
 -- what was made was fetched
-pub made : {T : Type 0} (f : T → State) (t : T) (P : Type 0) → (told f (Ok t) ≡ Err 27) ⊎ P → P
+pub made : {T : Type 0} (f : T → State) (t : T) (P : Type 0) → (told f (Ok t) ≡ Err OutOfMemory) ⊎ P → P
 made f t P (inl wanting) = absurd (cc)
 made f t P (inr is) = is

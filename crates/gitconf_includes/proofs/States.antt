@@ -19,6 +19,7 @@ use Rattle.gitconf_state.proofs.Edits.Items.{file_line_end_is, one_line_end}
 use Rattle.gitconf_state.proofs.Edits.Keep.{behind_last_holds, holds_appended, joined_passes, numbered_from_clean, numbered_from_items, without_entries}
 use Rattle.gitconf_state.proofs.Loading.Clean.{full_has_items, full_is_clean, kept_has_items, lossy_is_clean}
 use Rattle.gitconf_state.proofs.Loading.Document as document
+use Rattle.gitconf_includes.specs.Said.{parse_said, Said, TooDeep}
 use Rattle.gitconf_includes.specs.Expansion.{Asks, Expands, included_meta, IsFetched, IsLoaded, IsLoadOf, May, On, Reached}
 use Rattle.gitconf_includes.specs.Inclusion.{inclusion, named_paths}
 use Rattle.gitconf_includes.specs.Laws.{file_of, AreHeaded, HoldsOfNamed, IncludesHeaded}
@@ -105,7 +106,7 @@ pub fetched_load : (asks : Asks) (from : Meta) (path : List ℕ) (other : State)
 fetched_load asks from path other (Err fault, told, is) = absurd (cc)
 fetched_load asks from path other (Ok text, told, is) = (text, told, go (from.level == 255) is)
   where
-    go : (end : Bool) → elim end as (λ _. Type 0) [ true ↦ ◌≡◌ {A = Result State ℕ} (Ok other) (Err 15) | false ↦ IsLoadOf asks.rules.lossy text (included_meta from path) (Ok other) ]
+    go : (end : Bool) → elim end as (λ _. Type 0) [ true ↦ ◌≡◌ {A = Result State Said} (Ok other) (Err (TooDeep asks.rules.max_depth)) | false ↦ IsLoadOf (parse_said path) asks.rules.lossy text (included_meta from path) (Ok other) ]
         → IsLoaded asks.rules.lossy text (included_meta from path) other
     go true is = absurd (cc)
     go false is = is

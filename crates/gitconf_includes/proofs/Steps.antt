@@ -5,9 +5,8 @@ use Rattle.std.specs.Option.{unwrap_or}
 use Rattle.gitconf_text.specs.Part.{Item}
 use Rattle.gitconf_sources.specs.Metadata.{Meta}
 use Rattle.gitconf_includes.specs.declared.includes.Error.{Error}
-use Rattle.gitconf_includes.specs.declared.includes.Error.TheVariants as refusals
 use Rattle.gitconf_includes.specs.Conditions.{Says}
-use Rattle.gitconf_includes.specs.Errors.{includes_number}
+use Rattle.gitconf_includes.specs.Errors.{says}
 use Rattle.gitconf_state.specs.Edits.{held_behind_last, numbered_from}
 use Rattle.gitconf_state.specs.Including.{spliced, visited, whole, with_sections}
 use Rattle.gitconf_state.specs.State.{SectionState, State}
@@ -17,6 +16,8 @@ use Rattle.gitconf_includes.specs.declared.config_file.Visited.TheVariants as vi
 use Rattle.gitconf_includes.specs.Expansion.{Asks, Deeper, Ended, Expands, Gives, GoesOn, Leaves, On, Reached, Visits, Wanting}
 use Rattle.gitconf_includes.specs.Inclusion.{Includes, is_followed}
 use Rattle.gitconf_includes.specs.Outcomes.{LeavesDone, told}
+use Rattle.gitconf_includes.specs.Said.{OutOfMemory, Said, TooDeep}
+use Rattle.gitconf_includes.proofs.Says.{told_judges}
 use Rattle.gitconf_includes.specs.Visits.{condition_of, paths_of, IsStep, IsVisited}
 
 -- all is done
@@ -37,10 +38,10 @@ some_spliced other rest done some = go _ other.front done.sections some
     go line_end front (s ∷ t ∷ ss) some = omega arith
 
 -- a refusal that is left
-pub leaves_refused : (result : Result Unit Error) (e : Error) (n : ℕ) (file new : State) → IsErrAnd result (λ r. r ≡ e) → n ≡ includes_number e → new ≡ file
-    → Leaves includes_number result new (Ended n file)
-leaves_refused (Ok made) e n file new err is same = absurd err
-leaves_refused (Err r) e n file new err is same = (is ∙ ap includes_number (sym err), same)
+pub leaves_refused : (result : Result Unit Error) (e : Error) (said : Said) (file new : State) → IsErrAnd result (λ r. r ≡ e) → said ≡ says e → new ≡ file
+    → Leaves says result new (Ended said file)
+leaves_refused (Ok made) e said file new err is same = absurd err
+leaves_refused (Err r) e said file new err is same = (is ∙ ap says (sym err), same)
 
 -- what is no section is none
 pub none_of : {T : Type 0} (option : Option T) → ((t : T) → option ≡ Some t → ⊥) → option ≡ None
@@ -53,9 +54,9 @@ Suffices deeper asks parent rest done left now = (r : Reached) → Visits deeper
 
 module _ (deeper : Deeper) (asks : Asks) (parent : Option State) where
   -- memory ran out where a section was to be visited
-  pub visits_wanting : (rest : List SectionState) (done : State) → 0 < length rest → Visits deeper asks parent rest done (Ended 27 (whole done rest))
+  pub visits_wanting : (rest : List SectionState) (done : State) → 0 < length rest → Visits deeper asks parent rest done (Ended OutOfMemory (whole done rest))
   visits_wanting [] done some = absurd (omega (arith, some))
-  visits_wanting (s ∷ rest) done some = (Ended 27 (whole done (s ∷ rest)), inl (ap (λ f. Ended 27 f) (sym (whole_visited done s rest))), refl)
+  visits_wanting (s ∷ rest) done some = (Ended OutOfMemory (whole done (s ∷ rest)), inl (ap (λ f. Ended OutOfMemory f) (sym (whole_visited done s rest))), refl)
 
   -- a section that includes nothing
   pub visits_plain : (told : Visited) (rest : List SectionState) (done : State) (left : List SectionState) (now : State) (r : Reached) → IsStep told done rest now left
@@ -80,7 +81,7 @@ module _ (deeper : Deeper) (asks : Asks) (parent : Option State) where
   -- a refusal of what it gives ends all
   pub visits_refused : (d : Directive) (rest : List SectionState) (done : State) (left : List SectionState) (now : State) (end : State) (e : Error) (result : Result Unit Error) (mid : Reached)
       → IsStep (visits.Includes d) done rest now left → Gives deeper asks parent d.meta.value (Includes (condition_of d) (paths_of d)) left now mid
-      → Leaves includes_number (Err e) end mid → IsErrAnd result (λ r. r ≡ e) → Visits deeper asks parent rest done mid × Leaves includes_number result end mid
+      → Leaves says (Err e) end mid → IsErrAnd result (λ r. r ≡ e) → Visits deeper asks parent rest done mid × Leaves says result end mid
   visits_refused d rest done left now end e result (On full) step gives leaves err = absurd leaves
   visits_refused d rest done left now end e result (Ended n file) step gives leaves err =
       (visits_given d rest done left now (Ended n file) (Ended n file) step gives refl, leaves_refused result e n file end err leaves.0 leaves.1)
@@ -95,26 +96,14 @@ module _ (deeper : Deeper) (asks : Asks) (parent : Option State) where
   pub gives_refused : (from : Meta) (condition : Option (List ℕ)) (paths : List (List ℕ)) (rest : List SectionState) (done : State) (e : Error) (result : Result Unit Error)
       → Says {T = Bool} (λ b. b) (Err e) (is_followed asks.rules from (unwrap_or parent (whole done rest)) condition) → IsErrAnd result (λ r. r ≡ e)
       → (r : Reached) × Gives deeper asks parent from (Includes condition paths) rest done r × LeavesDone result rest done r
-  gives_refused from condition paths rest done e (Ok made) says err = absurd err
-  gives_refused from condition paths rest done e (Err x) says err =
-      (Ended (includes_number e) (whole done rest), gives (why e says), (ap includes_number (sym err), refl))
+  gives_refused from condition paths rest done e (Ok made) told err = absurd err
+  gives_refused from condition paths rest done e (Err x) told err =
+      (Ended (says e) (whole done rest), gives (told_judges e judged told), (ap says (sym err), refl))
     where
-      judged : Result Bool ℕ
+      judged : Result Bool Said
       judged = is_followed asks.rules from (unwrap_or parent (whole done rest)) condition
 
-      why : (e : Error) → Says {T = Bool} (λ b. b) (Err e) judged → (includes_number e ≡ 27) ⊎ (judged ≡ Err (includes_number e))
-      why (refusals.CopyBuffer at fault) is = inr is
-      why (refusals.Io at fault) is = inr is
-      why (refusals.Parse at it) is = inr is
-      why (refusals.Span it) is = inr is
-      why (refusals.Interpolate it) is = inr is
-      why (refusals.IncludeDepthExceeded depth) is = inr is
-      why refusals.MissingConfigPath is = inr is
-      why refusals.MissingGitDir is = inr is
-      why (refusals.Realpath fault) is = inr is
-      why refusals.Memory is = inl refl
-
-      gives : (includes_number e ≡ 27) ⊎ (judged ≡ Err (includes_number e)) → Gives deeper asks parent from (Includes condition paths) rest done (Ended (includes_number e) (whole done rest))
+      gives : (says e ≡ OutOfMemory) ⊎ (judged ≡ Err (says e)) → Gives deeper asks parent from (Includes condition paths) rest done (Ended (says e) (whole done rest))
       gives (inl wanting) = inl (ap (λ n. Ended n (whole done rest)) wanting)
       gives (inr is) = inr (rw is refl)
 
@@ -129,8 +118,8 @@ one_deeper (suc left) asks parent old r some is = subst (λ n. Wanting old r ⊎
     one = omega arith
 
 -- memory ran out before anything was visited
-pub expands_wanting : (left : ℕ) (asks : Asks) (parent : Option State) (old : State) → left ≢ 0 → Expands left asks parent old (Ended 27 old)
-expands_wanting left asks parent old some = one_deeper left asks parent old (Ended 27 old) some (inl refl)
+pub expands_wanting : (left : ℕ) (asks : Asks) (parent : Option State) (old : State) → left ≢ 0 → Expands left asks parent old (Ended OutOfMemory old)
+expands_wanting left asks parent old some = one_deeper left asks parent old (Ended OutOfMemory old) some (inl refl)
 
 -- all sections of a file in which nothing is done are to be visited
 pub expands : (left : ℕ) (asks : Asks) (parent : Option State) (done : State) (rest : List SectionState) (r : Reached) → left ≢ 0 → done.sections ≡ []
@@ -142,21 +131,21 @@ expands left asks parent done rest r some none visits =
 
 -- at the last level
 pub expands_no_more : (left : ℕ) (asks : Asks) (parent : Option State) (old : State) (r : Reached) → left ≡ 0
-    → r ≡ (if asks.rules.refuses_depth then Ended 15 old else On old) → Expands left asks parent old r
+    → r ≡ (if asks.rules.refuses_depth then Ended (TooDeep asks.rules.max_depth) old else On old) → Expands left asks parent old r
 unfolding Expands
 expands_no_more zero asks parent old r none is = is
 expands_no_more (suc left) asks parent old r none is = absurd (omega (arith, none))
 
-pub limited : (refuses : Bool) (old : State) (result : Result Unit Error) → told (λ done. done) result ≡ (if refuses then Err 15 else Ok (tt {0}))
-    → (r : Reached) × (r ≡ (if refuses then Ended 15 old else On old)) × Leaves includes_number result old r
-limited true old (Ok made) is = absurd (cc)
-limited true old (Err e) is = (Ended 15 old, refl, (number is, refl))
+pub limited : (refuses : Bool) (depth : ℕ) (old : State) (result : Result Unit Error) → told (λ done. done) result ≡ (if refuses then Err (TooDeep depth) else Ok (tt {0}))
+    → (r : Reached) × (r ≡ (if refuses then Ended (TooDeep depth) old else On old)) × Leaves says result old r
+limited true depth old (Ok made) is = absurd (cc)
+limited true depth old (Err e) is = (Ended (TooDeep depth) old, refl, (said is, refl))
   where
-    number_of : Result Unit ℕ → ℕ
-    number_of (Ok made) = 0
-    number_of (Err n) = n
+    said_in : Result Unit Said → Said
+    said_in (Ok made) = OutOfMemory
+    said_in (Err said) = said
 
-    number : ◌≡◌ {A = Result Unit ℕ} (Err (includes_number e)) (Err 15) → 15 ≡ includes_number e
-    number is = sym (ap number_of is)
-limited false old (Ok made) is = (On old, refl, refl)
-limited false old (Err e) is = absurd (cc)
+    said : ◌≡◌ {A = Result Unit Said} (Err (says e)) (Err (TooDeep depth)) → TooDeep depth ≡ says e
+    said is = sym (ap said_in is)
+limited false depth old (Ok made) is = (On old, refl, refl)
+limited false depth old (Err e) is = absurd (cc)

@@ -1,36 +1,33 @@
 -- The refusals of files and of includes, made of what caused them; running out of memory has one case in each.
-use Rattle.std.specs.Prelude.{ℕ, ◌==◌, if◌then◌else◌}
+use Rattle.std.specs.Prelude.{ℕ, ◌==◌, if◌then◌else◌, string_bytes}
 use Rattle.std.specs.declared.alloc.Global.{Global}
 use Rattle.std.specs.declared.string.String.{String}
 use Rattle.gitconf_values.specs.declared.path.interpolate.Error.{Error as Interpolate}
 use Rattle.gitconf_values.specs.declared.path.interpolate.Error.TheVariants as interpolate
 use Rattle.gitconf_values.specs.Homes.{interpolate_number}
 use Rattle.gitconf_read.specs.ParseError.{Refusal}
+use Rattle.gitconf_includes.specs.Said.{known, number_of, CannotOpen, CannotParse, CannotRead, NoFolder, NoGitFolder, NoPath, NoRoom, OutOfMemory, Said, TooDeep, Unresolved}
 use Rattle.gitconf_includes.specs.declared.includes.Error.{Error as Includes}
 use Rattle.gitconf_includes.specs.declared.includes.Error.TheVariants as includes
 use Rattle.gitconf_includes.specs.declared.init.Error.{Error as Init}
 use Rattle.gitconf_includes.specs.declared.init.Error.TheVariants as init
 
--- the number of a refusal of includes
-abbrev pub includes_number : Includes → ℕ
-includes_number (includes.Io path fault) = 19
-includes_number (includes.CopyBuffer path fault) = 20
-includes_number (includes.Parse path e) = e.number
-includes_number (includes.Span e) = e
-includes_number (includes.Interpolate e) = interpolate_number e
-includes_number (includes.IncludeDepthExceeded depth) = 15
-includes_number includes.MissingConfigPath = 16
-includes_number includes.MissingGitDir = 17
-includes_number (includes.Realpath fault) = 18
-includes_number includes.Memory = 27
+-- what a refusal of includes says
+abbrev pub says : Includes → Said
+says (includes.Io path fault) = CannotOpen (string_bytes path) fault
+says (includes.CopyBuffer path fault) = CannotRead (string_bytes path) fault
+says (includes.Parse path e) = CannotParse (string_bytes path) (known e)
+says (includes.Span number) = NoRoom number
+says (includes.Interpolate e) = NoPath (interpolate_number e)
+says (includes.IncludeDepthExceeded max_depth) = TooDeep max_depth
+says includes.MissingConfigPath = NoFolder
+says includes.MissingGitDir = NoGitFolder
+says (includes.Realpath fault) = Unresolved fault
+says includes.Memory = OutOfMemory
 
--- the number of a refusal of a file
-abbrev pub init_number : Init → ℕ
-init_number (init.Parse e) = e.number
-init_number (init.Interpolate e) = interpolate_number e
-init_number (init.Includes e) = includes_number e
-init_number (init.Span e) = e
-init_number init.Memory = 27
+-- its number
+abbrev pub includes_number : Includes → ℕ
+includes_number e = number_of (says e)
 
 -- the refusal of an include because the parser refuses the file at that path
 abbrev pub include_of_parse : (path : String Global) → Refusal → Includes

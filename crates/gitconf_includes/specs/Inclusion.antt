@@ -10,6 +10,7 @@ use Rattle.gitconf_state.specs.State.{SectionState, State}
 use Rattle.gitconf_state.specs.Lookup.{entries_of_key, has_name, listed, listing, meaning}
 use Rattle.gitconf_includes.specs.Rules.{Rules}
 use Rattle.gitconf_includes.specs.Conditions.{holds}
+use Rattle.gitconf_includes.specs.Said.{Said}
 
 -- nothing, or these paths, under a condition or without one
 pub data Inclusion : Type 0 where
@@ -45,14 +46,14 @@ has_url state pattern = list_any (matches false pattern) (urls state)
 
 -- whether a section's paths are followed: without a condition, or if the condition holds, by where the section comes from and by the file
 -- that is searched
-abbrev pub is_followed : Rules → (from : Meta) → (searched : State) → (condition : Option (List ℕ)) → Result Bool ℕ
+abbrev pub is_followed : Rules → (from : Meta) → (searched : State) → (condition : Option (List ℕ)) → Result Bool Said
 is_followed rules from searched None = Ok true
 is_followed rules from searched (Some condition) = holds rules from (has_url searched) condition
 
 -- the paths of a section that are followed: all of them, or none
-abbrev pub followed : Rules → (from : Meta) → (searched : State) → Inclusion → Result (List (List ℕ)) ℕ
+abbrev pub followed : Rules → (from : Meta) → (searched : State) → Inclusion → Result (List (List ℕ)) Said
 followed rules from searched NoInclude = Ok []
 followed rules from searched (Includes condition paths) = elim (is_followed rules from searched condition) [
-  | Err number ↦ Err number
+  | Err said ↦ Err said
   | Ok follows ↦ if follows then Ok paths else Ok []
 ]

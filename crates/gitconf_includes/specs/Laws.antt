@@ -7,8 +7,9 @@ use Rattle.gitconf_sources.specs.Metadata.{Meta}
 use Rattle.gitconf_sources.specs.Reports.{FileReport, read_of}
 use Rattle.gitconf_sources.specs.declared.fault.FileFault.{FileFault}
 use Rattle.gitconf_includes.specs.declared.includes.Error.{Error}
-use Rattle.gitconf_includes.specs.Errors.{includes_number}
+use Rattle.gitconf_includes.specs.Errors.{says}
 use Rattle.gitconf_includes.specs.Rules.{Rules}
+use Rattle.gitconf_includes.specs.Said.{OutOfMemory}
 use Rattle.gitconf_state.specs.Lookup.{listed}
 use Rattle.gitconf_state.specs.State.{entries_of, SectionState, State}
 use Rattle.gitconf_includes.specs.Expansion.{Asks, IsFetched, Reached, On, Ended}
@@ -18,7 +19,7 @@ use Rattle.gitconf_includes.specs.Paths.{file_named}
 -- the file that an outcome leaves
 abbrev pub file_of : Reached → State
 file_of (On done) = done
-file_of (Ended number file) = file
+file_of (Ended said file) = file
 
 -- a section without what is held after it
 abbrev pub unheld : SectionState → SectionState
@@ -67,7 +68,7 @@ IncludesNothing state = AllByRecursion (λ s. inclusion s ≡ NoInclude) state.s
 -- a file is as it was, also where memory ran out
 abbrev pub IsAsItWas : Result Unit Error → (old new : State) → Type 0
 IsAsItWas (Ok done) old new = new ≡ old
-IsAsItWas (Err e) old new = (includes_number e ≡ 27) × (new ≡ old)
+IsAsItWas (Err e) old new = (says e ≡ OutOfMemory) × (new ≡ old)
 
 -- none of the texts at the paths has an entry before its first section
 abbrev pub AreHeaded : (files : List ℕ → FileReport) → Type 0
@@ -104,11 +105,11 @@ asks_with lossy rules files = record { rules = record rules { lossy = lossy }; t
 -- an outcome other than running out of memory
 abbrev pub IsAnswered : Reached → Type 0
 IsAnswered (On done) = Unit {0}
-IsAnswered (Ended number file) = number ≢ 27
+IsAnswered (Ended said file) = said ≢ OutOfMemory
 
--- Calls on one file end alike: both leave the same file, and both are done, or refused with one number.
+-- Calls on one file end alike: both leave the same file, and both are done, or refusals that say the same.
 abbrev pub EndAlike : (one other : Result Unit Error) → (new left : State) → Type 0
 EndAlike (Ok done) (Ok made) new left = new ≡ left
 EndAlike (Ok done) (Err f) new left = ⊥
 EndAlike (Err e) (Ok made) new left = ⊥
-EndAlike (Err e) (Err f) new left = (includes_number e ≡ includes_number f) × (new ≡ left)
+EndAlike (Err e) (Err f) new left = (says e ≡ says f) × (new ≡ left)

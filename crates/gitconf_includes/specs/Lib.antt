@@ -1,3 +1,4 @@
+pub mod Said
 pub mod Errors
 pub mod Options
 pub mod Rules

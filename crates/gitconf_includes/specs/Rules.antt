@@ -7,10 +7,10 @@ use Rattle.gitconf_includes.specs.declared.includes.conditional.GitDir.{GitDir}
 use Rattle.gitconf_includes.specs.declared.includes.Options.{Options as Includes}
 use Rattle.gitconf_includes.specs.declared.init.Options.{Options as Init}
 
--- The folder of a repository: the path as it is given, and the one with its symbolic links resolved, if there was no fault.
+-- The folder of a repository: the path as it is given, and the one with its symbolic links resolved, or why it could not be.
 pub record GitFolder : Type 0 where
   pub path : List ℕ
-  pub real : Option (List ℕ)
+  pub real : Result (List ℕ) FileFault
 
 -- the rules of an expansion: how deep it goes, what it refuses, what shorthands and conditions mean, and what a load keeps
 pub record Rules : Type 0 where
@@ -32,12 +32,12 @@ pub record Rules : Type 0 where
   -- blanks, comments and line endings are left out
   pub lossy : Bool
 
--- the resolved folder, if it could be resolved
-abbrev pub resolved : Result (Bor (List ℕ)) FileFault → Option (List ℕ)
-resolved (Ok folder) = Some folder.now
-resolved (Err fault) = None
+-- the resolved folder, or why it could not be resolved
+abbrev pub resolved : Result (Bor (List ℕ)) FileFault → Result (List ℕ) FileFault
+resolved (Ok folder) = Ok folder.now
+resolved (Err fault) = Err fault
 
--- the folder of a repository as options give it: its path, and the resolved one if there is one
+-- the folder of a repository as options give it: its path, and the resolved one, or why there is none
 abbrev pub git_folder : GitDir → GitFolder
 git_folder g = record { path = g.path.now; real = resolved g.real }
 

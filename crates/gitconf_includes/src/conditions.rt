@@ -1,13 +1,12 @@
 //! Whether the condition of an `includeIf` holds.
-ghost use Rattle.std.specs.Prelude.{◌≡◌, ◌==◌, ◌++◌, ℕ, Bool, List, Some, true, false, codes, position, nat_eq, IfErr, IfOk, string_bytes};
+ghost use Rattle.std.specs.Prelude.{◌≡◌, ◌==◌, ◌++◌, ℕ, Bool, List, Some, true, false, codes, position, nat_eq, IfOk, string_bytes};
 ghost use Rattle.std.specs.Option.{option_copied, option_map, option_and_then};
 ghost use Rattle.std.specs.List.{ends_with};
 ghost use Rattle.bstr.specs.Owned.{bstring_bytes};
 ghost use Rattle.gitconf_glob.specs.Pattern.{matches};
 ghost use Rattle.gitconf_values.specs.Interpolated.{behind as behind_of};
 ghost use Rattle.gitconf_includes.specs.Conditions as spec;
-ghost use Rattle.gitconf_includes.specs.Conditions.{IsPattern, Says, IsOfCondition};
-ghost use Rattle.gitconf_includes.specs.Paths.{is_of_path};
+ghost use Rattle.gitconf_includes.specs.Conditions.{IsPattern, Says};
 ghost use Rattle.gitconf_includes.specs.Rules.{git_folder, rules_of_includes};
 
 use crate::includes::conditional::GitDir;
@@ -109,8 +108,7 @@ fn based(
     from: &Metadata,
     pattern: String,
 ) -> Result<Option<Vec<u8>>, Error>
-    ensures value { IsPattern result (spec.based (rules_of_includes options.now) from.now (string_bytes pattern)) }
-    ensures cause { IfErr result (λ e. is_of_path e ≡ true) }
+    ensures { IsPattern result (spec.based (rules_of_includes options.now) from.now (string_bytes pattern)) }
 {
     let Some(rest) = behind(b"./".as_slice(), pattern.as_bytes()) else {
         return Ok(Some(pattern.into_bytes()));
@@ -135,8 +133,7 @@ fn pattern_of(
     from: &Metadata,
     text: String,
 ) -> Result<Option<Vec<u8>>, Error>
-    ensures value { IsPattern result (spec.pattern_of (rules_of_includes options.now) from.now (string_bytes text)) }
-    ensures cause { IfErr result (λ e. is_of_path e ≡ true) }
+    ensures { IsPattern result (spec.pattern_of (rules_of_includes options.now) from.now (string_bytes text)) }
 {
     match based(alloc, options, from, text)? {
         Some(pattern) => Ok(Some(spread(alloc, pattern)?)),
@@ -151,8 +148,7 @@ fn gitdir_pattern(
     from: &Metadata,
     pattern: &[u8],
 ) -> Result<Option<Vec<u8>>, Error>
-    ensures value { IsPattern result (spec.gitdir_pattern (rules_of_includes options.now) from.now pattern.now) }
-    ensures cause { IfErr result (λ e. is_of_path e ≡ true) }
+    ensures { IsPattern result (spec.gitdir_pattern (rules_of_includes options.now) from.now pattern.now) }
 {
     let written = written(alloc, pattern)?;
     match replaced(options, written)? {
@@ -168,8 +164,7 @@ fn matches_folder(
     pattern: &[u8],
     git: &GitDir<'_>,
 ) -> Result<bool, Error>
-    ensures value { Says (λ it. it) result (spec.matches_folder ignore_case pattern.now (git_folder git.now)) }
-    ensures cause { IfErr result (IsOfCondition (Some git.now)) }
+    ensures { Says (λ it. it) result (spec.matches_folder ignore_case pattern.now (git_folder git.now)) }
 {
     if wildmatch(alloc, pattern, git.path.as_bytes(), ignore_case)? {
         return Ok(true);
@@ -188,8 +183,7 @@ fn holds_gitdir(
     from: &Metadata,
     pattern: &[u8],
 ) -> Result<bool, Error>
-    ensures value { Says (λ it. it) result (spec.holds_gitdir ignore_case (rules_of_includes options.now) from.now pattern.now) }
-    ensures cause { IfErr result (IsOfCondition options.now.conditional.git_dir) }
+    ensures { Says (λ it. it) result (spec.holds_gitdir ignore_case (rules_of_includes options.now) from.now pattern.now) }
 {
     match &options.conditional.git_dir {
         Some(git) => match gitdir_pattern(alloc, options, from, pattern)? {
@@ -261,9 +255,8 @@ fn judge_kind<'a>(
     kind: &[u8],
     rest: &'a [u8],
 ) -> Result<Judged<'a>, Error>
-    ensures value { (has_url : List ℕ → Bool) → Says (spec.judged has_url) result
+    ensures { (has_url : List ℕ → Bool) → Says (spec.judged has_url) result
         (spec.holds_kind (rules_of_includes options.now) from.now has_url kind.now rest.now) }
-    ensures cause { IfErr result (IsOfCondition options.now.conditional.git_dir) }
 {
     if kind == b"gitdir".as_slice() {
         return Ok(Judged::Holds(holds_gitdir(alloc, false, options, from, rest)?));
@@ -300,8 +293,7 @@ pub fn judge<'a>(
     from: &Metadata,
     condition: &'a [u8],
 ) -> Result<Judged<'a>, Error>
-    ensures value { (has_url : List ℕ → Bool) → Says (spec.judged has_url) result (spec.holds (rules_of_includes options.now) from.now has_url condition.now) }
-    ensures cause { IfErr result (IsOfCondition options.now.conditional.git_dir) }
+    ensures { (has_url : List ℕ → Bool) → Says (spec.judged has_url) result (spec.holds (rules_of_includes options.now) from.now has_url condition.now) }
 {
     match cut_colon(condition) {
         Some((kind, rest)) => judge_kind(alloc, options, from, kind, rest),

@@ -1,13 +1,13 @@
 //! The expansion of files.
 ghost use Rattle.std.specs.Option.{option_copied, option_map};
-ghost use Rattle.std.specs.Prelude.{◌≡◌, ◌-◌, ◌<◌, [], if◌then◌else◌, length, map, Err, IfErr, None, Ok, OnOk};
+ghost use Rattle.std.specs.Prelude.{◌≡◌, ◌-◌, ◌<◌, [], if◌then◌else◌, length, map, Err, None, Ok, OnOk};
 ghost use Rattle.bstr.specs.Owned.{bstring_bytes};
-ghost use Rattle.gitconf_includes.specs.Errors.{includes_number};
-ghost use Rattle.gitconf_includes.specs.declared.includes.Error.TheVariants.{IncludeDepthExceeded};
+ghost use Rattle.gitconf_includes.specs.Errors.{says};
+ghost use Rattle.gitconf_includes.specs.Said.{TooDeep};
 ghost use Rattle.gitconf_state.specs.Including.{whole};
 ghost use Rattle.gitconf_includes.specs.Expansion.{Expands, Follows, FollowsAll, Gives, Leaves, Reached};
 ghost use Rattle.gitconf_includes.specs.Inclusion.{Includes};
-ghost use Rattle.gitconf_includes.specs.Outcomes.{asks_of, told, CountsFaults, IsCause, LeavesDone};
+ghost use Rattle.gitconf_includes.specs.Outcomes.{asks_of, told, CountsFaults, LeavesDone};
 ghost use Rattle.gitconf_includes.specs.Visits.{condition_of, paths_of};
 
 use crate::config_file::{ConfigFile, Directive, Visited};
@@ -23,8 +23,7 @@ use std::alloc::Global;
 
 /// A file at the last level: it is refused if the options ask for that.
 fn at_the_limit(options: &Options<'_>) -> Result<(), Error>
-    ensures says { told (λ done. done) result ≡ (if options.now.includes.err_on_max_depth_exceeded then Err 15 else Ok (tt {0})) }
-    ensures cause { IfErr result (λ e. e ≡ IncludeDepthExceeded options.now.includes.max_depth) }
+    ensures { told (λ done. done) result ≡ (if options.now.includes.err_on_max_depth_exceeded then Err (TooDeep options.now.includes.max_depth) else Ok (tt {0})) }
 {
     if options.includes.err_on_max_depth_exceeded {
         return Err(Error::IncludeDepthExceeded {
@@ -56,7 +55,6 @@ fn follow<F: Files, S: ConfigFile>(
     ensures rest { S.rest file.new ≡ S.rest file.old }
     ensures some { OnOk result (0 < length (S.done file.new).sections) }
     ensures table { F.table files.new ≡ F.table files.old }
-    ensures cause { IfErr result (IsCause options.now (F.table files.old)) }
     ensures counted { CountsFaults result (F.failures files.old) (F.failures files.new) }
 {
     let Some(path) = file_named(alloc, &options.includes, from, path)? else {
@@ -91,7 +89,6 @@ fn follow_all<F: Files, S: ConfigFile>(
         from.now (map bstring_bytes paths.items) (S.rest file.old) (S.done file.old) r × LeavesDone result (S.rest file.new) (S.done file.new) r }
     ensures rest { S.rest file.new ≡ S.rest file.old }
     ensures table { F.table files.new ≡ F.table files.old }
-    ensures cause { IfErr result (IsCause options.now (F.table files.old)) }
     ensures counted { CountsFaults result (F.failures files.old) (F.failures files.new) }
 {
     for path in paths {
@@ -123,7 +120,6 @@ fn obey<'a, 'b, F: Files, S: ConfigFile>(
         (S.rest file.old) (S.done file.old) r × LeavesDone result (S.rest file.new) (S.done file.new) r }
     ensures rest { S.rest file.new ≡ S.rest file.old }
     ensures table { F.table files.new ≡ F.table files.old }
-    ensures cause { IfErr result (IsCause options.now (F.table files.old)) }
     ensures counted { CountsFaults result (F.failures files.old) (F.failures files.new) }
 {
     if !is_followed(alloc, options, parent, &*file, &directive)? {
@@ -155,9 +151,8 @@ fn expand<'a, F: Files, S: ConfigFile>(
     requires fresh { (S.done file.old).sections ≡ [] }
     ensures expanded { (r : Reached) × Expands left (asks_of options.now (F.table files.old))
         (option_map (λ s. whole (S.done s) (S.rest s)) (option_copied parent.entry)) (whole (S.done file.old) (S.rest file.old)) r
-        × Leaves includes_number result (whole (S.done file.new) (S.rest file.new)) r }
+        × Leaves says result (whole (S.done file.new) (S.rest file.new)) r }
     ensures table { F.table files.new ≡ F.table files.old }
-    ensures cause { IfErr result (IsCause options.now (F.table files.old)) }
     ensures counted { CountsFaults result (F.failures files.old) (F.failures files.new) }
 {
     if left == 0 {
@@ -185,9 +180,8 @@ pub fn expand_file<F: Files, S: ConfigFile>(
     requires fresh { (S.done file.old).sections ≡ [] }
     ensures expanded { (r : Reached) × Expands options.now.includes.max_depth (asks_of options.now (F.table files.old)) None
         (whole (S.done file.old) (S.rest file.old)) r
-        × Leaves includes_number result (whole (S.done file.new) (S.rest file.new)) r }
+        × Leaves says result (whole (S.done file.new) (S.rest file.new)) r }
     ensures table { F.table files.new ≡ F.table files.old }
-    ensures cause { IfErr result (IsCause options.now (F.table files.old)) }
     ensures counted { CountsFaults result (F.failures files.old) (F.failures files.new) }
 {
     let depth = options.includes.max_depth;

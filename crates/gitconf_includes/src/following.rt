@@ -1,9 +1,10 @@
 //! One included file: read and loaded.
-ghost use Rattle.std.specs.Prelude.{◌≡◌, ◌⊎◌, ◌<◌, [], Err, IfErr, IfOk, string_bytes};
-ghost use Rattle.gitconf_includes.specs.Errors.{include_of_parse, includes_number};
+ghost use Rattle.std.specs.Prelude.{◌≡◌, ◌⊎◌, ◌<◌, [], Err, IfOk, string_bytes};
+ghost use Rattle.gitconf_includes.specs.Errors.{include_of_parse, says};
+ghost use Rattle.gitconf_includes.specs.Said.{fault_said, OutOfMemory};
 ghost use Rattle.gitconf_state.specs.Including.{whole};
-ghost use Rattle.gitconf_includes.specs.Expansion.{fault_number, included_meta, IsFetched};
-ghost use Rattle.gitconf_includes.specs.Outcomes.{asks_of, fault_refusal, told, CountsFaults, IsCause};
+ghost use Rattle.gitconf_includes.specs.Expansion.{included_meta, IsFetched};
+ghost use Rattle.gitconf_includes.specs.Outcomes.{asks_of, told, CountsFaults};
 
 use crate::config_file::ConfigFile;
 use crate::includes::Error;
@@ -18,8 +19,7 @@ use std::rc::Rc;
 
 /// The refusal for a fault of the file at that path.
 fn refusal(fault: FileFault, path: String) -> Error
-    ensures number { includes_number result ≡ fault_number fault.stage }
-    ensures is { result ≡ fault_refusal fault path }
+    ensures { says result ≡ fault_said (string_bytes path) fault }
 {
     match fault.stage {
         Stage::Open => Error::Io {
@@ -85,9 +85,8 @@ pub(crate) fn fetch<F: Files, S: ConfigFile>(
     from: &Metadata,
     path: String,
 ) -> Result<S, Error>
-    ensures fetched { (told (λ s. whole (S.done s) (S.rest s)) result ≡ Err 27)
+    ensures fetched { (told (λ s. whole (S.done s) (S.rest s)) result ≡ Err OutOfMemory)
         ⊎ IsFetched (asks_of options.now (F.table files.old)) from.now (string_bytes path) (told (λ s. whole (S.done s) (S.rest s)) result) }
-    ensures cause { IfErr result (IsCause options.now (F.table files.old)) }
     ensures fresh { IfOk result (λ s. (S.done s).sections ≡ []) }
     ensures table { F.table files.new ≡ F.table files.old }
     ensures counted { CountsFaults result (F.failures files.old) (F.failures files.new) }

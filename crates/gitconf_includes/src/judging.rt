@@ -1,7 +1,7 @@
 //! Whether a section's paths are followed.
 ghost use Rattle.std.specs.Option.{option_copied, option_map, unwrap_or};
-ghost use Rattle.std.specs.Prelude.{◌≡◌, IfErr, IfOk};
-ghost use Rattle.gitconf_includes.specs.Conditions.{holds, IsOfCondition, Says};
+ghost use Rattle.std.specs.Prelude.{◌≡◌, IfOk};
+ghost use Rattle.gitconf_includes.specs.Conditions.{holds, Says};
 ghost use Rattle.gitconf_includes.specs.Rules.{rules_of, rules_of_includes};
 ghost use Rattle.gitconf_state.specs.Including.{whole};
 ghost use Rattle.gitconf_includes.specs.Inclusion.{has_url, is_followed};
@@ -44,10 +44,9 @@ fn holds<S: ConfigFile>(
     from: &Metadata,
     condition: &[u8],
 ) -> Result<bool, Error>
-    ensures says { Says (λ holds. holds) result (holds (rules_of_includes options.now) from.now
+    ensures { Says (λ holds. holds) result (holds (rules_of_includes options.now) from.now
         (has_url (unwrap_or (option_map (λ s. whole (S.done s) (S.rest s)) (option_copied parent.entry))
         (whole (S.done file.now) (S.rest file.now)))) condition.now) }
-    ensures cause { IfErr result (IsOfCondition options.now.conditional.git_dir) }
 {
     match judge(alloc, options, from, condition)? {
         Judged::Holds(holds) => Ok(holds),
@@ -67,10 +66,9 @@ pub(crate) fn is_followed<S: ConfigFile>(
     file: &S,
     directive: &Directive,
 ) -> Result<bool, Error>
-    ensures says { Says (λ follows. follows) result (is_followed (rules_of options.now) directive.now.meta.value
+    ensures { Says (λ follows. follows) result (is_followed (rules_of options.now) directive.now.meta.value
         (unwrap_or (option_map (λ s. whole (S.done s) (S.rest s)) (option_copied parent.entry)) (whole (S.done file.now) (S.rest file.now)))
         (condition_of directive.now)) }
-    ensures cause { IfErr result (IsOfCondition options.now.includes.conditional.git_dir) }
 {
     match &directive.condition {
         None => Ok(true),

@@ -3,7 +3,9 @@ ghost use Rattle.std.specs.Prelude.{◌≡◌, ◌≢◌, ◌⊎◌, ℕ, suc, t
 ghost use Rattle.gitconf_sources.specs.Metadata.{Meta};
 ghost use Rattle.gitconf_sources.specs.Reports.{FileReport};
 ghost use Rattle.gitconf_includes.specs.declared.includes.Error.{Error};
-ghost use Rattle.gitconf_includes.specs.Errors.{includes_number};
+ghost use Rattle.gitconf_includes.specs.Errors.{includes_number, says};
+ghost use Rattle.gitconf_includes.specs.Said.{known, OutOfMemory};
+ghost use Rattle.gitconf_read.specs.ParseError.{Refusal};
 ghost use Rattle.gitconf_includes.specs.Rules.{Rules};
 ghost use Rattle.gitconf_state.specs.Clean.{IsClean};
 ghost use Rattle.gitconf_state.specs.State.{document_of, AreNumbered, HasItems, IsState, State};
@@ -56,9 +58,9 @@ pub fn expansions_stay_clean()
 /// meant: it may be refused.
 pub fn nothing_is_included()
     ensures expanded { (left : ℕ) (asks : Asks) (parent : Option State) (old : State) (r : Reached) → IncludesNothing old
-        → Expands (suc left) asks parent old r → (r ≡ On old) ⊎ (r ≡ Ended 27 old) }
+        → Expands (suc left) asks parent old r → (r ≡ On old) ⊎ (r ≡ Ended OutOfMemory old) }
     ensures resolved { (asks : Asks) (old new : State) (result : Result Unit Error) → IncludesNothing old
-        → Resolves includes_number asks old result new → IsAsItWas result old new }
+        → Resolves says asks old result new → IsAsItWas result old new }
 {}
 
 /// A lossy expansion gives what one gives that keeps everything, if neither is refused: for files that say the same, and so for one file.
@@ -74,17 +76,17 @@ pub fn lossy_expansions_say_the_same()
 {}
 
 /// If the host says what is at each path, an expansion has one outcome, apart from running out of memory, and so has a call: two that are
-/// made on one file leave the same file, or are refused with one number and leave files that differ only in their buffers. A text has one
+/// made on one file leave the same file, or are refused for one cause, which says the same of the same file, and leave the same. A text has one
 /// load.
 pub fn expansions_have_one_outcome()
     ensures expanded { (asks : Asks) (files : List ℕ → FileReport) (left : ℕ) (parent : Option State) (old : State) (r s : Reached)
         → asks.table ≡ Some files → IsAnswered r → IsAnswered s
         → Expands left asks parent old r → Expands left asks parent old s → r ≡ s }
     ensures resolved { (asks : Asks) (files : List ℕ → FileReport) (old new left : State) (one other : Result Unit Error) → asks.table ≡ Some files
-        → IfErr one (λ e. includes_number e ≢ 27) → IfErr other (λ e. includes_number e ≢ 27)
-        → Resolves includes_number asks old one new → Resolves includes_number asks old other left → EndAlike one other new left }
-    ensures loaded { (lossy : Bool) (text : List ℕ) (place : Meta) (one other : Result State ℕ) → IfErr one (λ n. n ≢ 27) → IfErr other (λ n. n ≢ 27)
-        → IsLoadOf lossy text place one → IsLoadOf lossy text place other → one ≡ other }
+        → IfErr one (λ e. says e ≢ OutOfMemory) → IfErr other (λ e. says e ≢ OutOfMemory)
+        → Resolves says asks old one new → Resolves says asks old other left → EndAlike one other new left }
+    ensures loaded { (lossy : Bool) (text : List ℕ) (place : Meta) (one other : Result State Refusal) → IfErr one (λ e. e.number ≢ 27)
+        → IfErr other (λ e. e.number ≢ 27) → IsLoadOf known lossy text place one → IsLoadOf known lossy text place other → one ≡ other }
 {}
 
 /// If the host says what is at each path, an expansion for which memory runs out leaves a beginning of what it leaves otherwise: whatever the
@@ -93,8 +95,8 @@ pub fn expansions_have_one_outcome()
 pub fn want_of_memory_leaves_a_beginning()
     ensures expanded { (asks : Asks) (files : List ℕ → FileReport) (left : ℕ) (parent : Option State) (old end : State) (r : Reached)
         → asks.table ≡ Some files → AreNumbered old.next old.sections → IsAnswered r
-        → Expands left asks parent old (Ended 27 end) → Expands left asks parent old r → IsKept end (file_of r) }
+        → Expands left asks parent old (Ended OutOfMemory end) → Expands left asks parent old r → IsKept end (file_of r) }
     ensures resolved { (asks : Asks) (files : List ℕ → FileReport) (old end new : State) (one other : Result Unit Error) → asks.table ≡ Some files
-        → AreNumbered old.next old.sections → IsErrAnd one (λ e. includes_number e ≡ 27) → IfErr other (λ e. includes_number e ≢ 27)
-        → Resolves includes_number asks old one end → Resolves includes_number asks old other new → IsKept end new }
+        → AreNumbered old.next old.sections → IsErrAnd one (λ e. includes_number e ≡ 27) → IfErr other (λ e. says e ≢ OutOfMemory)
+        → Resolves says asks old one end → Resolves says asks old other new → IsKept end new }
 {}

@@ -1,5 +1,5 @@
 //! Which file a path of an including section names.
-ghost use Rattle.std.specs.Prelude.{◌≡◌, true, IfErr, IfOk, string_bytes};
+ghost use Rattle.std.specs.Prelude.{◌≡◌, IfOk, string_bytes};
 ghost use Rattle.bstr.specs.Owned.{bstring_bytes};
 ghost use Rattle.gitconf_values.specs.Paths.{begins_slash as starts_slash};
 ghost use Rattle.gitconf_includes.specs.Paths as spec;
@@ -32,8 +32,7 @@ pub fn copied(alloc: Global, path: &str) -> Result<String, NoMemory>
 ///
 /// E12 if the options ask for it, E13, E14, E27.
 pub(crate) fn replaced(options: &Options<'_>, path: BString) -> Result<Option<String>, Error>
-    ensures value { Names result (spec.replaced (rules_of_includes options.now) (bstring_bytes path)) }
-    ensures cause { IfErr result (λ e. spec.is_of_path e ≡ true) }
+    ensures { Names result (spec.replaced (rules_of_includes options.now) (bstring_bytes path)) }
 {
     match Path::from(path).interpolate(options.interpolate) {
         Ok(text) => Ok(Some(text)),
@@ -58,8 +57,7 @@ pub(crate) fn folder<'a>(
     options: &Options<'_>,
     from: &'a Metadata,
 ) -> Result<Option<&'a str>, Error>
-    ensures value { IsFolder result (spec.folder (rules_of_includes options.now) from.now) }
-    ensures cause { IfErr result (λ e. spec.is_of_path e ≡ true) }
+    ensures { IsFolder result (spec.folder (rules_of_includes options.now) from.now) }
 {
     match &from.path {
         Some(path) => match parent(path.as_str()) {
@@ -93,8 +91,7 @@ fn placed(
     from: &Metadata,
     text: String,
 ) -> Result<Option<String>, Error>
-    ensures value { Names result (spec.placed (rules_of_includes options.now) from.now (string_bytes text)) }
-    ensures cause { IfErr result (λ e. spec.is_of_path e ≡ true) }
+    ensures { Names result (spec.placed (rules_of_includes options.now) from.now (string_bytes text)) }
 {
     if begins_slash(text.as_bytes()) {
         return Ok(Some(text));
@@ -121,8 +118,7 @@ pub fn file_named(
     from: &Metadata,
     path: BString,
 ) -> Result<Option<String>, Error>
-    ensures value { Names result (spec.file_named (rules_of_includes options.now) from.now (bstring_bytes path)) }
-    ensures cause { IfErr result (λ e. spec.is_of_path e ≡ true) }
+    ensures { Names result (spec.file_named (rules_of_includes options.now) from.now (bstring_bytes path)) }
 {
     match replaced(options, path)? {
         Some(text) => placed(alloc, options, from, text),

@@ -27,6 +27,8 @@ use Rattle.gitconf_loaders.specs.Headed.{AreHeadedAt, IsHeadedAt, IsHeadedText}
 use Rattle.gitconf_loaders.specs.Resolving.{IsMadeOf}
 use Rattle.gitconf_loaders.specs.Globals.{empty_file, home_rules, IsGlobal}
 use Rattle.gitconf_loaders.specs.Paths.{AreFilesLoaded, has_room_behind, IsAppendedTo, IsFileLoaded, IsLoadedFrom, IsLoadOfPaths, IsMetaLoaded, IsTextTaken, Joins, once, taken}
+use Rattle.gitconf_loaders.specs.Refused.{NoRoom, OutOfMemory, Refused, Unmade, Unreadable}
+use Rattle.gitconf_loaders.proofs.Around.{around_made}
 
 -- a full load
 full_clean : (text : List ℕ) (meta : Meta) (state : State) → IsLoaded false text meta state → IsClean state
@@ -84,22 +86,22 @@ module _ (files : List ℕ → FileReport) (asks : Asks) (tells : asks.table ≡
       texts path text parts (sym (subst (λ (t : Option (List ℕ → FileReport)). May t (λ (files : List ℕ → FileReport). ◌≡◌ {A = Result (List ℕ) FileFault} (Ok text) (read_of (files path)))) tells
       (subst (λ r. May asks.table (λ (files : List ℕ → FileReport). ◌≡◌ {A = Result (List ℕ) FileFault} (Ok r) (read_of (files path)))) (sym (text_is is)) told))) of_text
     where
-      text_in : Result (Option (List ℕ)) ℕ → List ℕ
+      text_in : Result (Option (List ℕ)) Refused → List ℕ
       text_in (Ok (Some t)) = t
       text_in r = []
 
-      text_is : ◌≡◌ {A = Result (Option (List ℕ)) ℕ} (Ok (Some text)) (Ok (Some read)) → text ≡ read
+      text_is : ◌≡◌ {A = Result (Option (List ℕ)) Refused} (Ok (Some text)) (Ok (Some read)) → text ≡ read
       text_is e = ap text_in e
   text_headed must_exist ignores path text (Err fault, told, is) parts of_text = go fault.stage refl
     where
-      of_open : (b : Bool) → ◌≡◌ {A = Result (Option (List ℕ)) ℕ} (Ok (Some text)) (if b then Ok None else Err 21) → ⊥
+      of_open : (b : Bool) → ◌≡◌ {A = Result (Option (List ℕ)) Refused} (Ok (Some text)) (if b then Ok None else Err (Unreadable path fault)) → ⊥
       of_open true e = absurd (cc)
       of_open false e = absurd (cc)
 
-      of_read : (b : Bool) → ◌≡◌ {A = Result (Option (List ℕ)) ℕ} (Ok (Some text)) (if b then Ok (Some []) else Err 21) → text ≡ []
+      of_read : (b : Bool) → ◌≡◌ {A = Result (Option (List ℕ)) Refused} (Ok (Some text)) (if b then Ok (Some []) else Err (Unreadable path fault)) → text ≡ []
       of_read true e = ap text_in e
         where
-          text_in : Result (Option (List ℕ)) ℕ → List ℕ
+          text_in : Result (Option (List ℕ)) Refused → List ℕ
           text_in (Ok (Some t)) = t
           text_in r = []
       of_read false e = absurd (cc)
@@ -107,7 +109,7 @@ module _ (files : List ℕ → FileReport) (asks : Asks) (tells : asks.table ≡
       go : (stage : Stage) → fault.stage ≡ stage → (gathered parts).front ≡ []
       go Open at = absurd (of_open _ (rw at at is))
       go Read at = empty_headed parts (subst (λ t. IsText t parts) (of_read ignores (rw at at is)) of_text)
-      go Memory at = let e : ◌≡◌ {A = Result (Option (List ℕ)) ℕ} (Ok (Some text)) (Err 27) = rw at at is in absurd (cc)
+      go Memory at = let e : ◌≡◌ {A = Result (Option (List ℕ)) Refused} (Ok (Some text)) (Err OutOfMemory) = rw at at is in absurd (cc)
 
   -- and so of all metadata
   pub texts_headed : (must_exist ignores : Bool) (metas : List Meta) → AllByRecursion (IsHeadedAt must_exist ignores asks) metas
@@ -116,43 +118,43 @@ module _ (files : List ℕ → FileReport) (asks : Asks) (tells : asks.table ≡
 
 module _ (asks : Asks) where
   -- what is made of a text
-  pub made : {E : Type 0} (number : E → ℕ) (text : List ℕ) (meta : Meta) (file : State) → IsHeadedText asks meta text → IsMadeOf number asks text meta (Ok file) → IsHeaded file
-  made number text meta file none (Ok state, load, (On done, expands, is)) =
+  pub made : {E : Type 0} (tells : E → Refused) (text : List ℕ) (meta : Meta) (file : State) → IsHeadedText asks meta text → IsMadeOf tells asks text meta (Ok file) → IsHeaded file
+  made tells text meta file none (Ok state, load, (On done, expands, is)) =
       let heads = none state load in
       subst IsHeaded (sym is) (headed_stays asks.rules.max_depth asks None state (On done) heads.1 (headed asks.rules.lossy text meta state heads.0 load) expands)
-  made number text meta file none (Ok state, load, (Ended n end, expands, is)) = absurd is
-  made number text meta file none (Err n, load, is) = absurd is
+  made tells text meta file none (Ok state, load, (Ended n end, expands, is)) = absurd is
+  made tells text meta file none (Err n, load, is) = absurd is
 
   -- all of it
-  pub made_whole : {E : Type 0} (number : E → ℕ) (text : List ℕ) (meta : Meta) (file : State) → asks.rules.lossy ≡ false
-      → ((state : State) → IsLoaded false text meta state → IncludesHeaded asks.rules.max_depth asks state) → IsMadeOf number asks text meta (Ok file) → IsClean file
-  made_whole number text meta file whole included (Ok state, load, (On done, expands, is)) =
+  pub made_whole : {E : Type 0} (tells : E → Refused) (text : List ℕ) (meta : Meta) (file : State) → asks.rules.lossy ≡ false
+      → ((state : State) → IsLoaded false text meta state → IncludesHeaded asks.rules.max_depth asks state) → IsMadeOf tells asks text meta (Ok file) → IsClean file
+  made_whole tells text meta file whole included (Ok state, load, (On done, expands, is)) =
       let full = subst (λ lossy. IsLoaded lossy text meta state) whole load in
       subst IsClean (sym is) (clean_stays asks.rules.max_depth asks None state (On done) (included state full) (full_clean text meta state full) expands)
-  made_whole number text meta file whole included (Ok state, load, (Ended n end, expands, is)) = absurd is
-  made_whole number text meta file whole included (Err n, load, is) = absurd is
+  made_whole tells text meta file whole included (Ok state, load, (Ended n end, expands, is)) = absurd is
+  made_whole tells text meta file whole included (Err n, load, is) = absurd is
 
   -- what is, if anything does
   abbrev pub StandHeaded : Option State → Type 0
   StandHeaded None = Unit {0}
   StandHeaded (Some file) = IsHeaded file
 
-  joins : (target : Option State) (file : State) (now : Option State) → StandHeaded target → IsHeaded file → Joins target file (Ok now) → StandHeaded now
-  joins None file now stands is joined = subst StandHeaded (sym (some joined)) is
+  joins : (path : List ℕ) (target : Option State) (file : State) (now : Option State) → StandHeaded target → IsHeaded file → Joins path target file (Ok now) → StandHeaded now
+  joins path None file now stands is joined = subst StandHeaded (sym (some joined)) is
     where
-      some_in : Result (Option State) ℕ → Option State
+      some_in : Result (Option State) Refused → Option State
       some_in (Ok s) = s
       some_in (Err n) = None
 
-      some : ◌≡◌ {A = Result (Option State) ℕ} (Ok now) (Ok (Some file)) → now ≡ Some file
+      some : ◌≡◌ {A = Result (Option State) Refused} (Ok now) (Ok (Some file)) → now ≡ Some file
       some e = ap some_in e
-  joins (Some target) file now stands is joined = go (has_room_behind target file) joined
+  joins path (Some target) file now stands is joined = go (has_room_behind target file) joined
     where
-      some_in : Result (Option State) ℕ → Option State
+      some_in : Result (Option State) Refused → Option State
       some_in (Ok s) = s
       some_in (Err n) = None
 
-      go : (room : Bool) → elim room as (λ _. Type 0) [ true ↦ (s : State) × IsAppendedTo target file s × (◌≡◌ {A = Result (Option State) ℕ} (Ok now) (Ok (Some s))) | false ↦ ◌≡◌ {A = Result (Option State) ℕ} (Ok now) (Err 3) ]
+      go : (room : Bool) → elim room as (λ _. Type 0) [ true ↦ (s : State) × IsAppendedTo target file s × (◌≡◌ {A = Result (Option State) Refused} (Ok now) (Ok (Some s))) | false ↦ ◌≡◌ {A = Result (Option State) Refused} (Ok now) (Err (Unmade path (NoRoom 3))) ]
           → StandHeaded now
       go true (s, behind, e) = subst StandHeaded (sym (ap some_in e)) (behind_headed target file s stands is behind)
       go false e = absurd (cc)
@@ -160,11 +162,11 @@ module _ (asks : Asks) where
   one : (must_exist ignores : Bool) (meta : Meta) (target now : Option State) → IsHeadedAt must_exist ignores asks meta → StandHeaded target → IsMetaLoaded must_exist ignores asks meta target (Ok now) → StandHeaded now
   one must_exist ignores meta target now heads stands is = go meta.path refl is
     where
-      some_in : Result (Option State) ℕ → Option State
+      some_in : Result (Option State) Refused → Option State
       some_in (Ok s) = s
       some_in (Err n) = None
 
-      same : ◌≡◌ {A = Result (Option State) ℕ} (Ok now) (Ok target) → StandHeaded now
+      same : ◌≡◌ {A = Result (Option State) Refused} (Ok now) (Ok target) → StandHeaded now
       same e = subst StandHeaded (sym (ap some_in e)) stands
 
       of_file : (path : List ℕ) → meta.path ≡ Some path → IsFileLoaded must_exist ignores asks meta path target (Ok now) → StandHeaded now
@@ -173,17 +175,17 @@ module _ (asks : Asks) where
       of_file path at (inr (Ok None, taken, e)) = same e
       of_file path at (inr (Ok (Some text), taken, (Err n, is_made, e))) = absurd (cc)
       of_file path at (inr (Ok (Some text), taken, (Ok file, is_made, joined))) =
-          joins target file now stands (made (λ (n : ℕ). n) text meta file (heads path text at taken) is_made) joined
+          joins path target file now stands (made (λ (why : Refused). why) text meta file (heads path text at taken) (around_made (Unmade path) (IsMadeOf (λ why. why) asks text meta) file is_made)) joined
 
       go : (path : Option (List ℕ)) → meta.path ≡ path
-          → elim path as (λ _. Type 0) [ None ↦ ◌≡◌ {A = Result (Option State) ℕ} (Ok now) (Ok target) | Some at ↦ IsFileLoaded must_exist ignores asks meta at target (Ok now) ] → StandHeaded now
+          → elim path as (λ _. Type 0) [ None ↦ ◌≡◌ {A = Result (Option State) Refused} (Ok now) (Ok target) | Some at ↦ IsFileLoaded must_exist ignores asks meta at target (Ok now) ] → StandHeaded now
       go None at e = same e
       go (Some path) at loaded = of_file path at loaded
 
   pub all : (must_exist ignores : Bool) (metas : List Meta) (target now : Option State) → AllByRecursion (IsHeadedAt must_exist ignores asks) metas → StandHeaded target → AreFilesLoaded must_exist ignores asks metas target (Ok now) → StandHeaded now
   all must_exist ignores [] target now heads stands is = subst StandHeaded (sym (ap some_in is)) stands
     where
-      some_in : Result (Option State) ℕ → Option State
+      some_in : Result (Option State) Refused → Option State
       some_in (Ok s) = s
       some_in (Err n) = None
   all must_exist ignores (meta ∷ metas) target now heads stands (Err n, first, is) = absurd (cc)
@@ -212,13 +214,13 @@ module _ (variables : Option (List ℕ → VariableReport)) (places : Places) (t
   global_clean file heads (inr (found, are_found, (Err n, loaded, is))) = absurd (cc)
   global_clean file heads (inr (found, are_found, (Ok None, loaded, is))) = subst (λ s. IsClean s × (entries_of s.front ≡ [])) (sym (ap file_in is)) (empty_clean api_meta, refl)
     where
-      file_in : Result State ℕ → State
+      file_in : Result State Refused → State
       file_in (Ok s) = s
       file_in (Err n) = empty_file api_meta
   global_clean file heads (inr (found, are_found, (Ok (Some state), loaded, is))) =
       subst (λ s. IsClean s × (entries_of s.front ≡ [])) (sym (ap file_in is)) (paths_clean true false (record { rules = home_rules places; table = table }) found state (heads found are_found) loaded)
     where
-      file_in : Result State ℕ → State
+      file_in : Result State Refused → State
       file_in (Ok s) = s
       file_in (Err n) = state
 

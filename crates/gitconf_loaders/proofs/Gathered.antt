@@ -8,8 +8,8 @@ use Rattle.gitconf_text.specs.LineEnds.{bytes_of_line_end}
 use Rattle.gitconf_text.specs.Part.{Item}
 use Rattle.gitconf_text.specs.declared.line_end.LineEnd.{LineEnd}
 use Rattle.gitconf_items.specs.Items.{tokens_in}
-use Rattle.gitconf_table.specs.declared.runs.Run.{Run}
-use Rattle.gitconf_table.specs.Runs.{AreRuns}
+use Rattle.gitconf_sections.specs.declared.runs.Run.{Run}
+use Rattle.gitconf_sections.specs.Runs.{AreRuns}
 use Rattle.gitconf_text.specs.Sections.{no_number}
 use Rattle.gitconf_state.specs.Appending.{held_or, items_before, line_bytes}
 use Rattle.gitconf_state.specs.Edits.{between, held_behind_last, numbered_from}

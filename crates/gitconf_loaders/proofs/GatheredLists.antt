@@ -4,8 +4,8 @@ use Rattle.std.specs.Prelude.{◌&&◌, ◌||◌, filter, slice_get}
 use Rattle.std.specs.List.{last_or, list_any}
 use Rattle.std.proofs.lemmas.List.{drop-append-le, take-append-le, length-drop, length-take-le, drop_all, take_all, take-append-drop, take-take}
 use Rattle.std.proofs.lemmas.List.Folds.{list_any-append}
-use Rattle.gitconf_table.specs.declared.runs.Run.{Run}
-use Rattle.gitconf_table.specs.Runs.{total, weave, woven, AreRuns}
+use Rattle.gitconf_sections.specs.declared.runs.Run.{Run}
+use Rattle.gitconf_sections.specs.Runs.{total, weave, woven, AreRuns}
 use Rattle.gitconf_state.specs.State.{SectionState}
 use Rattle.gitconf_lookups.proofs.ValuePlaces.{none_long}
 use Rattle.gitconf_store.specs.Edits.{update_at}

@@ -1,3 +1,4 @@
+pub mod Around
 pub mod Counts
 pub mod OneFile
 pub mod Several

@@ -16,6 +16,8 @@ use Rattle.gitconf_includes.specs.Laws.{asks_with, SayTheSame}
 use Rattle.gitconf_includes.specs.Rules.{Rules}
 use Rattle.gitconf_includes.proofs.Lossy.{listed_held, loaded_alike, same_length, same_numbered, say_the_same}
 use Rattle.gitconf_loaders.specs.Paths.{AreFilesLoaded, has_room_behind, IsAppendedTo, IsFileLoaded, IsLoadOfPaths, IsMadeBehind, IsMetaLoaded, IsTextTaken, Joins, once, taken}
+use Rattle.gitconf_loaders.specs.Refused.{NoRoom, Refused, Unmade}
+use Rattle.gitconf_loaders.proofs.Around.{around_made}
 use Rattle.gitconf_loaders.specs.Resolving.{IsMadeOf}
 use Rattle.gitconf_store.specs.Appends.{appended_bytes}
 
@@ -73,28 +75,28 @@ SameOrNone (Some one) None = ⊥
 SameOrNone (Some one) (Some other) = SayTheSame one other
 
 module _ (rules : Rules) (files : List ℕ → FileReport) where
-  pub made_alike : {E : Type 0} (number : E → ℕ) (text : List ℕ) (place : Meta) (full lossy : State) → IsMadeOf number (asks_with false rules files) text place (Ok full)
-      → IsMadeOf number (asks_with true rules files) text place (Ok lossy) → SayTheSame full lossy
-  made_alike number text place full lossy (Err n, load, makes) too = absurd makes
-  made_alike number text place full lossy (Ok one, load, makes) (Err n, load_too, makes_too) = absurd makes_too
-  made_alike number text place full lossy (Ok one, load, (Ended n file, expands, makes)) too = absurd makes
-  made_alike number text place full lossy (Ok one, load, (On done, expands, makes)) (Ok other, load_too, (Ended n file, expands_too, makes_too)) = absurd makes_too
-  made_alike number text place full lossy (Ok one, load, (On done, expands, makes)) (Ok other, load_too, (On now, expands_too, makes_too)) =
+  pub made_alike : {E : Type 0} (tells : E → Refused) (text : List ℕ) (place : Meta) (full lossy : State) → IsMadeOf tells (asks_with false rules files) text place (Ok full)
+      → IsMadeOf tells (asks_with true rules files) text place (Ok lossy) → SayTheSame full lossy
+  made_alike tells text place full lossy (Err n, load, makes) too = absurd makes
+  made_alike tells text place full lossy (Ok one, load, makes) (Err n, load_too, makes_too) = absurd makes_too
+  made_alike tells text place full lossy (Ok one, load, (Ended n file, expands, makes)) too = absurd makes
+  made_alike tells text place full lossy (Ok one, load, (On done, expands, makes)) (Ok other, load_too, (Ended n file, expands_too, makes_too)) = absurd makes_too
+  made_alike tells text place full lossy (Ok one, load, (On done, expands, makes)) (Ok other, load_too, (On now, expands_too, makes_too)) =
       subst (λ s. SayTheSame s lossy) (sym makes) (subst (SayTheSame done) (sym makes_too)
       (say_the_same rules files rules.max_depth None None one other done now tt (loaded_alike text place one other load load_too) expands expands_too))
 
-  joins_alike : (target other : Option State) (made made_too : State) (now then_now : Option State) → SameOrNone target other → SayTheSame made made_too → Joins target made (Ok now) → Joins other made_too (Ok then_now)
+  joins_alike : (path : List ℕ) (target other : Option State) (made made_too : State) (now then_now : Option State) → SameOrNone target other → SayTheSame made made_too → Joins path target made (Ok now) → Joins path other made_too (Ok then_now)
       → SameOrNone now then_now
-  joins_alike None None made made_too now then_now same files_same is too = subst (λ s. SameOrNone s then_now) (sym (some_of is)) (subst (SameOrNone (Some made)) (sym (some_of too)) files_same)
+  joins_alike path None None made made_too now then_now same files_same is too = subst (λ s. SameOrNone s then_now) (sym (some_of is)) (subst (SameOrNone (Some made)) (sym (some_of too)) files_same)
     where
-      some_of : {one other : Option State} → ◌≡◌ {A = Result (Option State) ℕ} (Ok one) (Ok other) → one ≡ other
+      some_of : {one other : Option State} → ◌≡◌ {A = Result (Option State) Refused} (Ok one) (Ok other) → one ≡ other
       some_of is = cc
-  joins_alike None (Some other) made made_too now then_now same files_same is too = absurd same
-  joins_alike (Some target) None made made_too now then_now same files_same is too = absurd same
-  joins_alike (Some target) (Some other) made made_too now then_now same files_same is too = go (has_room_behind target made) (has_room_behind other made_too) is too
+  joins_alike path None (Some other) made made_too now then_now same files_same is too = absurd same
+  joins_alike path (Some target) None made made_too now then_now same files_same is too = absurd same
+  joins_alike path (Some target) (Some other) made made_too now then_now same files_same is too = go (has_room_behind target made) (has_room_behind other made_too) is too
     where
-      go : (room room_too : Bool) → elim room as (λ _. Type 0) [ true ↦ (s : State) × IsAppendedTo target made s × (◌≡◌ {A = Result (Option State) ℕ} (Ok now) (Ok (Some s))) | false ↦ ◌≡◌ {A = Result (Option State) ℕ} (Ok now) (Err 3) ]
-          → elim room_too as (λ _. Type 0) [ true ↦ (s : State) × IsAppendedTo other made_too s × (◌≡◌ {A = Result (Option State) ℕ} (Ok then_now) (Ok (Some s))) | false ↦ ◌≡◌ {A = Result (Option State) ℕ} (Ok then_now) (Err 3) ]
+      go : (room room_too : Bool) → elim room as (λ _. Type 0) [ true ↦ (s : State) × IsAppendedTo target made s × (◌≡◌ {A = Result (Option State) Refused} (Ok now) (Ok (Some s))) | false ↦ ◌≡◌ {A = Result (Option State) Refused} (Ok now) (Err (Unmade path (NoRoom 3))) ]
+          → elim room_too as (λ _. Type 0) [ true ↦ (s : State) × IsAppendedTo other made_too s × (◌≡◌ {A = Result (Option State) Refused} (Ok then_now) (Ok (Some s))) | false ↦ ◌≡◌ {A = Result (Option State) Refused} (Ok then_now) (Err (Unmade path (NoRoom 3))) ]
           → SameOrNone now then_now
       go false room_too is too = absurd (cc)
       go true false is too = absurd (cc)
@@ -109,30 +111,32 @@ module _ (rules : Rules) (files : List ℕ → FileReport) where
   file_alike must_exist ignores meta path target other now then_now same (inl wanting) too = absurd (cc)
   file_alike must_exist ignores meta path target other now then_now same (inr is) (inl wanting) = absurd (cc)
   file_alike must_exist ignores meta path target other now then_now same (inr (text, (answer, told, is), made)) (inr (text_too, (answer_too, told_too, is_too), made_too)) =
-      let texts : text_too ≡ text = is_too ∙ ap (taken must_exist ignores) (told_too ∙ sym told) ∙ sym is in
-      go text made (subst (λ t. IsMadeBehind (asks_with true rules files) meta other t (Ok then_now)) texts made_too)
+      let texts : text_too ≡ text = is_too ∙ ap (taken must_exist ignores path) (told_too ∙ sym told) ∙ sym is in
+      go text made (subst (λ t. IsMadeBehind (asks_with true rules files) meta path other t (Ok then_now)) texts made_too)
     where
-      as_before : ◌≡◌ {A = Result (Option State) ℕ} (Ok now) (Ok target) → ◌≡◌ {A = Result (Option State) ℕ} (Ok then_now) (Ok other) → SameOrNone now then_now
+      as_before : ◌≡◌ {A = Result (Option State) Refused} (Ok now) (Ok target) → ◌≡◌ {A = Result (Option State) Refused} (Ok then_now) (Ok other) → SameOrNone now then_now
       as_before is too =
           let one : now ≡ target = cc in
           let other_one : then_now ≡ other = cc in
           subst (λ x. SameOrNone x then_now) (sym one) (subst (SameOrNone target) (sym other_one) same)
 
-      go : (text : Result (Option (List ℕ)) ℕ) → IsMadeBehind (asks_with false rules files) meta target text (Ok now) → IsMadeBehind (asks_with true rules files) meta other text (Ok then_now) → SameOrNone now then_now
+      go : (text : Result (Option (List ℕ)) Refused) → IsMadeBehind (asks_with false rules files) meta path target text (Ok now) → IsMadeBehind (asks_with true rules files) meta path other text (Ok then_now) → SameOrNone now then_now
       go (Err n) is too = absurd (cc)
       go (Ok None) is too = as_before is too
       go (Ok (Some text)) (Err n, is_made, e) too = absurd (cc)
       go (Ok (Some text)) (Ok file, is_made, joins) (Err n, is_made_too, e) = absurd (cc)
       go (Ok (Some text)) (Ok file, is_made, joins) (Ok file_too, is_made_too, joins_too) =
-          joins_alike target other file file_too now then_now same (made_alike (λ (n : ℕ). n) text meta file file_too is_made is_made_too) joins joins_too
+          joins_alike path target other file file_too now then_now same
+          (made_alike (λ (why : Refused). why) text meta file file_too (around_made (Unmade path) (IsMadeOf (λ why. why) (asks_with false rules files) text meta) file is_made)
+          (around_made (Unmade path) (IsMadeOf (λ why. why) (asks_with true rules files) text meta) file_too is_made_too)) joins joins_too
 
   meta_alike : (must_exist ignores : Bool) (meta : Meta) (target other now then_now : Option State) → SameOrNone target other
       → IsMetaLoaded must_exist ignores (asks_with false rules files) meta target (Ok now) → IsMetaLoaded must_exist ignores (asks_with true rules files) meta other (Ok then_now) → SameOrNone now then_now
   meta_alike must_exist ignores meta target other now then_now same is too = go meta.path is too
     where
       go : (path : Option (List ℕ))
-          → elim path as (λ _. Type 0) [ None ↦ ◌≡◌ {A = Result (Option State) ℕ} (Ok now) (Ok target) | Some p ↦ IsFileLoaded must_exist ignores (asks_with false rules files) meta p target (Ok now) ]
-          → elim path as (λ _. Type 0) [ None ↦ ◌≡◌ {A = Result (Option State) ℕ} (Ok then_now) (Ok other) | Some p ↦ IsFileLoaded must_exist ignores (asks_with true rules files) meta p other (Ok then_now) ] → SameOrNone now then_now
+          → elim path as (λ _. Type 0) [ None ↦ ◌≡◌ {A = Result (Option State) Refused} (Ok now) (Ok target) | Some p ↦ IsFileLoaded must_exist ignores (asks_with false rules files) meta p target (Ok now) ]
+          → elim path as (λ _. Type 0) [ None ↦ ◌≡◌ {A = Result (Option State) Refused} (Ok then_now) (Ok other) | Some p ↦ IsFileLoaded must_exist ignores (asks_with true rules files) meta p other (Ok then_now) ] → SameOrNone now then_now
       go None is too =
           let one : now ≡ target = cc in
           let other_one : then_now ≡ other = cc in

@@ -17,11 +17,11 @@ use Rattle.gitconf_read.specs.ParseError.{Refusal}
 use Rattle.gitconf_state.specs.State.{State}
 use Rattle.gitconf_includes.specs.Expansion.{IsLoadOf}
 use Rattle.gitconf_loaders.specs.declared.from_paths.Error.{Error}
-use Rattle.gitconf_loaders.specs.declared.from_paths.Error.TheVariants as paths
-use Rattle.gitconf_loaders.specs.Causes.{IsLoadFault, IsFileCause, load_refusal}
 use Rattle.gitconf_includes.specs.Errors.{init_of_parse}
-use Rattle.gitconf_loaders.specs.Errors.{paths_number, paths_of_init}
-use Rattle.gitconf_loaders.specs.Paths.{IsLoadedFrom, IsFileRead, load_fault, numbered}
+use Rattle.gitconf_loaders.specs.Errors.{paths_of_init, paths_says}
+use Rattle.gitconf_loaders.specs.Paths.{IsLoadedFrom, IsFileRead, telling}
+use Rattle.gitconf_loaders.specs.Refused.{fault_refused, parse_refused, within, Refused, Unmade, Unparsed}
+use Rattle.gitconf_includes.specs.Said.{known}
 
 -- a text that is read is returned by the table
 pub answered : {Z : Type 0} (table : Option (List ℕ → FileReport)) (path : List ℕ) (text : Vec ℕ Z)
@@ -37,75 +37,46 @@ trusted (Some files) path trust told = sym told
 
 module _ (table : Option (List ℕ → FileReport)) (path : List ℕ) (source : Source) where
   -- the trust can't be told
-  pub not_trusted : (fault : FileFault) (number : ℕ) → IfSome table (λ files. IsTrustOf (Err fault) (files path)) → number ≡ load_fault fault.stage → IsLoadedFrom table path source (Err number)
-  not_trusted fault number told is = go table told
+  pub not_trusted : (fault : FileFault) (why : Refused) → IfSome table (λ files. IsTrustOf (Err fault) (files path)) → why ≡ fault_refused path fault → IsLoadedFrom table path source (Err why)
+  not_trusted fault why told is = go table told
     where
-      go : (table : Option (List ℕ → FileReport)) → IfSome table (λ files. IsTrustOf (Err fault) (files path)) → IsLoadedFrom table path source (Err number)
+      go : (table : Option (List ℕ → FileReport)) → IfSome table (λ files. IsTrustOf (Err fault) (files path)) → IsLoadedFrom table path source (Err why)
       go None told = inr (Err fault, tt, ap Err is)
-      go (Some files) (inl wanting) = inl (ap Err (is ∙ ap load_fault wanting))
+      go (Some files) (inl wanting) = inl (ap Err (is ∙ rw wanting refl))
       go (Some files) (inr told) = inr (Err fault, sym told, ap Err is)
 
   -- what is trusted is read
-  pub reads : (trust : Trust) (r : Result State ℕ) → IfSome table (λ files. IsTrustOf (Ok trust) (files path)) → IsFileRead table path source trust r → IsLoadedFrom table path source r
+  pub reads : (trust : Trust) (r : Result State Refused) → IfSome table (λ files. IsTrustOf (Ok trust) (files path)) → IsFileRead table path source trust r → IsLoadedFrom table path source r
   reads trust r told read = inr (Ok trust, trusted table path trust told, read)
 
   -- the file can't be read
-  pub not_read : (Z : Type 0) (trust : Trust) (fault : FileFault) (number : ℕ) → IfSome table (λ files. IsTrustOf (Ok trust) (files path))
-      → IfSome table (λ files. IsReadOf {Z = Z} (Err fault) (files path)) → number ≡ load_fault fault.stage → IsLoadedFrom table path source (Err number)
-  not_read Z trust fault number told read is = go table told read
+  pub not_read : (Z : Type 0) (trust : Trust) (fault : FileFault) (why : Refused) → IfSome table (λ files. IsTrustOf (Ok trust) (files path))
+      → IfSome table (λ files. IsReadOf {Z = Z} (Err fault) (files path)) → why ≡ fault_refused path fault → IsLoadedFrom table path source (Err why)
+  not_read Z trust fault why told read is = go table told read
     where
       go : (table : Option (List ℕ → FileReport)) → IfSome table (λ files. IsTrustOf (Ok trust) (files path)) → IfSome table (λ files. IsReadOf {Z = Z} (Err fault) (files path))
-          → IsLoadedFrom table path source (Err number)
+          → IsLoadedFrom table path source (Err why)
       go None told read = inr (Ok trust, tt, (Err fault, tt, ap Err is))
-      go (Some files) told (inl wanting) = inl (ap Err (is ∙ ap load_fault wanting))
+      go (Some files) told (inl wanting) = inl (ap Err (is ∙ rw wanting refl))
       go (Some files) told (inr read) = inr (Ok trust, sym told, (Err fault, sym read, ap Err is))
 
   -- the outcome of the load is that of the file
-  pub loads : {Z : Type 0} (trust : Trust) (text : Vec ℕ Z) (r : Result State ℕ) → IfSome table (λ files. IsTrustOf (Ok trust) (files path)) → IfSome table (λ files. IsReadOf (Ok text) (files path))
-      → IsLoadOf false text.items (meta_of_file path source trust) r → IsLoadedFrom table path source r
+  pub loads : {Z : Type 0} (trust : Trust) (text : Vec ℕ Z) (r : Result State Refused) → IfSome table (λ files. IsTrustOf (Ok trust) (files path)) → IfSome table (λ files. IsReadOf (Ok text) (files path))
+      → IsLoadOf (λ e. within (Unmade path) (parse_refused e)) false text.items (meta_of_file path source trust) r → IsLoadedFrom table path source r
   loads trust text r told read load = reads trust r told (Ok text.items, answered table path text read, load)
 
--- the parser's refusals keep their numbers
-pub parse_number : (at : String Global) (e : Refusal) → paths_number (paths_of_init at (init_of_parse e)) ≡ e.number
-parse_number at e = go (e.number == 27) refl
+-- what the parser's refusals say
+parse_says : (at : String Global) (path : List ℕ) (e : Refusal) → string_bytes at ≡ path → paths_says (paths_of_init at (init_of_parse e)) ≡ within (Unmade path) (parse_refused e)
+parse_says at path e same = go (e.number == 27) refl
   where
-    go : (b : Bool) → (e.number == 27) ≡ b → paths_number (paths_of_init at (init_of_parse e)) ≡ e.number
-    go true is = rw is (sym (eqb-true e.number 27 is))
-    go false is = rw is refl
+    go : (b : Bool) → (e.number == 27) ≡ b → paths_says (paths_of_init at (init_of_parse e)) ≡ within (Unmade path) (parse_refused e)
+    go true is = rw is refl
+    go false is = rw is (ap (λ (p : List ℕ). Unmade p (Unparsed (known e))) same)
 
 -- the parser refuses
 pub not_parsed : {Z : Type 0} (table : Option (List ℕ → FileReport)) (path : List ℕ) (source : Source) (trust : Trust) (text : Vec ℕ Z) (at : String Global) (e : Refusal) (result : Result State Error)
-    → IfSome table (λ files. IsTrustOf (Ok trust) (files path)) → IfSome table (λ files. IsReadOf (Ok text) (files path)) → IsRefused text.items e
-    → IsErrAnd result (λ r. r ≡ paths_of_init at (init_of_parse e)) → IsLoadedFrom table path source (numbered paths_number result)
-not_parsed table path source trust text at e (Ok made) told read refused err = absurd err
-not_parsed table path source trust text at e (Err r) told read refused err =
-    loads table path source trust text (Err (paths_number r)) told read (e, refused, ap paths_number err ∙ parse_number at e)
-
--- the cause of a fault: where the trust is asked, and where the file is read
-pub trust_fault : (table : Option (List ℕ → FileReport)) (path : String Global) (fault : FileFault) → IfSome table (λ files. IsTrustOf (Err fault) (files (string_bytes path)))
-    → IsFileCause table (string_bytes path) (load_refusal fault path)
-trust_fault table path fault told = go fault.stage refl
-  where
-    fault_told : (t : Option (List ℕ → FileReport)) → IfSome t (λ files. IsTrustOf (Err fault) (files (string_bytes path))) → (fault.stage ≡ Memory → ⊥) → IsLoadFault t (string_bytes path) fault
-    fault_told None is some = tt
-    fault_told (Some files) (inl wanting) some = absurd (some wanting)
-    fault_told (Some files) (inr is) some = inl is
-
-    go : (stage : Stage) → fault.stage ≡ stage → IsFileCause table (string_bytes path) (elim stage as (λ _. Error) [ Open ↦ paths.Io path fault | Read ↦ paths.Io path fault | Memory ↦ paths.Memory ])
-    go Open is = (refl, fault_told table told (λ wanting. let e : Open ≡ Memory = sym is ∙ wanting in absurd (cc)))
-    go Read is = (refl, fault_told table told (λ wanting. let e : Read ≡ Memory = sym is ∙ wanting in absurd (cc)))
-    go Memory is = tt
-
-pub read_fault : (Z : Type 0) (table : Option (List ℕ → FileReport)) (path : String Global) (fault : FileFault) → IfSome table (λ files. IsReadOf {Z = Z} (Err fault) (files (string_bytes path)))
-    → IsFileCause table (string_bytes path) (load_refusal fault path)
-read_fault Z table path fault told = go fault.stage refl
-  where
-    fault_told : (t : Option (List ℕ → FileReport)) → IfSome t (λ files. IsReadOf {Z = Z} (Err fault) (files (string_bytes path))) → (fault.stage ≡ Memory → ⊥) → IsLoadFault t (string_bytes path) fault
-    fault_told None is some = tt
-    fault_told (Some files) (inl wanting) some = absurd (some wanting)
-    fault_told (Some files) (inr is) some = inr is
-
-    go : (stage : Stage) → fault.stage ≡ stage → IsFileCause table (string_bytes path) (elim stage as (λ _. Error) [ Open ↦ paths.Io path fault | Read ↦ paths.Io path fault | Memory ↦ paths.Memory ])
-    go Open is = (refl, fault_told table told (λ wanting. let e : Open ≡ Memory = sym is ∙ wanting in absurd (cc)))
-    go Read is = (refl, fault_told table told (λ wanting. let e : Read ≡ Memory = sym is ∙ wanting in absurd (cc)))
-    go Memory is = tt
+    → IfSome table (λ files. IsTrustOf (Ok trust) (files path)) → IfSome table (λ files. IsReadOf (Ok text) (files path)) → string_bytes at ≡ path → IsRefused text.items e
+    → IsErrAnd result (λ r. r ≡ paths_of_init at (init_of_parse e)) → IsLoadedFrom table path source (telling paths_says result)
+not_parsed table path source trust text at e (Ok made) told read same refused err = absurd err
+not_parsed table path source trust text at e (Err r) told read same refused err =
+    loads table path source trust text (Err (paths_says r)) told read (e, refused, ap paths_says err ∙ parse_says at path e same)

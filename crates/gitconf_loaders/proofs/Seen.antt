@@ -11,7 +11,7 @@ use Rattle.std.specs.String.{string_cmp}
 use Rattle.std.specs.declared.alloc.Global.{Global}
 use Rattle.std.specs.declared.string.String.{String}
 use Rattle.std.proofs.lemmas.Map.Text.{is_eq-slice_cmp}
-use Rattle.gitconf_loaders.specs.Causes.{Sees}
+use Rattle.gitconf_loaders.specs.Paths.{Sees}
 use Rattle.gitconf_loaders.specs.Paths.{is_among}
 
 -- a test, otherwise

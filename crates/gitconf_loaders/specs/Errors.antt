@@ -1,21 +1,21 @@
 -- The refusals of loaders, made of what caused them; running out of memory has one case in each.
-use Rattle.std.specs.Prelude.{ℕ, ◌==◌, if◌then◌else◌}
+use Rattle.std.specs.Prelude.{ℕ, ◌==◌, if◌then◌else◌, string_bytes}
 use Rattle.std.specs.declared.alloc.Global.{Global}
 use Rattle.std.specs.declared.string.String.{String}
-use Rattle.gitconf_text.specs.HeaderErrors.{header_number}
 use Rattle.gitconf_text.specs.declared.parse.section.header.Error.{Error as Header}
 use Rattle.gitconf_text.specs.declared.parse.section.header.Error.TheVariants as header
 use Rattle.gitconf_values.specs.Homes.{interpolate_number}
 use Rattle.gitconf_values.specs.declared.path.interpolate.Error.{Error as Interpolate}
 use Rattle.gitconf_values.specs.declared.path.interpolate.Error.TheVariants as interpolate
-use Rattle.gitconf_body.specs.ValueErrors.{value_number}
 use Rattle.gitconf_body.specs.declared.value.Error.{Error as Value}
 use Rattle.gitconf_body.specs.declared.value.Error.TheVariants as value
-use Rattle.gitconf_includes.specs.Errors.{includes_number, init_number}
+use Rattle.gitconf_includes.specs.Errors.{says}
+use Rattle.gitconf_includes.specs.Said.{known}
 use Rattle.gitconf_includes.specs.declared.includes.Error.{Error as Includes}
 use Rattle.gitconf_includes.specs.declared.includes.Error.TheVariants as includes
 use Rattle.gitconf_includes.specs.declared.init.Error.{Error as Init}
 use Rattle.gitconf_includes.specs.declared.init.Error.TheVariants as init
+use Rattle.gitconf_loaders.specs.Refused.{refused_number, BadCount, BadFile, BadInclude, BadPath, BadText, BadVariables, NoDot, NoEntry, NoKey, NoRoom, NoSection, NotText, NoValue, OutOfMemory, Refused, Unmade, Unparsed, Unreadable}
 use Rattle.gitconf_loaders.specs.declared.from_paths.Error.{Error as Paths}
 use Rattle.gitconf_loaders.specs.declared.from_paths.Error.TheVariants as paths
 use Rattle.gitconf_loaders.specs.declared.from_env.Error.{Error as Env}
@@ -23,33 +23,54 @@ use Rattle.gitconf_loaders.specs.declared.from_env.Error.TheVariants as env
 use Rattle.gitconf_loaders.specs.declared.from_git_dir.Error.{Error as Git}
 use Rattle.gitconf_loaders.specs.declared.from_git_dir.Error.TheVariants as git
 
--- the number of a refused load by paths
+-- what a refusal of a file says
+abbrev pub init_says : Init → Refused
+init_says (init.Parse e) = Unparsed (known e)
+init_says (init.Interpolate e) = BadPath (interpolate_number e)
+init_says (init.Includes e) = BadInclude (says e)
+init_says (init.Span number) = NoRoom number
+init_says init.Memory = OutOfMemory
+
+-- what a refused load by paths says
+abbrev pub paths_says : Paths → Refused
+paths_says (paths.Io path fault) = Unreadable (string_bytes path) fault
+paths_says (paths.Init path e) = Unmade (string_bytes path) (init_says e)
+paths_says paths.Memory = OutOfMemory
+
+-- what a refused load by variables says
+abbrev pub env_says : Env → Refused
+env_says (env.IllformedUtf8 index kind) = NotText index kind.now
+env_says (env.InvalidConfigCount input) = BadCount (string_bytes input)
+env_says (env.InvalidKeyId index) = NoKey index
+env_says (env.InvalidKeyValue index key) = NoDot index (string_bytes key)
+env_says (env.InvalidValueId index) = NoValue index
+env_says (env.PathInterpolationError e) = BadPath (interpolate_number e)
+env_says (env.Includes e) = BadInclude (says e)
+env_says (env.Section e) = NoSection e
+env_says (env.SectionValue e) = NoEntry e
+env_says env.Memory = OutOfMemory
+
+-- what a refused load of a repository says
+abbrev pub git_says : Git → Refused
+git_says (git.FromPaths e) = BadFile (paths_says e)
+git_says (git.FromEnv e) = BadVariables (env_says e)
+git_says (git.Init e) = BadText (init_says e)
+git_says (git.Includes e) = BadInclude (says e)
+git_says (git.Span number) = NoRoom number
+git_says git.Memory = OutOfMemory
+
+-- the number of each
+abbrev pub init_number : Init → ℕ
+init_number e = refused_number (init_says e)
+
 abbrev pub paths_number : Paths → ℕ
-paths_number (paths.Io path fault) = 21
-paths_number (paths.Init path e) = init_number e
-paths_number paths.Memory = 27
+paths_number e = refused_number (paths_says e)
 
--- the number of a refused load by variables
 abbrev pub env_number : Env → ℕ
-env_number (env.IllformedUtf8 index kind) = 22
-env_number (env.InvalidConfigCount input) = 23
-env_number (env.InvalidKeyId index) = 24
-env_number (env.InvalidKeyValue index key) = 25
-env_number (env.InvalidValueId index) = 26
-env_number (env.PathInterpolationError e) = interpolate_number e
-env_number (env.Includes e) = includes_number e
-env_number (env.Section e) = header_number e
-env_number (env.SectionValue e) = value_number e
-env_number env.Memory = 27
+env_number e = refused_number (env_says e)
 
--- the number of a refused load of a repository
 abbrev pub git_number : Git → ℕ
-git_number (git.FromPaths e) = paths_number e
-git_number (git.FromEnv e) = env_number e
-git_number (git.Init e) = init_number e
-git_number (git.Includes e) = includes_number e
-git_number (git.Span e) = e
-git_number git.Memory = 27
+git_number e = refused_number (git_says e)
 
 -- the refusal of a load because what was read at that path can't be made a file, or has no room behind those before it
 abbrev pub paths_of_init : (path : String Global) → Init → Paths

@@ -2,8 +2,8 @@
 -- which they came. Runs give the order that they have in the file.
 use Rattle.std.specs.Prelude.{◌≡◌, ℕ, ◌+◌, ◌-◌, ◌<◌, ◌≤◌, Bool, List, [], ◌∷◌, length, take, drop, is_some}
 use Rattle.std.specs.Option.{option_or}
-use Rattle.gitconf_table.specs.declared.runs.Run.{Run}
-use Rattle.gitconf_table.specs.Runs.{total, weave, AreRuns}
+use Rattle.gitconf_sections.specs.declared.runs.Run.{Run}
+use Rattle.gitconf_sections.specs.Runs.{total, weave, AreRuns}
 use Rattle.gitconf_text.specs.Part as parts
 use Rattle.gitconf_text.specs.LineEnds.{bytes_of_line_end}
 use Rattle.gitconf_text.specs.declared.line_end.LineEnd.{LineEnd}

@@ -5,14 +5,11 @@ use Rattle.std.specs.Option.{option_map, unwrap_or}
 use Rattle.gitconf_sources.specs.Metadata.{api_meta, Meta}
 use Rattle.gitconf_sources.specs.Reports.{FileReport, VariableReport}
 use Rattle.gitconf_sources.specs.declared.host.Places.{Places}
-use Rattle.gitconf_includes.specs.Rules.{Rules, rules_of}
-use Rattle.gitconf_includes.specs.declared.init.Options.{Options}
+use Rattle.gitconf_includes.specs.Rules.{Rules}
 use Rattle.gitconf_sources.specs.FoundFiles.{global_sources, AreFound}
 use Rattle.gitconf_state.specs.State.{State}
-use Rattle.gitconf_loaders.specs.Causes.{IsLoadCause}
 use Rattle.gitconf_loaders.specs.Paths.{IsLoadOfPaths, Then}
-use Rattle.gitconf_loaders.specs.declared.from_paths.Error.{Error}
-use Rattle.gitconf_loaders.specs.declared.from_paths.Error.TheVariants.{Memory}
+use Rattle.gitconf_loaders.specs.Refused.{OutOfMemory, Refused}
 
 -- The rules of their includes: ten files deep, with the user's home folder and those of users; nothing is known that conditions ask for.
 abbrev pub home_rules : Places → Rules
@@ -34,16 +31,11 @@ abbrev pub empty_file : Meta → State
 empty_file meta = record { front = []; meta = meta; next = 0; used = 0; sections = [] }
 
 -- what was loaded, or the empty file if nothing was
-abbrev pub IsOrEmpty : Option State → Result State ℕ → Type 0
+abbrev pub IsOrEmpty : Option State → Result State Refused → Type 0
 IsOrEmpty loaded r = r ≡ Ok (unwrap_or loaded (empty_file api_meta))
 
 -- the files of the machine and of the user, one after the other; memory may run out
-abbrev pub IsGlobal : Option (List ℕ → VariableReport) → Places → Option (List ℕ → FileReport) → Result State ℕ → Type 0
-IsGlobal variables places table r = (r ≡ Err 27)
+abbrev pub IsGlobal : Option (List ℕ → VariableReport) → Places → Option (List ℕ → FileReport) → Result State Refused → Type 0
+IsGlobal variables places table r = (r ≡ Err OutOfMemory)
     ⊎ (found : List Meta) × AreFound variables places table global_sources found
     × Then (IsLoadOfPaths true false (record { rules = home_rules places; table = table }) found) IsOrEmpty r
-
--- the causes of its refusals; or memory ran out
-abbrev pub IsGlobalCause : Option (List ℕ → VariableReport) → Places → Option (List ℕ → FileReport) → Error → Type 0
-IsGlobalCause variables places table e = (e ≡ Memory) ⊎ (options : Options) × (rules_of options ≡ home_rules places)
-    × (found : List Meta) × AreFound variables places table global_sources found × IsLoadCause true options table found e

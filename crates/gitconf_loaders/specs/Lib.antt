@@ -1,5 +1,5 @@
 pub mod Paths
-pub mod Causes
+pub mod Refused
 pub mod Globals
 pub mod Resolving
 pub mod Urls

@@ -8,8 +8,8 @@ ghost use Rattle.gitconf_print.specs.LineEnds.{first_newline, first_newline_of_b
 
 use gitconf_lookups::walks::SectionsByName;
 use gitconf_print::line_end::first_line_end;
+use gitconf_sections::runs::Run;
 use gitconf_store::store::Store;
-use gitconf_table::runs::Run;
 use gitconf_text::line_end::LineEnd;
 use gitconf_text::parse::span;
 use gitconf_views::section::SectionRef;

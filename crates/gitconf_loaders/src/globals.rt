@@ -1,10 +1,10 @@
 //! The configuration of the machine and of the user.
-ghost use Rattle.std.specs.Prelude.{◌≡◌, false, unwrap_or, IfErr, IfOk};
+ghost use Rattle.std.specs.Prelude.{◌≡◌, false, unwrap_or, IfOk};
 ghost use Rattle.gitconf_sources.specs.Metadata.{api_meta};
 ghost use Rattle.gitconf_includes.specs.Rules.{rules_of};
-ghost use Rattle.gitconf_loaders.specs.Errors.{paths_number};
-ghost use Rattle.gitconf_loaders.specs.Globals.{empty_file, home_rules, IsGlobal, IsGlobalCause};
-ghost use Rattle.gitconf_loaders.specs.Paths.{CountsLoad, numbered};
+ghost use Rattle.gitconf_loaders.specs.Errors.{paths_number, paths_says};
+ghost use Rattle.gitconf_loaders.specs.Globals.{empty_file, home_rules, IsGlobal};
+ghost use Rattle.gitconf_loaders.specs.Paths.{CountsLoad, telling};
 
 use crate::from_paths::Error;
 use crate::paths::{from_paths, shared};
@@ -58,10 +58,9 @@ pub fn from_globals<F: Files, E: Env>(
     env: &mut E,
     places: &Places,
 ) -> Result<Store, Error>
-    ensures loaded { IsGlobal (E.variables env.old) places.now (F.table files.old) (numbered paths_number result) }
-    ensures cause { IfErr result (IsGlobalCause (E.variables env.old) places.now (F.table files.old)) }
+    ensures loaded { IsGlobal (E.variables env.old) places.now (F.table files.old) (telling paths_says result) }
     ensures table { F.table files.new ≡ F.table files.old }
-    ensures counted { CountsLoad (numbered paths_number result) (F.failures files.old) (F.failures files.new) }
+    ensures counted { CountsLoad (telling paths_number result) (F.failures files.old) (F.failures files.new) }
     ensures stays { E.variables env.new ≡ E.variables env.old }
 {
     let metas = all_found(alloc, files, env, places)?;

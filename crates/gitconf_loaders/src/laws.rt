@@ -9,15 +9,16 @@ ghost use Rattle.gitconf_sources.specs.Reports.{FileReport, VariableReport};
 ghost use Rattle.gitconf_sources.specs.FoundFiles.{AreFound, global_sources};
 ghost use Rattle.gitconf_sources.specs.declared.host.Places.{Places};
 ghost use Rattle.gitconf_includes.specs.declared.init.Error.{Error};
-ghost use Rattle.gitconf_includes.specs.Errors.{init_number};
 ghost use Rattle.gitconf_state.specs.Clean.{IsClean};
 ghost use Rattle.gitconf_state.specs.State.{document_of, entries_of, State};
 ghost use Rattle.gitconf_includes.specs.Expansion.{Asks, IsLoaded};
 ghost use Rattle.gitconf_includes.specs.Laws.{AreHeaded, IncludesHeaded, SayTheSame, asks_with};
 ghost use Rattle.gitconf_includes.specs.Rules.{Rules};
+ghost use Rattle.gitconf_loaders.specs.Errors.{init_says};
 ghost use Rattle.gitconf_loaders.specs.Globals.{home_rules, IsGlobal};
 ghost use Rattle.gitconf_loaders.specs.Headed.{AreHeadedAt, IsHeadedText};
 ghost use Rattle.gitconf_loaders.specs.Paths.{HasOneOutcome, IsLoadedFrom, IsLoadOfPaths};
+ghost use Rattle.gitconf_loaders.specs.Refused.{OutOfMemory};
 ghost use Rattle.gitconf_loaders.specs.Resolving.{AreMadeAlike, IsMadeOf};
 
 /// Files that are loaded by their paths or from a text are clean, those of the machine and of the user too, and have no entry before their
@@ -35,9 +36,9 @@ pub fn loaded_files_are_clean()
     // A text with what it includes, all of it; or some of it, if it has no such entry itself.
     ensures whole { (asks : Asks) (text : List ℕ) (place : Meta) (file : State) → asks.rules.lossy ≡ false
         → ((loaded : State) → IsLoaded false text place loaded → IncludesHeaded asks.rules.max_depth asks loaded)
-        → IsMadeOf init_number asks text place (Ok file) → IsClean file }
+        → IsMadeOf init_says asks text place (Ok file) → IsClean file }
     ensures text { (asks : Asks) (text : List ℕ) (place : Meta) (file : State) → IsHeadedText asks place text
-        → IsMadeOf init_number asks text place (Ok file) → IsClean file × (entries_of file.front ≡ []) }
+        → IsMadeOf init_says asks text place (Ok file) → IsClean file × (entries_of file.front ≡ []) }
 {}
 
 /// If no text that the host tells has an entry before its first section, none that is loaded has one, nor any file that it includes: nor has
@@ -49,16 +50,16 @@ pub fn headed_files_are_loaded_headed()
         → ((parts : List Part) → IsText text parts → (gathered parts).front ≡ []) → IsHeadedText asks place text }
 {}
 
-/// If the host says what is at each path, one text from one place makes one file, apart from running out of memory, or is refused with one
-/// number.
+/// If the host says what is at each path, one text from one place makes one file, apart from running out of memory, or is refused for one cause, which says
+/// the same of the same file.
 pub fn a_text_makes_one_file()
     ensures { (asks : Asks) (files : List ℕ → FileReport) (text : List ℕ) (place : Meta) (one other : Result State Error) → asks.table ≡ Some files
-        → IfErr one (λ e. init_number e ≢ 27) → IfErr other (λ e. init_number e ≢ 27)
-        → IsMadeOf init_number asks text place one → IsMadeOf init_number asks text place other → AreMadeAlike one other }
+        → IfErr one (λ e. init_says e ≢ OutOfMemory) → IfErr other (λ e. init_says e ≢ OutOfMemory)
+        → IsMadeOf init_says asks text place one → IsMadeOf init_says asks text place other → AreMadeAlike one other }
 {}
 
 /// If the host says what is at each path and what each variable is set to, a load has one outcome, apart from running out of memory: one
-/// file, or a refusal of one number. So it is with a file that is loaded by its path, with several, and with those of the machine and of
+/// file, or a refusal that says one thing. So it is with a file that is loaded by its path, with several, and with those of the machine and of
 /// the user.
 pub fn loads_have_one_outcome()
     ensures path { (files : List ℕ → FileReport) (path : List ℕ) (source : Source) → HasOneOutcome (IsLoadedFrom (Some files) path source) }
@@ -72,7 +73,7 @@ pub fn loads_have_one_outcome()
 /// is with a text and with files that are loaded by their paths, each with what it includes. Files that say the same have one document.
 pub fn lossy_loads_say_the_same()
     ensures text { (rules : Rules) (files : List ℕ → FileReport) (text : List ℕ) (place : Meta) (full lossy : State)
-        → IsMadeOf init_number (asks_with false rules files) text place (Ok full) → IsMadeOf init_number (asks_with true rules files) text place (Ok lossy)
+        → IsMadeOf init_says (asks_with false rules files) text place (Ok full) → IsMadeOf init_says (asks_with true rules files) text place (Ok lossy)
         → SayTheSame full lossy }
     ensures paths { (rules : Rules) (files : List ℕ → FileReport) (must_exist ignores : Bool) (metas : List Meta) (full lossy : State)
         → IsLoadOfPaths must_exist ignores (asks_with false rules files) metas (Ok (Some full))

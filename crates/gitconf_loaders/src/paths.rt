@@ -1,12 +1,9 @@
 //! Files that are loaded by their paths.
-ghost use Rattle.std.specs.Prelude.{◌≡◌, ◌⊎◌, ◌&&◌, ◌||◌, ℕ, if◌then◌else◌, List, [], ◌∷◌, Err, not, IfErr, IfOk, string_bytes};
-ghost use Rattle.gitconf_includes.specs.Outcomes.{asks_of, IsFaultOf};
-ghost use Rattle.gitconf_includes.specs.declared.init.Error.TheVariants.{Span};
-ghost use Rattle.gitconf_loaders.specs.Causes.{IsFileCause, IsLoadCause, IsMetaCause, load_refusal, Sees};
-ghost use Rattle.gitconf_loaders.specs.Errors.{paths_number};
-ghost use Rattle.gitconf_sources.specs.declared.fault.Stage.TheVariants.{Memory};
-ghost use Rattle.gitconf_loaders.specs.declared.from_paths.Error.TheVariants as refusals;
-ghost use Rattle.gitconf_loaders.specs.Paths.{CountsLoad, is_among, IsLoadedFrom, IsLoadOfPaths, IsMetaLoaded, IsTextTaken, Joins, left_by, load_fault, numbered, once, text_taken};
+ghost use Rattle.std.specs.Prelude.{◌≡◌, ◌⊎◌, ◌&&◌, ◌||◌, ℕ, if◌then◌else◌, List, [], ◌∷◌, Err, not, IfOk, string_bytes};
+ghost use Rattle.gitconf_includes.specs.Outcomes.{asks_of};
+ghost use Rattle.gitconf_loaders.specs.Errors.{paths_number, paths_says};
+ghost use Rattle.gitconf_loaders.specs.Refused.{fault_refused, refused_number, OutOfMemory};
+ghost use Rattle.gitconf_loaders.specs.Paths.{CountsLoad, is_among, IsLoadedFrom, IsLoadOfPaths, IsMetaLoaded, IsTextTaken, Joins, left_by, once, Sees, telling, text_taken};
 
 use crate::from_paths::Error;
 use crate::resolving::{load, resolved_text};
@@ -34,8 +31,7 @@ pub(crate) fn shared(alloc: Global, meta: Metadata) -> Result<Rc<Metadata>, NoMe
 
 /// How a load is refused for a fault of the file at that path.
 fn refusal(fault: FileFault, path: String) -> Error
-    ensures number { paths_number result ≡ load_fault fault.stage }
-    ensures is { result ≡ load_refusal fault path }
+    ensures { paths_says result ≡ fault_refused (string_bytes path) fault }
 {
     match fault.stage {
         Stage::Open | Stage::Read => Error::Io {
@@ -57,10 +53,9 @@ pub fn from_path<F: Files>(
     path: String,
     source: Source,
 ) -> Result<Store, Error>
-    ensures loaded { IsLoadedFrom (F.table files.old) (string_bytes path) source (numbered paths_number result) }
-    ensures cause { IfErr result (IsFileCause (F.table files.old) (string_bytes path)) }
+    ensures loaded { IsLoadedFrom (F.table files.old) (string_bytes path) source (telling paths_says result) }
     ensures table { F.table files.new ≡ F.table files.old }
-    ensures counted { CountsLoad (numbered paths_number result) (F.failures files.old) (F.failures files.new) }
+    ensures counted { CountsLoad (telling paths_number result) (F.failures files.old) (F.failures files.new) }
 {
     let trust = match files.trust(&path) {
         Ok(trust) => trust,
@@ -134,10 +129,10 @@ fn text_of<F: Files>(
     ignores: bool,
     path: &str,
 ) -> Result<Option<Vec<u8>>, FileFault>
-    ensures taken { (text_taken result ≡ Err 27) ⊎ IsTextTaken (F.table files.old) must_exist ignores path.now (text_taken result) }
-    ensures fault { IfErr result (λ fault. (fault.stage ≡ Memory) ⊎ IsFaultOf (F.table files.old) path.now fault) }
+    ensures taken { (text_taken path.now result ≡ Err OutOfMemory)
+        ⊎ IsTextTaken (F.table files.old) must_exist ignores path.now (text_taken path.now result) }
     ensures table { F.table files.new ≡ F.table files.old }
-    ensures counted { CountsLoad (numbered (λ fault. load_fault fault.stage) result) (F.failures files.old) (F.failures files.new) }
+    ensures counted { CountsLoad (telling (λ fault. refused_number (fault_refused path.now fault)) result) (F.failures files.old) (F.failures files.new) }
 {
     let fault = match files.read(path) {
         Ok(text) => return Ok(Some(text)),
@@ -156,8 +151,8 @@ fn text_of<F: Files>(
 ///
 /// 3 if there is no room for it; 27 when out of memory.
 fn join(target: &mut Option<Store>, made: Store, path: String) -> Result<(), Error>
-    ensures joined { (left_by paths_number result target.new ≡ Err 27) ⊎ Joins target.old made (left_by paths_number result target.new) }
-    ensures cause { IfErr result (λ e. (e ≡ refusals.Memory) ⊎ (e ≡ refusals.Init path (Span 3))) }
+    ensures joined { (left_by paths_says result target.new ≡ Err OutOfMemory)
+        ⊎ Joins (string_bytes path) target.old made (left_by paths_says result target.new) }
 {
     match target {
         Some(before) => match before.append(made) {
@@ -185,8 +180,7 @@ fn load_behind<F: Files>(
     target: &mut Option<Store>,
 ) -> Result<(), Error>
     ensures loaded { IsMetaLoaded must_exist options.now.ignore_io_errors (asks_of options.now (F.table files.old)) meta target.old
-        (left_by paths_number result target.new) }
-    ensures cause { IfErr result (IsMetaCause must_exist options.now (F.table files.old) meta) }
+        (left_by paths_says result target.new) }
     ensures table { F.table files.new ≡ F.table files.old }
     ensures counted { CountsLoad (left_by paths_number result target.new) (F.failures files.old) (F.failures files.new) }
 {
@@ -235,10 +229,9 @@ pub fn from_paths<F: Files>(
     options: &Options<'_>,
 ) -> Result<Option<Store>, Error>
     ensures loaded { IsLoadOfPaths must_exist options.now.ignore_io_errors (asks_of options.now (F.table files.old)) metas.items
-        (numbered paths_number result) }
-    ensures cause { IfErr result (IsLoadCause must_exist options.now (F.table files.old) metas.items) }
+        (telling paths_says result) }
     ensures table { F.table files.new ≡ F.table files.old }
-    ensures counted { CountsLoad (numbered paths_number result) (F.failures files.old) (F.failures files.new) }
+    ensures counted { CountsLoad (telling paths_number result) (F.failures files.old) (F.failures files.new) }
 {
     let mut target = None;
     for meta in once(alloc, metas)? {

@@ -206,7 +206,7 @@ impl Refusal for includes::Error {
 }
 
 impl Refusal for init::Error {
-    ghost use Rattle.gitconf_includes.specs.Errors.{init_number};
+    ghost use Rattle.gitconf_loaders.specs.Errors.{init_number};
 
     ghost number_of = { init_number };
 

@@ -1,9 +1,10 @@
 //! Resolving includes.
-ghost use Rattle.std.specs.Prelude.{◌≡◌, None, IfErr};
-ghost use Rattle.gitconf_includes.specs.Errors.{includes_number, init_number};
+ghost use Rattle.std.specs.Prelude.{◌≡◌, None};
+ghost use Rattle.gitconf_includes.specs.Errors.{says};
 ghost use Rattle.gitconf_includes.specs.Expansion.{Expands, Leaves, Reached};
-ghost use Rattle.gitconf_includes.specs.Outcomes.{asks_of, CountsFaults, IsCause};
-ghost use Rattle.gitconf_loaders.specs.Resolving.{IsMadeCause, IsMadeOf, MakesCounted};
+ghost use Rattle.gitconf_includes.specs.Outcomes.{asks_of, CountsFaults};
+ghost use Rattle.gitconf_loaders.specs.Errors.{init_says};
+ghost use Rattle.gitconf_loaders.specs.Resolving.{IsMadeOf, MakesCounted};
 
 use crate::expansion::Expansion;
 pub use crate::expansion::load;
@@ -36,8 +37,7 @@ pub fn resolve<F: Files>(
     store: Store,
 ) -> Resolved
     ensures expanded { (r : Reached) × Expands options.now.includes.max_depth (asks_of options.now (F.table files.old)) None store r
-        × Leaves includes_number result.result result.store r }
-    ensures cause { IfErr result.result (IsCause options.now (F.table files.old)) }
+        × Leaves says result.result result.store r }
     ensures table { F.table files.new ≡ F.table files.old }
     ensures counted { CountsFaults result.result (F.failures files.old) (F.failures files.new) }
 {
@@ -63,8 +63,7 @@ pub fn resolved_text<F: Files>(
     text: Vec<u8>,
     meta: Rc<Metadata>,
 ) -> Result<Store, init::Error>
-    ensures made { IsMadeOf init_number (asks_of options.now (F.table files.old)) text.items meta.value result }
-    ensures cause { IfErr result (IsMadeCause options.now (F.table files.old) text.items) }
+    ensures made { IsMadeOf init_says (asks_of options.now (F.table files.old)) text.items meta.value result }
     ensures table { F.table files.new ≡ F.table files.old }
     ensures counted { MakesCounted result (F.failures files.old) (F.failures files.new) }
 {

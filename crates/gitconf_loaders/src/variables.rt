@@ -1,10 +1,10 @@
 //! Entries that variables of the environment set.
-ghost use Rattle.std.specs.Prelude.{◌≡◌, IfErr, IfOk, string_bytes};
+ghost use Rattle.std.specs.Prelude.{◌≡◌, IfOk, string_bytes};
 ghost use Rattle.std.specs.Option.{option_map};
 ghost use Rattle.std.specs.Result.{result_map_both};
-ghost use Rattle.gitconf_loaders.specs.Errors.{env_number};
+ghost use Rattle.gitconf_loaders.specs.Errors.{env_says};
 ghost use Rattle.gitconf_loaders.specs.Variables as spec;
-ghost use Rattle.gitconf_loaders.specs.Variables.{IsCount, IsCountCause, IsEntryRefused, IsKeyAt, IsValueAt};
+ghost use Rattle.gitconf_loaders.specs.Variables.{IsCount, IsKeyAt, IsValueAt};
 
 use crate::from_env::Error;
 use gitconf_sources::{Env, EnvVar};
@@ -18,8 +18,7 @@ use std::alloc::Global;
 ///
 /// 23 for a text that is not a number below 2 to the 64th; 27 when out of memory.
 pub fn count<E: Env>(env: &mut E) -> Result<usize, Error>
-    ensures count { IsCount (E.variables env.old) (result_map_both (λ count. count) env_number result) }
-    ensures cause { IfErr result (IsCountCause (E.variables env.old)) }
+    ensures count { IsCount (E.variables env.old) (result_map_both (λ count. count) env_says result) }
     ensures stays { E.variables env.new ≡ E.variables env.old }
 {
     match env.var("GIT_CONFIG_COUNT")? {
@@ -50,8 +49,7 @@ fn value_variable(alloc: Global, index: usize) -> Result<String, NoMemory>
 ///
 /// 24 if its variable isn't set, 22 if it is set to bytes that aren't UTF-8; 27 when out of memory.
 pub fn key_at<E: Env>(alloc: Global, env: &mut E, index: usize) -> Result<String, Error>
-    ensures key { IsKeyAt (E.variables env.old) index (result_map_both string_bytes env_number result) }
-    ensures cause { IfErr result (IsEntryRefused (E.variables env.old) index) }
+    ensures key { IsKeyAt (E.variables env.old) index (result_map_both string_bytes env_says result) }
     ensures stays { E.variables env.new ≡ E.variables env.old }
 {
     let name = key_variable(alloc, index)?;
@@ -68,8 +66,7 @@ pub fn key_at<E: Env>(alloc: Global, env: &mut E, index: usize) -> Result<String
 ///
 /// 26 if the variable isn't set; 27 when out of memory.
 pub fn value_at<E: Env>(alloc: Global, env: &mut E, index: usize) -> Result<Option<String>, Error>
-    ensures value { IsValueAt (E.variables env.old) index (result_map_both (option_map string_bytes) env_number result) }
-    ensures cause { IfErr result (IsEntryRefused (E.variables env.old) index) }
+    ensures value { IsValueAt (E.variables env.old) index (result_map_both (option_map string_bytes) env_says result) }
     ensures stays { E.variables env.new ≡ E.variables env.old }
 {
     let name = value_variable(alloc, index)?;

@@ -10,7 +10,7 @@ use Rattle.gitconf_items.specs.declared.items.Item.{Item}
 use Rattle.gitconf_items.specs.Events.{header_of}
 use Rattle.gitconf_text.specs.Sections.{SectionEntry}
 use Rattle.gitconf_text.specs.Sections as table
-use Rattle.gitconf_table.proofs.SectionLemmas.{has_name-new}
+use Rattle.gitconf_sections.proofs.SectionLemmas.{has_name-new}
 use Rattle.gitconf_state.specs.Lookup as state
 use Rattle.gitconf_state.specs.State.{SectionState, State}
 use Rattle.gitconf_sections.specs.Section.{Section}

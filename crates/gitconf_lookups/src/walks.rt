@@ -4,9 +4,9 @@ ghost use Rattle.gitconf_views.specs.Viewed.{AreViewed, AreViewed-prop};
 
 use crate::filters::passes;
 use gitconf_items::events::ItemEvents;
+use gitconf_sections::id::SectionId;
 use gitconf_sections::sections::walks::{Named, WithName};
 use gitconf_sources::meta::Metadata;
-use gitconf_table::table::SectionId;
 use gitconf_views::section::{SectionRef, Sections};
 use gitconf_views::tables::view_of;
 

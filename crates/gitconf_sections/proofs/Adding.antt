@@ -1,155 +1,119 @@
--- Sections that are put after the others, and other names of some.
-use Rattle.std.proofs.Common.{◌≡◌, ℕ, zero, suc, ◌+◌, ◌≤◌, ◌<◌, List, [], ◌∷◌, ◌++◌, length, take, drop, map, Option, Some, inl, inr, refl, ap, sym, subst, ◌∙◌, arith, append-nil}
-use Rattle.std.specs.List.{slice_get, AllByRecursion}
+-- Sections that are put after the others.
+use Rattle.std.proofs.Common.{◌≡◌, ℕ, zero, suc, ◌+◌, ◌≤◌, ◌<◌, List, [], ◌∷◌, ◌++◌, length, take, drop, map, slice_index, Option, Some, refl, ap, sym, subst, ◌∙◌, arith, append-nil}
+use Rattle.std.specs.List.{slice_get}
 use Rattle.std.specs.Option.{option_map}
 use Rattle.std.proofs.lemmas.List.{drop_all, length-append, length-map, map-append, take_all}
-use Rattle.std.proofs.Math.Seq.{drop-append-add, drop-append_seam}
+use Rattle.std.proofs.Math.Seq.{drop-append_seam}
 use Rattle.gitconf_text.specs.Bytes.{fold}
+use Rattle.gitconf_text.specs.Sections.{SectionEntry, Sections, AreNumbered, changed_at, edited_at, no_number, numbered_from, section_at, with_all, with_last, entry_of}
 use Rattle.gitconf_items.specs.declared.items.Item.{Item}
-use Rattle.gitconf_table.specs.Pairs.{EachTwo}
-use Rattle.gitconf_table.specs.Renames.{with_names_at}
-use Rattle.gitconf_text.specs.Sections.{SectionEntry, Sections, changed_at, edited_at, entry_of, numbered_from, section_at, with_all, with_last, with_names, with_section}
-use Rattle.gitconf_table.proofs.SectionLemmas.{tables}
-use Rattle.gitconf_sections.specs.declared.body.Body.{Body}
-use Rattle.gitconf_sections.specs.declared.body.Body.TheVariants.{Listed, Nothing, Own}
+use Rattle.gitconf_sections.specs.declared.letters.Names.{Names}
 use Rattle.gitconf_sections.specs.declared.row.Row.{Row}
-use Rattle.gitconf_sections.specs.Section.{AreDisjoint, AreListed, Section, StandsWithin, all_rebased, bodies_of, body_items, read, read_all, read_entry, rebased, rebased_entry}
-use Rattle.gitconf_sections.proofs.Listing.{is_at, listed_both, listed_renumbered, read_more, same_listed}
-use Rattle.gitconf_sections.proofs.Mapped.{last_mapped, renumbered_mapped}
+use Rattle.gitconf_sections.specs.Letters.{ArePut}
+use Rattle.gitconf_sections.specs.Rows.{entries_of, entry_of_row, moved_rows, numbers_in, row_full_word, row_word}
+use Rattle.gitconf_sections.specs.Section.{AreListed, Section, StandsWithin, read}
+use Rattle.gitconf_sections.specs.Tables.{word_of_name, AreApart, ArePlaced, ArePlacedTo, IsKept}
+use Rattle.gitconf_sections.specs.Word.{full_word, name_word}
+use Rattle.gitconf_sections.proofs.Listing.{listed_both, listed_moved}
+use Rattle.gitconf_sections.proofs.RowLemmas.{entries_joined, entries_pushed, fit_joined, fit_pushed, full_words_shown, numbers_shown, rows_apart, rows_placed, rows_within, words_shown}
+use Rattle.gitconf_sections.proofs.SectionLemmas.{all_last_numbered, tables}
+use Rattle.gitconf_sections.proofs.TableLemmas.{placed_before, table_joined, table_pushed, worded}
 
--- one more
-pub listed_last : (from to n : ℕ) (es : List (SectionEntry Row)) (e : SectionEntry Row) → from ≤ to → to ≤ n → AreListed from to es → StandsWithin to n e.section.body → AreListed from n (es ++ e ∷ [])
-listed_last from to n es e less more are stands = listed_both from to n es (e ∷ []) less more are ((stands, tt), (tt, tt))
+-- there are as many words as rows
+pub words_long : {seed next : ℕ} {letters : List ℕ} {list : List Item} {rows : List Row} {places words full : List ℕ} → IsKept seed next letters list rows places words full → length words ≡ length rows
+words_long {seed} {letters = letters} {list = list} {rows = rows} kept =
+    ap length kept.table.names ∙ length-map (entries_of letters list rows) (word_of_name seed) ∙ length-map rows (entry_of_row letters list)
 
--- its items follow those of the list
-pub loaded_last : (list items new : List Item) (table : Sections Row) (row : Row) (s : Section) (from len : ℕ) (name : List ℕ) (subsection : Option (List ℕ)) → new ≡ list ++ items → AreListed 0 (length list) table.entries
-    → from ≡ length list → len ≡ length items → row.body ≡ Listed from len → (body_items new row.body ≡ items → read new row ≡ s)
-    → read_all new (with_last name subsection row table) ≡ with_last name subsection s (read_all list table)
-loaded_last list items new table row s from len name subsection is are first count body made =
-    let there : take len (drop from new) ≡ items =
-    (λ i. take (count i) (drop (first i) (is i))) ∙ ap (take (length items)) (drop-append_seam list items) ∙ take_all (length items) items (omega arith) in
-    let same : map (read_entry new) table.entries ≡ map (read_entry list) table.entries = ap (λ l. map (read_entry l) table.entries) is ∙ read_more list items 0 (length list) table.entries are (omega arith) in
-    last_mapped (read new) name subsection row table
-    ∙ (λ i. record { entries = same i ++ entry_of table.next name subsection (made (ap (body_items new) body ∙ there) i) ∷ []; next = table.next + 1 })
+-- A row after the others, with names that were put after the letters, and items that were put after the list.
+module _ {seed next : ℕ} {letters : List ℕ} {list : List Item} {rows : List Row} {places words full : List ℕ} (kept : IsKept seed next letters list rows places words full)
+    (letters2 name : List ℕ) (s : Option (List ℕ)) (names : Names) (put : ArePut (fold name) s letters letters2 names) (list2 items : List Item) (more : list2 ≡ list ++ items)
+    (r : Row) (section : Section) (rows2 : List Row) (id : r.id ≡ next) (is : rows2 ≡ rows ++ record r { names = names } ∷ []) (shown : read list2 r ≡ section) where
+  entries : entries_of letters2 list2 rows2 ≡ entries_of letters list rows ++ entry_of next name s section ∷ []
+  entries =
+      entries_pushed letters letters2 name s names put list items list2 more rows rows2 r section is shown kept.fit kept.listed
+      ∙ ap (λ (n : ℕ). entries_of letters list rows ++ entry_of n name s section ∷ []) id
 
--- other names
-bodies_named : (es : List (SectionEntry Row)) (at : ℕ) (name : List ℕ) (subsection : Option (List ℕ)) → bodies_of (changed_at (λ e. record e { name = name; subsection = subsection }) es at) ≡ bodies_of es
-bodies_named [] at name subsection = refl
-bodies_named (e ∷ es) zero name subsection = refl
-bodies_named (e ∷ es) (suc at) name subsection = ap (λ bs. e.section.body ∷ bs) (bodies_named es at name subsection)
+  pub row_last : tables (next + 1) (entries_of letters2 list2 rows2) ≡ with_last name s section (tables next (entries_of letters list rows))
+  row_last = ap (tables (next + 1)) entries
 
-pub listed_names : (from to : ℕ) (all : Sections Row) (places name : List ℕ) (subsection : Option (List ℕ)) → AreListed from to all.entries → AreListed from to (with_names_at all places name subsection).entries
-listed_names from to all [] name subsection are = are
-listed_names from to all (at ∷ places) name subsection are =
-    listed_names from to (with_names all at name subsection) places name subsection (same_listed from to all.entries (with_names all at name subsection).entries (bodies_named all.entries at (fold name) subsection) are)
+  pub last_kept : StandsWithin (length list) (length list2) r.body → next < no_number → (places2 words2 full2 : List ℕ)
+      → places2 ≡ places ++ length rows ∷ [] → words2 ≡ words ++ name_word seed name ∷ [] → full2 ≡ full ++ full_word seed name s ∷ []
+      → IsKept seed (next + 1) letters2 list2 rows2 places2 words2 full2
+  last_kept stands room places2 words2 full2 e1 e2 e3 = record {
+    table = table_pushed next (entries_of letters list rows) _ places places2 words words2 full full2 name s section entries
+        (e1 ∙ ap (λ n. places ++ n ∷ []) (sym (length-map rows (entry_of_row letters list)))) e2 e3 room kept.table;
+    fit = fit_pushed letters letters2 name s names put list items list2 more rows rows2 r is kept.fit;
+    listed =
+        let long : length list2 ≡ length list + length items = ap length more ∙ length-append list items in
+        rw is (listed_both 0 (length list) (length list2) rows (record r { names = names } ∷ []) (omega arith) (omega (arith, long)) kept.listed ((stands, tt), (tt, tt)));
+  }
 
--- Bodies of a list that is put after another.
-abbrev pub until_rebased : ℕ → (by : ℕ) → List (SectionEntry Row) → List (SectionEntry Row)
-until_rebased zero by es = es
-until_rebased (suc n) by [] = []
-until_rebased (suc n) by (e ∷ es) = rebased_entry by e ∷ until_rebased n by es
-
-pub length-until : (n by : ℕ) (es : List (SectionEntry Row)) → length (until_rebased n by es) ≡ length es
-length-until zero by es = refl
-length-until (suc n) by [] = refl
-length-until (suc n) by (e ∷ es) = ap suc (length-until n by es)
-
-pub until_at : (n by : ℕ) (es : List (SectionEntry Row)) (r : Row) → is_at (until_rebased n by es) n r → is_at es n r
-until_at zero by es r here = here
-until_at (suc n) by [] r here = here
-until_at (suc n) by (e ∷ es) r here = until_at n by es r here
-
-pub until_next : (n by : ℕ) (es : List (SectionEntry Row)) (r : Row) (body : Body) → is_at (until_rebased n by es) n r → body ≡ rebased by r.body
-    → changed_at (λ e. record e { section = record r { body = body } }) (until_rebased n by es) n ≡ until_rebased (suc n) by es
-until_next zero by [] r body here is = refl
-until_next zero by (e ∷ es) r body here is =
-    let there : e.section ≡ r = cc in
-    λ i. record { number = e.number; name = e.name; subsection = e.subsection; section = record { header = (sym there i).header; meta = (sym there i).meta; body = (is ∙ ap (λ r. rebased by r.body) (sym there)) i; held = (sym there i).held } } ∷ es
-until_next (suc n) by [] r body here is = refl
-until_next (suc n) by (e ∷ es) r body here is = ap (λ ds. rebased_entry by e ∷ ds) (until_next n by es r body here is)
-
-pub until_all : (by : ℕ) (es : List (SectionEntry Row)) → until_rebased (length es) by es ≡ map (rebased_entry by) es
-until_all by [] = refl
-until_all by (e ∷ es) = ap (λ ds. rebased_entry by e ∷ ds) (until_all by es)
-
-within_rebased : (by from to : ℕ) (body : Body) → StandsWithin from to body → StandsWithin (by + from) (by + to) (rebased by body)
-within_rebased by from to (Listed start len) stands = (omega (arith, stands.0), omega (arith, stands.1))
-within_rebased by from to (Own own) stands = tt
-within_rebased by from to Nothing stands = tt
-
-disjoint_rebased : (by : ℕ) (a b : Body) → AreDisjoint a b → AreDisjoint (rebased by a) (rebased by b)
-disjoint_rebased by (Listed start len) (Listed from count) apart = elim apart [ inl before ↦ inl (omega (arith, before)) | inr behind ↦ inr (omega (arith, behind)) ]
-disjoint_rebased by (Listed start len) (Own own) apart = tt
-disjoint_rebased by (Listed start len) Nothing apart = tt
-disjoint_rebased by (Own own) b apart = tt
-disjoint_rebased by Nothing b apart = tt
-
-all_within : (by from to : ℕ) (es : List (SectionEntry Row)) → AllByRecursion (StandsWithin from to) (bodies_of es) → AllByRecursion (StandsWithin (by + from) (by + to)) (bodies_of (map (rebased_entry by) es))
-all_within by from to [] all = tt
-all_within by from to (e ∷ es) all = (within_rebased by from to e.section.body all.0, all_within by from to es all.1)
-
-all_disjoint : (by : ℕ) (b : Body) (es : List (SectionEntry Row)) → AllByRecursion (AreDisjoint b) (bodies_of es) → AllByRecursion (AreDisjoint (rebased by b)) (bodies_of (map (rebased_entry by) es))
-all_disjoint by b [] all = tt
-all_disjoint by b (e ∷ es) all = (disjoint_rebased by b e.section.body all.0, all_disjoint by b es all.1)
-
-all_apart : (by : ℕ) (es : List (SectionEntry Row)) → EachTwo AreDisjoint (bodies_of es) → EachTwo AreDisjoint (bodies_of (map (rebased_entry by) es))
-all_apart by [] apart = tt
-all_apart by (e ∷ es) apart = (all_disjoint by e.section.body es apart.0, all_apart by es apart.1)
-
-listed_rebased : (by from to : ℕ) (es : List (SectionEntry Row)) → AreListed from to es → AreListed (by + from) (by + to) (map (rebased_entry by) es)
-listed_rebased by from to es are = (all_within by from to es are.0, all_apart by es are.1)
-
-body_rebased : (list others : List Item) (body : Body) → body_items (list ++ others) (rebased (length list) body) ≡ body_items others body
-body_rebased list others (Listed start len) = ap (take len) (drop-append-add list others start)
-body_rebased list others (Own own) = refl
-body_rebased list others Nothing = refl
-
-read_rebased : (list others : List Item) (es : List (SectionEntry Row)) → map (read_entry (list ++ others)) (map (rebased_entry (length list)) es) ≡ map (read_entry others) es
-read_rebased list others [] = refl
-read_rebased list others (e ∷ es) = λ i. record {
-  number = e.number;
-  name = e.name;
-  subsection = e.subsection;
-  section = record { header = e.section.header; meta = e.section.meta; items = record { items = body_rebased list others e.section.body i }; held = record { items = e.section.held.items } };
-} ∷ read_rebased list others es i
+-- a body at the end of the list
+pub listed_there : (list items list2 : List Item) (from len : ℕ) → list2 ≡ list ++ items → from ≡ length list → len ≡ length items → take len (drop from list2) ≡ items
+listed_there list items list2 from len more first count =
+    (λ i. take (count i) (drop (first i) (more i))) ∙ ap (take (length items)) (drop-append_seam list items) ∙ take_all (length items) items (omega arith)
 
 -- all put after all
-behind_all : {A : Type 0} (xs ys : List A) → take (length xs) xs ++ ys ++ drop (length xs) xs ≡ xs ++ ys
+pub behind_all : {A : Type 0} (xs ys : List A) → take (length xs) xs ++ ys ++ drop (length xs) xs ≡ xs ++ ys
 behind_all xs ys =
     (λ i. take_all (length xs) xs (omega arith) i ++ ys ++ drop_all (length xs) xs (omega arith) i) ∙ append-nil (xs ++ ys)
 
-pub joined_listed : (list others : List Item) (table other : Sections Row) → AreListed 0 (length list) table.entries → AreListed 0 (length others) other.entries
-    → AreListed 0 (length (list ++ others)) (with_all (length table.entries) (all_rebased (length list) other) table).entries
-joined_listed list others table other are theirs =
-    let by = length list in
-    let moved : AreListed (by + 0) (by + length others) (map (rebased_entry by) other.entries) = listed_rebased by 0 (length others) other.entries theirs in
-    let none : by + 0 ≡ by = omega arith in
-    let behind = listed_renumbered table.next by (by + length others) (map (rebased_entry by) other.entries) (subst (λ n. AreListed n (by + length others) (map (rebased_entry by) other.entries)) none moved) in
-    let all = listed_both 0 by (by + length others) table.entries (numbered_from table.next (map (rebased_entry by) other.entries)) (omega arith) (omega arith) are behind in
-    subst (λ es. AreListed 0 (length (list ++ others)) es) (sym (behind_all table.entries (numbered_from table.next (map (rebased_entry by) other.entries))))
-    (subst (λ n. AreListed 0 n (table.entries ++ numbered_from table.next (map (rebased_entry by) other.entries))) (sym (length-append list others)) all)
+-- The rows of another list after the others, with their letters and items after these.
+module _ {seed next : ℕ} {letters : List ℕ} {list : List Item} {rows : List Row} {places words full : List ℕ} (kept : IsKept seed next letters list rows places words full)
+    {seed2 next2 : ℕ} {theirs : List ℕ} {items : List Item} {added : List Row} {places2 words2 full2 : List ℕ} (other : IsKept seed2 next2 theirs items added places2 words2 full2)
+    (letters3 : List ℕ) (list3 : List Item) (rows3 : List Row) (is : letters3 ≡ letters ++ theirs) (more : list3 ≡ list ++ items)
+    (put : rows3 ≡ rows ++ moved_rows next (length letters) (length list) added) (count : ℕ) (counted : count ≡ length added) where
+  abbrev pub ours : List (SectionEntry Section)
+  ours = entries_of letters list rows
 
-pub joined_read : (list others : List Item) (table other : Sections Row) → AreListed 0 (length list) table.entries
-    → read_all (list ++ others) (with_all (length table.entries) (all_rebased (length list) other) table) ≡ with_all (length (read_all list table).entries) (read_all others other) (read_all list table)
-joined_read list others table other are = λ i. record { entries = entries i; next = next i }
-  where
-    ours : List (SectionEntry Section)
-    ours = map (read_entry list) table.entries
+  abbrev pub behind : List (SectionEntry Section)
+  behind = entries_of theirs items added
 
-    theirs : List (SectionEntry Row)
-    theirs = map (rebased_entry (length list)) other.entries
+  joined : entries_of letters3 list3 rows3 ≡ ours ++ numbered_from next behind
+  joined = entries_joined letters theirs letters3 list items list3 is more next rows added rows3 put kept.fit kept.listed
 
-    entries : map (read_entry (list ++ others)) (take (length table.entries) table.entries ++ numbered_from table.next theirs ++ drop (length table.entries) table.entries)
-        ≡ take (length ours) ours ++ numbered_from table.next (map (read_entry others) other.entries) ++ drop (length ours) ours
-    entries =
-        ap (map (read_entry (list ++ others))) (behind_all table.entries (numbered_from table.next theirs))
-        ∙ map-append (read_entry (list ++ others)) table.entries (numbered_from table.next theirs)
-        ∙ (λ i. read_more list others 0 (length list) table.entries are (omega arith) i
-        ++ (renumbered_mapped (read (list ++ others)) table.next theirs ∙ ap (numbered_from table.next) (read_rebased list others other.entries)) i)
-        ∙ sym (behind_all ours (numbered_from table.next (map (read_entry others) other.entries)))
+  as_many : count ≡ length behind
+  as_many = counted ∙ sym (length-map added (entry_of_row theirs items))
 
-    next : table.next + length theirs ≡ table.next + length (map (read_entry others) other.entries)
-    next = ap (λ n. table.next + n) (length-map other.entries (rebased_entry (length list)) ∙ sym (length-map other.entries (read_entry others)))
+  once : AreNumbered (next + count) (entries_of letters3 list3 rows3)
+  once =
+      subst (λ n. AreNumbered (next + n) (entries_of letters3 list3 rows3)) (sym as_many)
+      (subst (AreNumbered (next + length behind)) (sym joined) (all_last_numbered next ours behind kept.table.numbered.once))
+
+  pub joined_within : (places3 : List ℕ) → length places3 ≡ next + count → (k : ℕ) → k < length (numbers_in rows3) → slice_index (numbers_in rows3) k < length places3
+  joined_within places3 long = rows_within letters3 list3 (next + count) rows3 places3 once long
+
+  pub joined_apart : AreApart (numbers_in rows3)
+  joined_apart = rows_apart letters3 list3 (next + count) rows3 once
+
+  pub joined_before : (places3 : List ℕ) → take (length places) places3 ≡ places → ArePlacedTo (length (numbers_in rows)) (numbers_in rows3) places3
+  joined_before places3 same =
+      let numbers : numbers_in rows3 ≡ numbers_in rows ++ numbers_in (moved_rows next (length letters) (length list) added) =
+      ap numbers_in put ∙ map-append (λ (r : Row). r.id) rows (moved_rows next (length letters) (length list) added) in
+      let placed : ArePlaced (numbers_in rows) places = subst (λ ns. ArePlaced ns places) (numbers_shown letters list rows) kept.table.placed in
+      subst (λ ns. ArePlacedTo (length (numbers_in rows)) ns places3) (sym numbers)
+      (placed_before (numbers_in rows) (numbers_in (moved_rows next (length letters) (length list) added)) places places3
+      (rows_within letters list next rows places kept.table.numbered.once kept.table.counted) same placed)
+
+  pub joined_kept : next + count ≤ no_number → (places3 words3 full3 : List ℕ) → length places3 ≡ next + count → ArePlaced (numbers_in rows3) places3
+      → words3 ≡ words ++ map (row_word seed theirs) added → full3 ≡ full ++ map (row_full_word seed theirs) added → IsKept seed (next + count) letters3 list3 rows3 places3 words3 full3
+  joined_kept room places3 words3 full3 long placed e1 e2 = record {
+    table = rw as_many (table_joined next next2 ours behind (entries_of letters3 list3 rows3) places places2 places3 words full (map (row_word seed theirs) added) (map (row_full_word seed theirs) added) words3 full3
+        joined e1 e2 (rw (← as_many) room) kept.table
+        (worded next2 seed2 seed behind places2 words2 full2 _ _ other.table (sym (words_shown theirs items seed added)) (sym (full_words_shown theirs items seed added)))
+        (rw (← as_many) long) (rows_placed letters3 list3 rows3 places3 placed));
+    fit = fit_joined letters theirs letters3 list items list3 is more next rows added rows3 put kept.fit other.fit;
+    listed =
+        let moved = listed_moved (length letters) (length list) next 0 (length items) added other.listed in
+        let none : length list + 0 ≡ length list = omega arith in
+        let long : length list3 ≡ length list + length items = ap length more ∙ length-append list items in
+        let after = subst (λ n. AreListed n (length list3) (moved_rows next (length letters) (length list) added)) none
+        (subst (λ n. AreListed (length list + 0) n (moved_rows next (length letters) (length list) added)) (sym long) moved) in
+        rw put (listed_both 0 (length list) (length list3) rows (moved_rows next (length letters) (length list) added) (omega arith) (omega (arith, long)) kept.listed after);
+  }
+
+  pub rows_joined : tables (next + count) (entries_of letters3 list3 rows3) ≡ with_all (length ours) (tables next2 behind) (tables next ours)
+  rows_joined = λ i. tables (next + as_many i) ((joined ∙ sym (behind_all ours (numbered_from next behind))) i)
 
 -- a change before others
 changed_before : {T : Type 0} (f : SectionEntry T → SectionEntry T) (es more : List (SectionEntry T)) (at : ℕ) → at < length es → changed_at f (es ++ more) at ≡ changed_at f es at ++ more
@@ -174,15 +138,6 @@ edited_before f all other at within =
     ∙ (λ i. take (length-changed g all.entries at i) (changed_at g all.entries at) ++ ns ++ drop (length-changed g all.entries at i) (changed_at g all.entries at)))
 
 -- what comes before them
-pub there_before : {T : Type 0} (all other : Sections T) (at : ℕ) (s t : T) → section_at at all ≡ Some s → section_at at (with_all (length all.entries) other all) ≡ Some t → t ≡ s
-there_before {T} all other at s t here there = go all.entries at here (subst (λ es. option_map (λ (e : SectionEntry T). e.section) (slice_get es at) ≡ Some t) (behind_all all.entries (numbered_from all.next other.entries)) there)
-  where
-    go : (es : List (SectionEntry T)) (n : ℕ) → option_map (λ (e : SectionEntry T). e.section) (slice_get es n) ≡ Some s
-        → option_map (λ (e : SectionEntry T). e.section) (slice_get (es ++ numbered_from all.next other.entries) n) ≡ Some t → t ≡ s
-    go [] n here there = absurd (cc)
-    go (e ∷ es) zero here there = cc
-    go (e ∷ es) (suc n) here there = go es n here there
-
 pub stays_before : {T : Type 0} (all other : Sections T) (at : ℕ) (s : T) → section_at at all ≡ Some s → section_at at (with_all (length all.entries) other all) ≡ Some s
 stays_before {T} all other at s here = subst (λ es. option_map (λ (e : SectionEntry T). e.section) (slice_get es at) ≡ Some s) (sym (behind_all all.entries (numbered_from all.next other.entries))) (go all.entries at here)
   where
@@ -198,13 +153,3 @@ no_fewer all other =
     let ns = numbered_from all.next other.entries in
     let is = ap length (behind_all all.entries ns) ∙ length-append all.entries ns in
     omega (arith, is)
-
--- what was put at a place is there
-pub put_there : {T : Type 0} (all : Sections T) (at : ℕ) (s t : T) → section_at at all ≡ Some s → section_at at (with_section all at t) ≡ Some t
-put_there {T} all at s t here = go all.entries at here
-  where
-    go : (es : List (SectionEntry T)) (n : ℕ) → option_map (λ (e : SectionEntry T). e.section) (slice_get es n) ≡ Some s
-        → option_map (λ (e : SectionEntry T). e.section) (slice_get (changed_at (λ e. record e { section = t }) es n) n) ≡ Some t
-    go [] n here = absurd (cc)
-    go (e ∷ es) zero here = refl
-    go (e ∷ es) (suc n) here = go es n here

@@ -1,50 +1,72 @@
--- The section at a place is changed, in the list or beside it.
-use Rattle.std.proofs.Common.{◌≡◌, ℕ, ◌≤◌, List, length, Some, Result, Ok, Err, ap, sym, subst, ◌∙◌}
+-- The row at a place is changed, and its body in the list or beside it.
+use Rattle.std.proofs.Common.{◌≡◌, ℕ, zero, suc, ◌<◌, ◌≤◌, List, [], ◌∷◌, length, get_or, set, Result, Ok, Err, refl, ap, sym, subst, ◌∙◌, arith}
 use Rattle.std.specs.Prelude.{IfOk, OnErr, OnOk}
 use Rattle.std.specs.Option.{option_map}
+use Rattle.std.proofs.lemmas.List.{length-map}
 use Rattle.gitconf_items.specs.declared.items.Item.{Item}
-use Rattle.gitconf_text.specs.Sections.{Sections, changed_at, edited_at, section_at, with_section}
-use Rattle.gitconf_table.proofs.SectionLemmas.{section_edited, tables}
+use Rattle.gitconf_text.specs.Sections.{edited_at, with_section}
+use Rattle.gitconf_sections.specs.declared.body.Body.{Body}
+use Rattle.gitconf_sections.specs.declared.body.Body.TheVariants.{Listed, Nothing, Own}
 use Rattle.gitconf_sections.specs.declared.row.Row.{Row}
-use Rattle.gitconf_sections.specs.Section.{AreListed, IsSameButIn, NeedsNoMore, Section, end_behind, read, read_all}
-use Rattle.gitconf_sections.proofs.Edits.{put_again}
-use Rattle.gitconf_sections.proofs.Mapped.{section_at_mapped, section_mapped}
-use Rattle.gitconf_sections.proofs.Listing.{body_changed, ends_within, listed_changed}
+use Rattle.gitconf_sections.specs.Letters.{name_part, part_of, subsection_part}
+use Rattle.gitconf_sections.specs.Rows.{entries_of, entry_of_row}
+use Rattle.gitconf_sections.specs.Section.{AreListed, IsSameButIn, NeedsNoMore, Section, end_behind, read}
+use Rattle.gitconf_sections.specs.Tables.{IsKept}
+use Rattle.gitconf_sections.proofs.Listing.{as_long, ends_within, entries_changed, listed_set}
+use Rattle.gitconf_sections.proofs.RowLemmas.{fit_set}
+use Rattle.gitconf_sections.proofs.SectionLemmas.{tables}
+use Rattle.gitconf_sections.proofs.TableLemmas.{table_edited}
 
--- what is read there
-pub read_there : (list : List Item) (table : Sections Row) (at : ℕ) (r : Row) → section_at at table ≡ Some r → section_at at (read_all list table) ≡ Some (read list r)
-read_there list table at r here = section_at_mapped (read list) at table ∙ ap (option_map (read list)) here
+-- there are as many rows as entries
+pub row_within : (letters : List ℕ) (list : List Item) (rows : List Row) (at : ℕ) → at < length (entries_of letters list rows) → at < length rows
+row_within letters list rows at within = omega (arith, within, length-map rows (entry_of_row letters list))
 
--- a change beside the body
-pub kept_row : (list : List Item) (table : Sections Row) (at : ℕ) (r t : Row) (f : Section → Section) → section_at at table ≡ Some r → read list t ≡ f (read list r)
-    → read_all list (with_section table at t) ≡ edited_at f at (read_all list table)
-kept_row list table at r t f here is =
-    section_mapped (read list) table at t ∙ section_edited f (read_all list table) at (read list r) (read list t) (read_there list table at r here) is
+-- a list is the same as itself
+pub same_list : (list : List Item) (body : Body) → IsSameButIn list list body
+same_list list (Listed from len) = record { long = refl; before = refl; behind = refl }
+same_list list (Own own) = refl
+same_list list Nothing = refl
 
--- a change of the body
-pub changed_row : (old new : List Item) (table : Sections Row) (at : ℕ) (r t : Row) (f : Section → Section) → AreListed 0 (length old) table.entries → section_at at table ≡ Some r → IsSameButIn old new r.body
-    → read new t ≡ f (read old r) → read_all new (with_section table at t) ≡ edited_at f at (read_all old table)
-changed_row old new table at r t f are here same is =
-    ap (tables table.next) (body_changed old new 0 (length old) table.entries at r t are here same)
-    ∙ section_edited f (read_all old table) at (read old r) (read new t) (read_there old table at r here) is
+-- a row that is put where it is
+set_back : (rows : List Row) (at : ℕ) (r : Row) → r ≡ get_or rows at r → set rows at r ≡ rows
+set_back [] at r is = refl
+set_back (x ∷ rows) zero r is = ap (λ y. y ∷ rows) is
+set_back (x ∷ rows) (suc at) r is = ap (λ ys. x ∷ ys) (set_back rows at r is)
 
-pub still_listed : (old new : List Item) (table : Sections Row) (at : ℕ) (r t : Row) → AreListed 0 (length old) table.entries → section_at at table ≡ Some r → NeedsNoMore r.body t.body
-    → length new ≡ length old → AreListed 0 (length new) (changed_at (λ e. record e { section = t }) table.entries at)
-still_listed old new table at r t are here less long =
-    subst (λ n. AreListed 0 n (changed_at (λ e. record e { section = t }) table.entries at)) (sym long) (listed_changed 0 (length old) table.entries at r t are here less)
+module _ {seed next : ℕ} {letters : List ℕ} {old : List Item} {rows : List Row} {places words full : List ℕ} (kept : IsKept seed next letters old rows places words full)
+    (new : List Item) (at : ℕ) (r t : Row) (within : at < length rows) (is : r ≡ get_or rows at r) (id : t.id ≡ r.id) (names : t.names ≡ r.names) (same : IsSameButIn old new r.body) where
+  shows : (section : Section) → read new t ≡ section → entry_of_row letters new t ≡ record (entry_of_row letters old r) { section = section }
+  shows section shown = λ i. record {
+    number = id i;
+    name = part_of letters (name_part (names i));
+    subsection = option_map (part_of letters) (subsection_part (names i));
+    section = shown i;
+  }
 
-pub body_within : (list : List Item) (table : Sections Row) (at : ℕ) (r : Row) → AreListed 0 (length list) table.entries → section_at at table ≡ Some r → end_behind 0 r.body ≤ length list
-body_within list table at r are here = ends_within 0 (length list) table.entries at r are here
+  -- what is read then
+  pub row_edited : (f : Section → Section) → read new t ≡ f (read old r) → tables next (entries_of letters new (set rows at t)) ≡ edited_at f at (tables next (entries_of letters old rows))
+  row_edited f shown = ap (tables next) (entries_changed letters old new t (λ e. record e { section = f e.section }) rows at r kept.listed within is same (shows (f (read old r)) shown))
 
--- a change of the list and of a body that was undone
-pub undone_row : (old new : List Item) (table : Sections Row) (at : ℕ) (r t : Row) → section_at at table ≡ Some r → new ≡ old → t ≡ r → read_all new (with_section table at t) ≡ read_all old table
-undone_row old new table at r t here same is = (λ i. read_all (same i) (with_section table at (is i))) ∙ ap (read_all old) (put_again table at r here)
+  pub row_put : tables next (entries_of letters new (set rows at t)) ≡ with_section (tables next (entries_of letters old rows)) at (read new t)
+  row_put = ap (tables next) (entries_changed letters old new t (λ e. record e { section = read new t }) rows at r kept.listed within is same (shows (read new t) refl))
 
--- a row with another list for what is held, in which the same is
-pub held_row : (list : List Item) (table : Sections Row) (at : ℕ) (r t : Row) → section_at at table ≡ Some r → read list t ≡ read list r → read_all list (with_section table at t) ≡ read_all list table
-held_row list table at r t here is =
-    section_mapped (read list) table at t ∙ ap (with_section (read_all list table) at) is
-    ∙ put_again (read_all list table) at (read list r) (read_there list table at r here)
+  -- what is kept besides the rows is right then
+  pub row_kept : NeedsNoMore r.body t.body → IsKept seed next letters new (set rows at t) places words full
+  row_kept less = record {
+    table = table_edited next at (entries_of letters old rows) _ places words full (read new t)
+        (entries_changed letters old new t (λ e. record e { section = read new t }) rows at r kept.listed within is same (shows (read new t) refl)) kept.table;
+    fit = fit_set (length letters) rows at r t is names kept.fit;
+    listed = subst (λ n. AreListed 0 n (set rows at t)) (sym (as_long old new r.body same)) (listed_set 0 (length old) rows at r t kept.listed is less);
+  }
+
+  -- a change that was undone
+  pub row_undone : t ≡ r → new ≡ old → tables next (entries_of letters new (set rows at t)) ≡ tables next (entries_of letters old rows)
+  row_undone back list = λ i. tables next (entries_of letters (list i) ((ap (set rows at) back ∙ set_back rows at r is) i))
+
+-- the body of a row ends within the list
+pub body_within : {seed next : ℕ} {letters : List ℕ} {list : List Item} {rows : List Row} {places words full : List ℕ} → IsKept seed next letters list rows places words full → (at : ℕ) (r : Row) → at < length rows → r ≡ get_or rows at r
+    → end_behind 0 r.body ≤ length list
+body_within {list = list} {rows = rows} kept at r within is = ends_within (length list) rows at r kept.listed within is
 
 -- either way
 pub either : {A E : Type 0} {P Q R : Type 0} (r : Result A E) → (P → R) → (Q → R) → OnOk r P → OnErr r Q → R

@@ -1,12 +1,13 @@
 -- A section whose items are removed, changed and put back.
-use Rattle.std.proofs.Common.{◌≡◌, ℕ, ◌<◌, zero, suc, arith, length, List, [], ◌∷◌, Option, Some, None, refl, ap, sym, ◌∙◌}
+use Rattle.std.proofs.Common.{◌≡◌, ℕ, ◌<◌, zero, suc, arith, length, List, [], ◌∷◌, ◌++◌, Option, Some, None, refl, ap, sym, ◌∙◌}
 use Rattle.std.specs.List.{slice_get}
 use Rattle.std.specs.Option.{option_map}
 use Rattle.std.specs.Prelude.{IfSome}
 use Rattle.gitconf_items.specs.declared.items.Item.{Item}
 use Rattle.gitconf_text.specs.Sections.{SectionEntry, Sections, changed_at, edited_at, section_at, with_section}
-use Rattle.gitconf_table.proofs.SectionLemmas.{section_edited, tables}
-use Rattle.gitconf_sections.specs.Section.{Section, with_items}
+use Rattle.gitconf_sections.proofs.SectionLemmas.{section_edited, tables}
+use Rattle.gitconf_sections.specs.Section.{Section, holding, with_items}
+use Rattle.gitconf_sections.proofs.Adding.{length-changed}
 
 -- one change after another
 changed_twice : {T : Type 0} (f g : T → T) (es : List (SectionEntry T)) (at : ℕ)
@@ -62,12 +63,31 @@ is_taken all taken at items had is = go (section_at at all) refl had
         }
 
 -- there are as many as before
-pub taken_within : (all taken : Sections Section) (at : ℕ) → taken ≡ edited_at (with_items []) at all → at < length all.entries → at < length taken.entries
-taken_within all taken at is within =
-    let same = ap (λ (t : Sections Section). length t.entries) is ∙ go all.entries at in
+pub edited_within : {T : Type 0} (f : T → T) (all edited : Sections T) (at : ℕ) → edited ≡ edited_at f at all → at < length all.entries → at < length edited.entries
+edited_within f all edited at is within =
+    let same = ap (λ (t : Sections _). length t.entries) is ∙ length-changed (λ e. record e { section = f e.section }) all.entries at in
     omega (arith, same, within)
+
+pub taken_within : (all taken : Sections Section) (at : ℕ) → taken ≡ edited_at (with_items []) at all → at < length all.entries → at < length taken.entries
+taken_within all taken at is within = edited_within (with_items []) all taken at is within
+
+-- what is held at a place, put there again
+pub held_back : (all : Sections Section) (at : ℕ) (h : List Item) → option_map (λ (s : Section). s.held.items) (section_at at all) ≡ Some h → edited_at (λ s. record s { held = record { items = h } }) at all ≡ all
+held_back all at h had = ap (tables all.next) (go all.entries at had)
   where
-    go : (es : List (SectionEntry Section)) (n : ℕ) → length (changed_at (λ e. record e { section = with_items [] e.section }) es n) ≡ length es
-    go [] n = refl
-    go (e ∷ es) zero = refl
-    go (e ∷ es) (suc n) = ap suc (go es n)
+    go : (es : List (SectionEntry Section)) (n : ℕ) → option_map (λ (s : Section). s.held.items) (option_map (λ (e : SectionEntry Section). e.section) (slice_get es n)) ≡ Some h
+        → changed_at (λ e. record e { section = record e.section { held = record { items = h } } }) es n ≡ es
+    go [] n had = refl
+    go (e ∷ es) zero had = let same : e.section.held.items ≡ h = cc in ap (λ (xs : List Item). record e { section = record e.section { held = record { items = xs } } } ∷ es) (sym same)
+    go (e ∷ es) (suc n) had = ap (λ ds. e ∷ ds) (go es n had)
+
+-- and with more
+pub held_more : (all : Sections Section) (at : ℕ) (h more : List Item) → option_map (λ (s : Section). s.held.items) (section_at at all) ≡ Some h
+    → edited_at (λ s. record s { held = record { items = h ++ more } }) at all ≡ edited_at (holding more) at all
+held_more all at h more had = ap (tables all.next) (go all.entries at had)
+  where
+    go : (es : List (SectionEntry Section)) (n : ℕ) → option_map (λ (s : Section). s.held.items) (option_map (λ (e : SectionEntry Section). e.section) (slice_get es n)) ≡ Some h
+        → changed_at (λ e. record e { section = record e.section { held = record { items = h ++ more } } }) es n ≡ changed_at (λ e. record e { section = holding more e.section }) es n
+    go [] n had = refl
+    go (e ∷ es) zero had = let same : e.section.held.items ≡ h = cc in ap (λ (xs : List Item). record e { section = record e.section { held = record { items = xs ++ more } } } ∷ es) (sym same)
+    go (e ∷ es) (suc n) had = ap (λ ds. e ∷ ds) (go es n had)

@@ -1,19 +1,19 @@
 -- Bodies in the list that the sections share.
-use Rattle.std.proofs.Common.{◌≡◌, ℕ, zero, suc, ◌+◌, ◌-◌, ◌≤◌, List, [], ◌∷◌, ◌++◌, length, take, drop, map, filter, Bool, true, false, Some, inl, inr, refl, ap, sym, subst, ◌∙◌, arith}
-use Rattle.std.specs.List.{slice_get, AllByRecursion, AllZip}
-use Rattle.std.specs.Option.{option_map}
+use Rattle.std.proofs.Common.{◌≡◌, ℕ, zero, suc, ◌+◌, ◌-◌, ◌≤◌, List, [], ◌∷◌, ◌++◌, ◌<◌, length, take, drop, get_or, remove, set, inl, inr, refl, ap, sym, subst, ◌∙◌, arith}
+use Rattle.std.specs.List.{AllByRecursion, AllZip}
 use Rattle.std.proofs.lemmas.List.{drop-append-le, take-append-le, length-drop, map-append}
+use Rattle.std.proofs.Math.Seq.{drop-append-add}
 use Rattle.gitconf_items.specs.declared.items.Item.{Item}
-use Rattle.gitconf_table.specs.declared.runs.Run.{Run}
-use Rattle.gitconf_table.specs.Pairs.{EachToEach, EachTwo}
-use Rattle.gitconf_table.specs.Runs.{woven}
-use Rattle.gitconf_text.specs.Sections.{SectionEntry, changed_at, numbered_from}
-use Rattle.gitconf_table.proofs.Woven.{all_append, all_woven, map_woven, two_joined, woven_apart}
+use Rattle.gitconf_sections.specs.declared.runs.Run.{Run}
+use Rattle.gitconf_sections.specs.Pairs.{EachToEach, EachTwo}
+use Rattle.gitconf_sections.specs.Runs.{woven}
+use Rattle.gitconf_text.specs.Sections.{SectionEntry, changed_at}
+use Rattle.gitconf_sections.proofs.Woven.{all_append, all_woven, map_woven, two_joined, woven_apart}
 use Rattle.gitconf_sections.specs.declared.body.Body.{Body}
 use Rattle.gitconf_sections.specs.declared.body.Body.TheVariants.{Listed, Nothing, Own}
 use Rattle.gitconf_sections.specs.declared.row.Row.{Row}
-use Rattle.gitconf_sections.proofs.Mapped.{changed_mapped}
-use Rattle.gitconf_sections.specs.Section.{AreDisjoint, AreListed, IsBeside, IsSameBut, IsSameButIn, NeedsNoMore, StandsWithin, bodies_of, body_items, end_behind, read, read_entry}
+use Rattle.gitconf_sections.specs.Section.{AreDisjoint, AreListed, IsBeside, IsSameBut, IsSameButIn, NeedsNoMore, StandsWithin, Section, bodies_of, body_items, end_behind, rebased, seen_as}
+use Rattle.gitconf_sections.specs.Rows.{entries_of, entry_of_row, moved_rows}
 
 -- one body
 wider : (a b c d : ℕ) (body : Body) → c ≤ a → b ≤ d → StandsWithin a b body → StandsWithin c d body
@@ -60,7 +60,7 @@ less_disjoint Nothing (Listed start count) other is apart = absurd is
 less_disjoint body (Own own) other is apart = tt
 less_disjoint body Nothing other is apart = tt
 
-needs_itself : (body : Body) → NeedsNoMore body body
+pub needs_itself : (body : Body) → NeedsNoMore body body
 needs_itself (Listed from len) = (refl, omega arith)
 needs_itself (Own own) = tt
 needs_itself Nothing = tt
@@ -72,21 +72,16 @@ body_more list more from to (Listed start len) stands within =
 body_more list more from to (Own own) stands within = refl
 body_more list more from to Nothing stands within = refl
 
-entry_same : (old new : List Item) (e : SectionEntry Row) → body_items new e.section.body ≡ body_items old e.section.body → read_entry new e ≡ read_entry old e
-entry_same old new e same = λ i. record {
-  number = e.number;
-  name = e.name;
-  subsection = e.subsection;
-  section = record { header = e.section.header; meta = e.section.meta; items = record { items = same i }; held = record { items = e.section.held.items } };
-}
+entry_same : (letters : List ℕ) (old new : List Item) (r : Row) → body_items new r.body ≡ body_items old r.body → entry_of_row letters new r ≡ entry_of_row letters old r
+entry_same letters old new r same = λ i. record (entry_of_row letters old r) { section = seen_as r.header r.meta (same i) r.held.items }
 
 -- they are between places further apart
 all_wider : (a b c d : ℕ) (bodies : List Body) → c ≤ a → b ≤ d → AllByRecursion (StandsWithin a b) bodies → AllByRecursion (StandsWithin c d) bodies
 all_wider a b c d [] less more all = tt
 all_wider a b c d (x ∷ bodies) less more all = (wider a b c d x less more all.0, all_wider a b c d bodies less more all.1)
 
-pub listed_later : (from a b : ℕ) (es : List (SectionEntry Row)) → a ≤ b → AreListed from a es → AreListed from b es
-listed_later from a b es less are = (all_wider from a from b (bodies_of es) (omega arith) less are.0, are.1)
+pub listed_later : (from a b : ℕ) (rows : List Row) → a ≤ b → AreListed from a rows → AreListed from b rows
+listed_later from a b rows less are = (all_wider from a from b (bodies_of rows) (omega arith) less are.0, are.1)
 
 -- more of them after
 ones_behind : (a mid b : ℕ) (x : Body) (ys : List Body) → StandsWithin a mid x → AllByRecursion (StandsWithin mid b) ys → AllByRecursion (AreDisjoint x) ys
@@ -97,52 +92,36 @@ all_behind : (a mid b : ℕ) (xs ys : List Body) → AllByRecursion (StandsWithi
 all_behind a mid b [] ys all others = tt
 all_behind a mid b (x ∷ xs) ys all others = (ones_behind a mid b x ys all.0 others, all_behind a mid b xs ys all.1 others)
 
-pub listed_both : (from mid to : ℕ) (es ds : List (SectionEntry Row)) → from ≤ mid → mid ≤ to → AreListed from mid es → AreListed mid to ds → AreListed from to (es ++ ds)
-listed_both from mid to es ds less more are others =
-    let xs = bodies_of es in
-    let ys = bodies_of ds in
-    rw (map-append (λ (e : SectionEntry Row). e.section.body) es ds) (
-      all_append (StandsWithin from to) xs ys (all_wider from mid from to xs (omega arith) more are.0) (all_wider mid to from to ys less (omega arith) others.0),
+pub listed_both : (from mid to : ℕ) (rows more : List Row) → from ≤ mid → mid ≤ to → AreListed from mid rows → AreListed mid to more → AreListed from to (rows ++ more)
+listed_both from mid to rows more less further are others =
+    let xs = bodies_of rows in
+    let ys = bodies_of more in
+    rw (map-append (λ (r : Row). r.body) rows more) (
+      all_append (StandsWithin from to) xs ys (all_wider from mid from to xs (omega arith) further are.0) (all_wider mid to from to ys less (omega arith) others.0),
       two_joined AreDisjoint xs ys are.1 others.1 (all_behind from mid to xs ys are.0 others.0),
     )
 
--- fewer of them
-all_filtered : (P : Body → Type 0) (p : SectionEntry Row → Bool) (es : List (SectionEntry Row)) → AllByRecursion P (bodies_of es) → AllByRecursion P (bodies_of (filter p es))
-all_filtered P p [] all = tt
-all_filtered P p (e ∷ es) all = go (p e) refl (all_filtered P p es all.1)
-  where
-    go : (b : Bool) → p e ≡ b → AllByRecursion P (bodies_of (filter p es)) → AllByRecursion P (bodies_of (filter p (e ∷ es)))
-    go true h rest = rw h (all.0, rest)
-    go false h rest = rw h rest
+-- one fewer
+all_removed : (P : Body → Type 0) (rows : List Row) (at : ℕ) → AllByRecursion P (bodies_of rows) → AllByRecursion P (bodies_of (remove rows at))
+all_removed P [] zero all = tt
+all_removed P [] (suc at) all = tt
+all_removed P (r ∷ rows) zero all = all.1
+all_removed P (r ∷ rows) (suc at) all = (all.0, all_removed P rows at all.1)
 
-apart_filtered : (p : SectionEntry Row → Bool) (es : List (SectionEntry Row)) → EachTwo AreDisjoint (bodies_of es) → EachTwo AreDisjoint (bodies_of (filter p es))
-apart_filtered p [] apart = tt
-apart_filtered p (e ∷ es) apart = go (p e) refl (apart_filtered p es apart.1)
-  where
-    go : (b : Bool) → p e ≡ b → EachTwo AreDisjoint (bodies_of (filter p es)) → EachTwo AreDisjoint (bodies_of (filter p (e ∷ es)))
-    go true h rest = rw h (all_filtered (AreDisjoint e.section.body) p es apart.0, rest)
-    go false h rest = rw h rest
+apart_removed : (rows : List Row) (at : ℕ) → EachTwo AreDisjoint (bodies_of rows) → EachTwo AreDisjoint (bodies_of (remove rows at))
+apart_removed [] zero apart = tt
+apart_removed [] (suc at) apart = tt
+apart_removed (r ∷ rows) zero apart = apart.1
+apart_removed (r ∷ rows) (suc at) apart = (all_removed (AreDisjoint r.body) rows at apart.0, apart_removed rows at apart.1)
 
-pub listed_filter : (p : SectionEntry Row → Bool) (from to : ℕ) (es : List (SectionEntry Row)) → AreListed from to es → AreListed from to (filter p es)
-listed_filter p from to es are = (all_filtered (StandsWithin from to) p es are.0, apart_filtered p es are.1)
-
--- the same bodies
-pub same_listed : (from to : ℕ) (es ds : List (SectionEntry Row)) → bodies_of ds ≡ bodies_of es → AreListed from to es → AreListed from to ds
-same_listed from to es ds same are = rw same are
-
--- under other numbers
-bodies_renumbered : (next : ℕ) (es : List (SectionEntry Row)) → bodies_of (numbered_from next es) ≡ bodies_of es
-bodies_renumbered next [] = refl
-bodies_renumbered next (e ∷ es) = ap (λ bs. e.section.body ∷ bs) (bodies_renumbered (next + 1) es)
-
-pub listed_renumbered : (next from to : ℕ) (es : List (SectionEntry Row)) → AreListed from to es → AreListed from to (numbered_from next es)
-listed_renumbered next from to es are = same_listed from to es (numbered_from next es) (bodies_renumbered next es) are
+pub listed_removed : (from to : ℕ) (rows : List Row) (at : ℕ) → AreListed from to rows → AreListed from to (remove rows at)
+listed_removed from to rows at are = (all_removed (StandsWithin from to) rows at are.0, apart_removed rows at are.1)
 
 -- in another order
-pub listed_woven : (runs : List Run) (n from to : ℕ) (es : List (SectionEntry Row)) → AreListed from to es → AreListed from to (woven runs n es)
-listed_woven runs n from to es are =
-    rw (map_woven (λ (e : SectionEntry Row). e.section.body) runs n es)
-    (all_woven (StandsWithin from to) runs n (bodies_of es) are.0, woven_apart AreDisjoint disjoint_back runs n (bodies_of es) are.1)
+pub listed_woven : (runs : List Run) (n from to : ℕ) (rows : List Row) → AreListed from to rows → AreListed from to (woven runs n rows)
+listed_woven runs n from to rows are =
+    rw (map_woven (λ (r : Row). r.body) runs n rows)
+    (all_woven (StandsWithin from to) runs n (bodies_of rows) are.0, woven_apart AreDisjoint disjoint_back runs n (bodies_of rows) are.1)
 
 -- each needs no more of the list
 all_less : (from to : ℕ) (bodies less : List Body) → AllZip NeedsNoMore bodies less → AllByRecursion (StandsWithin from to) bodies → AllByRecursion (StandsWithin from to) less
@@ -166,26 +145,23 @@ apart_less [] (y ∷ less) zip apart = elim zip [ ]
 apart_less (x ∷ bodies) [] zip apart = elim zip [ ]
 apart_less (x ∷ bodies) (y ∷ less) zip apart = (beside_less x y bodies less zip.0 zip.1 apart.0, apart_less bodies less zip.1 apart.1)
 
-pub listed_less : (from to : ℕ) (es ds : List (SectionEntry Row)) → AllZip NeedsNoMore (bodies_of es) (bodies_of ds) → AreListed from to es → AreListed from to ds
-listed_less from to es ds less are = (all_less from to (bodies_of es) (bodies_of ds) less are.0, apart_less (bodies_of es) (bodies_of ds) less are.1)
+pub listed_less : (from to : ℕ) (rows others : List Row) → AllZip NeedsNoMore (bodies_of rows) (bodies_of others) → AreListed from to rows → AreListed from to others
+listed_less from to rows others less are = (all_less from to (bodies_of rows) (bodies_of others) less are.0, apart_less (bodies_of rows) (bodies_of others) less are.1)
 
 -- they are read the same where items are put after the list
-all_more : (list more : List Item) (from to : ℕ) (es : List (SectionEntry Row)) → AllByRecursion (StandsWithin from to) (bodies_of es) → to ≤ length list → map (read_entry (list ++ more)) es ≡ map (read_entry list) es
-all_more list more from to [] all within = refl
-all_more list more from to (e ∷ es) all within =
-    λ i. entry_same list (list ++ more) e (body_more list more from to e.section.body all.0 within) i ∷ all_more list more from to es all.1 within i
+all_more : (letters : List ℕ) (list more : List Item) (rows : List Row) → AllByRecursion (StandsWithin 0 (length list)) (bodies_of rows) → entries_of letters (list ++ more) rows ≡ entries_of letters list rows
+all_more letters list more [] all = refl
+all_more letters list more (r ∷ rows) all =
+    λ i. entry_same letters list (list ++ more) r (body_more list more 0 (length list) r.body all.0 (omega arith)) i ∷ all_more letters list more rows all.1 i
 
-pub read_more : (list more : List Item) (from to : ℕ) (es : List (SectionEntry Row)) → AreListed from to es → to ≤ length list → map (read_entry (list ++ more)) es ≡ map (read_entry list) es
-read_more list more from to es are within = all_more list more from to es are.0 within
+pub read_more : (letters : List ℕ) (list more : List Item) (rows : List Row) → AreListed 0 (length list) rows → entries_of letters (list ++ more) rows ≡ entries_of letters list rows
+read_more letters list more rows are = all_more letters list more rows are.0
 
--- what is at a place
-abbrev pub is_at : List (SectionEntry Row) → (at : ℕ) → Row → Type 0
-is_at es at r = option_map (λ (e : SectionEntry Row). e.section) (slice_get es at) ≡ Some r
-
-all_at : (P : Body → Type 0) (es : List (SectionEntry Row)) (at : ℕ) (r : Row) → AllByRecursion P (bodies_of es) → is_at es at r → P r.body
-all_at P [] at r all here = absurd (cc)
-all_at P (e ∷ es) zero r all here = let same : e.section ≡ r = cc in subst (λ (r : Row). P r.body) same all.0
-all_at P (e ∷ es) (suc at) r all here = all_at P es at r all.1 here
+-- the body at a place
+all_at : (P : Body → Type 0) (rows : List Row) (at : ℕ) (r : Row) → at < length rows → AllByRecursion P (bodies_of rows) → r ≡ get_or rows at r → P r.body
+all_at P [] at r within all is = absurd (omega (arith, within))
+all_at P (x ∷ rows) zero r within all is = subst (λ (r : Row). P r.body) (sym is) all.0
+all_at P (x ∷ rows) (suc at) r within all is = all_at P rows at r (omega (arith, within)) all.1 is
 
 -- A part of two lists that are the same there.
 part_before : (from len start count : ℕ) (old new : List Item) → IsSameBut from len old new → start + count ≤ from → take count (drop start new) ≡ take count (drop start old)
@@ -229,56 +205,53 @@ body_beside from len old new (Listed start count) same apart = elim apart [ inl 
 body_beside from len old new (Own own) same apart = refl
 body_beside from len old new Nothing same apart = refl
 
-all_beside : (from len : ℕ) (old new : List Item) (es : List (SectionEntry Row)) → IsSameBut from len old new → AllByRecursion (IsBeside from len) (bodies_of es) → map (read_entry new) es ≡ map (read_entry old) es
-all_beside from len old new [] same all = refl
-all_beside from len old new (e ∷ es) same all = λ i. entry_same old new e (body_beside from len old new e.section.body same all.0) i ∷ all_beside from len old new es same all.1 i
-
--- What is read where the body at a place is changed in the list.
-part_changed : (old new : List Item) (es : List (SectionEntry Row)) (at : ℕ) (r t : Row) (start len : ℕ) → EachTwo AreDisjoint (bodies_of es) → is_at es at r → r.body ≡ Listed start len
-    → IsSameBut start len old new → map (read_entry new) (changed_at (λ e. record e { section = t }) es at) ≡ changed_at (λ e. record e { section = read new t }) (map (read_entry old) es) at
-part_changed old new [] at r t start len apart here is same = absurd (cc)
-part_changed old new (e ∷ es) zero r t start len apart here is same =
-    let there : e.section ≡ r = cc in
-    let body : e.section.body ≡ Listed start len = ap (λ r. r.body) there ∙ is in
-    let others : AllByRecursion (IsBeside start len) (bodies_of es) = subst (λ b. AllByRecursion (AreDisjoint b) (bodies_of es)) body apart.0 in
-    ap (λ ds. record { number = e.number; name = e.name; subsection = e.subsection; section = read new t } ∷ ds) (all_beside start len old new es same others)
-part_changed old new (e ∷ es) (suc at) r t start len apart here is same =
-    let other : AreDisjoint r.body e.section.body = disjoint_back e.section.body r.body (all_at (AreDisjoint e.section.body) es at r apart.0 here) in
-    let beside : IsBeside start len e.section.body = subst (λ b. AreDisjoint b e.section.body) is other in
-    λ i. entry_same old new e (body_beside start len old new e.section.body same beside) i ∷ part_changed old new es at r t start len apart.1 here is same i
+all_beside : (letters : List ℕ) (from len : ℕ) (old new : List Item) (rows : List Row) → IsSameBut from len old new → AllByRecursion (IsBeside from len) (bodies_of rows) → entries_of letters new rows ≡ entries_of letters old rows
+all_beside letters from len old new [] same all = refl
+all_beside letters from len old new (r ∷ rows) same all =
+    λ i. entry_same letters old new r (body_beside from len old new r.body same all.0) i ∷ all_beside letters from len old new rows same all.1 i
 
 -- The body at a place needs no more of the list.
 all_themselves : (bodies : List Body) → AllZip NeedsNoMore bodies bodies
 all_themselves [] = tt
 all_themselves (b ∷ bodies) = (needs_itself b, all_themselves bodies)
 
-one_less : (es : List (SectionEntry Row)) (at : ℕ) (r t : Row) → is_at es at r → NeedsNoMore r.body t.body → AllZip NeedsNoMore (bodies_of es) (bodies_of (changed_at (λ e. record e { section = t }) es at))
-one_less [] at r t here less = tt
-one_less (e ∷ es) zero r t here less = let there : e.section ≡ r = cc in (subst (λ (r : Row). NeedsNoMore r.body t.body) (sym there) less, all_themselves (bodies_of es))
-one_less (e ∷ es) (suc at) r t here less = (needs_itself e.section.body, one_less es at r t here less)
+one_less : (rows : List Row) (at : ℕ) (r t : Row) → r ≡ get_or rows at r → NeedsNoMore r.body t.body → AllZip NeedsNoMore (bodies_of rows) (bodies_of (set rows at t))
+one_less [] at r t is less = tt
+one_less (x ∷ rows) zero r t is less = (subst (λ (r : Row). NeedsNoMore r.body t.body) is less, all_themselves (bodies_of rows))
+one_less (x ∷ rows) (suc at) r t is less = (needs_itself x.body, one_less rows at r t is less)
 
-pub listed_changed : (from to : ℕ) (es : List (SectionEntry Row)) (at : ℕ) (r t : Row) → AreListed from to es → is_at es at r → NeedsNoMore r.body t.body → AreListed from to (changed_at (λ e. record e { section = t }) es at)
-listed_changed from to es at r t are here less = listed_less from to es (changed_at (λ e. record e { section = t }) es at) (one_less es at r t here less) are
+pub listed_set : (from to : ℕ) (rows : List Row) (at : ℕ) (r t : Row) → AreListed from to rows → r ≡ get_or rows at r → NeedsNoMore r.body t.body → AreListed from to (set rows at t)
+listed_set from to rows at r t are is less = listed_less from to rows (set rows at t) (one_less rows at r t is less) are
 
--- a body that stays
-pub listed_kept : (from to : ℕ) (es : List (SectionEntry Row)) (at : ℕ) (r t : Row) → AreListed from to es → is_at es at r → t.body ≡ r.body → AreListed from to (changed_at (λ e. record e { section = t }) es at)
-listed_kept from to es at r t are here same = listed_changed from to es at r t are here (subst (NeedsNoMore r.body) (sym same) (needs_itself r.body))
+-- What is read where a row is changed, and its body in the list or beside it.
+module _ (letters : List ℕ) (old new : List Item) (t : Row) (f : SectionEntry Section → SectionEntry Section) where
+  row_changed : new ≡ old → (rows : List Row) (at : ℕ) (r : Row) → r ≡ get_or rows at r → entry_of_row letters new t ≡ f (entry_of_row letters old r)
+      → entries_of letters new (set rows at t) ≡ changed_at f (entries_of letters old rows) at
+  row_changed same [] at r is shows = refl
+  row_changed same (x ∷ rows) zero r is shows = λ i. (shows ∙ ap (λ r. f (entry_of_row letters old r)) is) i ∷ entries_of letters (same i) rows
+  row_changed same (x ∷ rows) (suc at) r is shows = λ i. entry_of_row letters (same i) x ∷ row_changed same rows at r is shows i
 
--- What is read where the body at a place is changed, in the list or beside it.
-pub body_changed : (old new : List Item) (from to : ℕ) (es : List (SectionEntry Row)) (at : ℕ) (r t : Row) → AreListed from to es → is_at es at r → IsSameButIn old new r.body
-    → map (read_entry new) (changed_at (λ e. record e { section = t }) es at) ≡ changed_at (λ e. record e { section = read new t }) (map (read_entry old) es) at
-body_changed old new from to es at r t are here same = go r.body refl same
-  where
-    unchanged : new ≡ old → map (read_entry new) (changed_at (λ e. record e { section = t }) es at) ≡ changed_at (λ e. record e { section = read new t }) (map (read_entry old) es) at
-    unchanged is =
-        subst (λ l. map (read_entry l) (changed_at (λ e. record e { section = t }) es at) ≡ changed_at (λ e. record e { section = read l t }) (map (read_entry old) es) at) (sym is)
-        (changed_mapped (read old) (λ e. record e { section = t }) (λ e. record e { section = read old t }) (λ e. refl) es at)
+  part_changed : (start len : ℕ) → IsSameBut start len old new → (rows : List Row) (at : ℕ) (r : Row) → EachTwo AreDisjoint (bodies_of rows) → r.body ≡ Listed start len → at < length rows → r ≡ get_or rows at r
+      → entry_of_row letters new t ≡ f (entry_of_row letters old r) → entries_of letters new (set rows at t) ≡ changed_at f (entries_of letters old rows) at
+  part_changed start len same [] at r apart body within is shows = absurd (omega (arith, within))
+  part_changed start len same (x ∷ rows) zero r apart body within is shows =
+      let its : x.body ≡ Listed start len = ap (λ (r : Row). r.body) (sym is) ∙ body in
+      let others : AllByRecursion (IsBeside start len) (bodies_of rows) = subst (λ b. AllByRecursion (AreDisjoint b) (bodies_of rows)) its apart.0 in
+      λ i. (shows ∙ ap (λ r. f (entry_of_row letters old r)) is) i ∷ all_beside letters start len old new rows same others i
+  part_changed start len same (x ∷ rows) (suc at) r apart body within is shows =
+      let below : at < length rows = omega (arith, within) in
+      let other : AreDisjoint r.body x.body = disjoint_back x.body r.body (all_at (AreDisjoint x.body) rows at r below apart.0 is) in
+      let beside : IsBeside start len x.body = subst (λ b. AreDisjoint b x.body) body other in
+      λ i. entry_same letters old new x (body_beside start len old new x.body same beside) i ∷ part_changed start len same rows at r apart.1 body below is shows i
 
-    go : (b : Body) → r.body ≡ b → IsSameButIn old new b
-        → map (read_entry new) (changed_at (λ e. record e { section = t }) es at) ≡ changed_at (λ e. record e { section = read new t }) (map (read_entry old) es) at
-    go (Listed start len) is same = part_changed old new es at r t start len are.1 here is same
-    go (Own own) is same = unchanged same
-    go Nothing is same = unchanged same
+  pub entries_changed : (rows : List Row) (at : ℕ) (r : Row) → AreListed 0 (length old) rows → at < length rows → r ≡ get_or rows at r → IsSameButIn old new r.body
+      → entry_of_row letters new t ≡ f (entry_of_row letters old r) → entries_of letters new (set rows at t) ≡ changed_at f (entries_of letters old rows) at
+  entries_changed rows at r are within is same shows = go r.body refl same
+    where
+      go : (b : Body) → r.body ≡ b → IsSameButIn old new b → entries_of letters new (set rows at t) ≡ changed_at f (entries_of letters old rows) at
+      go (Listed start len) body same = part_changed start len same rows at r are.1 body within is shows
+      go (Own own) body same = row_changed same rows at r is shows
+      go Nothing body same = row_changed same rows at r is shows
 
 -- the list stays as long
 pub as_long : (old new : List Item) (body : Body) → IsSameButIn old new body → length new ≡ length old
@@ -287,10 +260,44 @@ as_long old new (Own own) same = ap length same
 as_long old new Nothing same = ap length same
 
 -- the body at a place ends within the list
-pub ends_within : (from to : ℕ) (es : List (SectionEntry Row)) (at : ℕ) (r : Row) → AreListed from to es → is_at es at r → end_behind 0 r.body ≤ to
-ends_within from to es at r are here = go r.body (all_at (StandsWithin from to) es at r are.0 here)
+pub ends_within : (to : ℕ) (rows : List Row) (at : ℕ) (r : Row) → AreListed 0 to rows → at < length rows → r ≡ get_or rows at r → end_behind 0 r.body ≤ to
+ends_within to rows at r are within is = go r.body (all_at (StandsWithin 0 to) rows at r within are.0 is)
   where
-    go : (b : Body) → StandsWithin from to b → end_behind 0 b ≤ to
+    go : (b : Body) → StandsWithin 0 to b → end_behind 0 b ≤ to
     go (Listed start len) stands = stands.1
     go (Own own) stands = omega arith
     go Nothing stands = omega arith
+
+-- Bodies of a list that is put after another.
+within_rebased : (by from to : ℕ) (body : Body) → StandsWithin from to body → StandsWithin (by + from) (by + to) (rebased by body)
+within_rebased by from to (Listed start len) stands = (omega (arith, stands.0), omega (arith, stands.1))
+within_rebased by from to (Own own) stands = tt
+within_rebased by from to Nothing stands = tt
+
+disjoint_rebased : (by : ℕ) (a b : Body) → AreDisjoint a b → AreDisjoint (rebased by a) (rebased by b)
+disjoint_rebased by (Listed start len) (Listed from count) apart = elim apart [ inl before ↦ inl (omega (arith, before)) | inr behind ↦ inr (omega (arith, behind)) ]
+disjoint_rebased by (Listed start len) (Own own) apart = tt
+disjoint_rebased by (Listed start len) Nothing apart = tt
+disjoint_rebased by (Own own) b apart = tt
+disjoint_rebased by Nothing b apart = tt
+
+module _ (behind by : ℕ) where
+  all_within : (next from to : ℕ) (rows : List Row) → AllByRecursion (StandsWithin from to) (bodies_of rows) → AllByRecursion (StandsWithin (by + from) (by + to)) (bodies_of (moved_rows next behind by rows))
+  all_within next from to [] all = tt
+  all_within next from to (r ∷ rows) all = (within_rebased by from to r.body all.0, all_within (next + 1) from to rows all.1)
+
+  all_disjoint : (next : ℕ) (b : Body) (rows : List Row) → AllByRecursion (AreDisjoint b) (bodies_of rows) → AllByRecursion (AreDisjoint (rebased by b)) (bodies_of (moved_rows next behind by rows))
+  all_disjoint next b [] all = tt
+  all_disjoint next b (r ∷ rows) all = (disjoint_rebased by b r.body all.0, all_disjoint (next + 1) b rows all.1)
+
+  all_apart : (next : ℕ) (rows : List Row) → EachTwo AreDisjoint (bodies_of rows) → EachTwo AreDisjoint (bodies_of (moved_rows next behind by rows))
+  all_apart next [] apart = tt
+  all_apart next (r ∷ rows) apart = (all_disjoint (next + 1) r.body rows apart.0, all_apart (next + 1) rows apart.1)
+
+  pub listed_moved : (next from to : ℕ) (rows : List Row) → AreListed from to rows → AreListed (by + from) (by + to) (moved_rows next behind by rows)
+  listed_moved next from to rows are = (all_within next from to rows are.0, all_apart next rows are.1)
+
+pub body_rebased : (list others : List Item) (body : Body) → body_items (list ++ others) (rebased (length list) body) ≡ body_items others body
+body_rebased list others (Listed start len) = ap (take len) (drop-append-add list others start)
+body_rebased list others (Own own) = refl
+body_rebased list others Nothing = refl

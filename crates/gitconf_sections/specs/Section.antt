@@ -1,5 +1,5 @@
 -- Sections with their bodies. The items of loaded sections are in one list, which the sections share.
-use Rattle.std.specs.Prelude.{◌≡◌, ◌⊎◌, ℕ, ◌+◌, ◌-◌, ◌≤◌, List, [], ◌++◌, length, map, take, drop}
+use Rattle.std.specs.Prelude.{◌≡◌, ◌⊎◌, ℕ, ◌+◌, ◌≤◌, List, [], ◌++◌, length, map, take, drop}
 use Rattle.std.specs.List.{AllByRecursion, AllZip}
 use Rattle.std.specs.declared.rc.Rc.{Rc}
 use Rattle.std.specs.declared.alloc.Global.{Global}
@@ -7,8 +7,7 @@ use Rattle.gitconf_sources.specs.Metadata.{Meta}
 use Rattle.gitconf_items.specs.declared.event.Header.{Header}
 use Rattle.gitconf_items.specs.declared.items.Item.{Item}
 use Rattle.gitconf_items.specs.contracts.items.ItemClone.TheImpl as item
-use Rattle.gitconf_table.specs.Pairs.{EachTwo}
-use Rattle.gitconf_text.specs.Sections.{SectionEntry, Sections, edited_at}
+use Rattle.gitconf_sections.specs.Pairs.{EachTwo}
 use Rattle.gitconf_sections.specs.declared.body.Body.{Body}
 use Rattle.gitconf_sections.specs.declared.body.Body.TheVariants.{Listed, Nothing, Own}
 use Rattle.gitconf_sections.specs.declared.row.Row.{Row}
@@ -31,17 +30,9 @@ body_items list (Listed from len) = take len (drop from list)
 body_items list (Own own) = own.value.items
 body_items list Nothing = []
 
--- a section as it is read from a row of the table, whose body may be in the shared list
+-- a section as it is read from a row, whose body may be in the shared list
 abbrev pub read : (list : List Item) → Row → Section
 read list r = record { header = r.header; meta = r.meta; items = record { items = body_items list r.body }; held = record { items = r.held.items } }
-
--- an entry of the table as it is read: its number and names, and the section of its row
-abbrev pub read_entry : (list : List Item) → SectionEntry Row → SectionEntry Section
-read_entry list e = record { number = e.number; name = e.name; subsection = e.subsection; section = read list e.section }
-
--- all sections of the table, as they are read
-abbrev pub read_all : (list : List Item) → Sections Row → Sections Section
-read_all list all = record { entries = map (read_entry list) all.entries; next = all.next }
 
 -- a section of these parts
 abbrev pub seen_as : Header → Rc Meta Global → (items held : List Item) → Section
@@ -75,13 +66,13 @@ AreDisjoint (Listed start len) other = IsBeside start len other
 AreDisjoint (Own own) other = Unit {0}
 AreDisjoint Nothing other = Unit {0}
 
--- the bodies of sections, in order
-abbrev pub bodies_of : List (SectionEntry Row) → List Body
-bodies_of es = map (λ e. e.section.body) es
+-- the bodies of rows, in order
+abbrev pub bodies_of : List Row → List Body
+bodies_of rows = map (λ r. r.body) rows
 
 -- the bodies that are in the list are there between two places, in any order, and no two share an item
-abbrev pub AreListed : (from to : ℕ) → List (SectionEntry Row) → Type 0
-AreListed from to es = AllByRecursion (StandsWithin from to) (bodies_of es) × EachTwo AreDisjoint (bodies_of es)
+abbrev pub AreListed : (from to : ℕ) → List Row → Type 0
+AreListed from to rows = AllByRecursion (StandsWithin from to) (bodies_of rows) × EachTwo AreDisjoint (bodies_of rows)
 
 -- a new section, with nothing held after it
 abbrev pub made : Header → Rc Meta Global → (items : List Item) → Section
@@ -120,18 +111,6 @@ abbrev pub rebased : (by : ℕ) → Body → Body
 rebased by (Listed start len) = Listed (by + start) len
 rebased by (Own own) = Own own
 rebased by Nothing = Nothing
-
--- a row whose body is in a list, after `by` items were put before those of the list
-abbrev pub rebased_row : (by : ℕ) → Row → Row
-rebased_row by r = record r { body = rebased by r.body }
-
--- an entry whose body is in a list, after `by` items were put before those of the list
-abbrev pub rebased_entry : (by : ℕ) → SectionEntry Row → SectionEntry Row
-rebased_entry by e = record { number = e.number; name = e.name; subsection = e.subsection; section = rebased_row by e.section }
-
--- all sections, after `by` items were put before those of their list
-abbrev pub all_rebased : (by : ℕ) → Sections Row → Sections Row
-all_rebased by all = record { entries = map (rebased_entry by) all.entries; next = all.next }
 
 -- the same section, with clones of its items
 pub record IsSectionClone (s copy : Section) : Type 0 where

@@ -1,6 +1,6 @@
 //! Where the items of a body are.
-ghost use Rattle.std.specs.Prelude.{◌≡◌, drop, take};
-ghost use Rattle.gitconf_sections.specs.Section.{body_items};
+ghost use Rattle.std.specs.Prelude.{◌≡◌, ◌+◌, ◌-◌, ◌^◌, ◌≤◌, drop, take};
+ghost use Rattle.gitconf_sections.specs.Section.{body_items, end_behind, rebased};
 
 use gitconf_items::items::Item;
 use std::mem::size_of;
@@ -37,5 +37,20 @@ pub(crate) fn body_items<'a>(list: &'a [Item], body: &'a Body) -> &'a [Item]
         Body::Listed { from, len } => part(list, *from as usize, *len as usize),
         Body::Own(own) => own.as_slice(),
         Body::Nothing => &[],
+    }
+}
+
+/// A body of a list, after `by` items were put before those of the list.
+pub(crate) fn rebased(body: Body, by: u32) -> Body
+    requires { end_behind 0 body + by ≤ 2 ^ 32 - 1 }
+    ensures { result ≡ rebased by body }
+{
+    match body {
+        Body::Listed { from, len } => Body::Listed {
+            from: by + from,
+            len,
+        },
+        Body::Own(own) => Body::Own(own),
+        Body::Nothing => Body::Nothing,
     }
 }

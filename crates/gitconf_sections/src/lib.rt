@@ -1,10 +1,15 @@
-//! The sections of a git configuration file with their bodies, in file order. The items of loaded sections are in one
-//! list, which they share.
+//! The sections of a git configuration file with their bodies, in file order, found by number and by name through an index
+//! over their names. The items of loaded sections are in one list, which they share.
 #![tactic(auto)]
 
 mod body;
 pub mod held;
+pub mod id;
+mod index;
+mod letters;
+mod lists;
 mod part;
-mod rebasing;
 pub mod row;
+pub mod runs;
 pub mod sections;
+mod word;

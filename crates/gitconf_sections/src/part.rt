@@ -7,10 +7,10 @@ ghost use Rattle.gitconf_sections.specs.LeavingOut.{is_next, without_all, Ascend
 ghost use Rattle.gitconf_sections.specs.Section.{body_items, end_behind, IsSameBut, IsSameButIn, NeedsNoMore};
 
 use crate::body::Body;
+use crate::id::SectionId;
 use gitconf_items::event::Span;
 use gitconf_items::items::Item;
 use gitconf_items::moving::move_items;
-use gitconf_table::table::SectionId;
 use gitconf_text::NoMemory;
 use std::alloc::{AllocError, Global};
 use std::mem::replace;

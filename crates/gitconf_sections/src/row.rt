@@ -1,18 +1,23 @@
-//! A section as the table keeps it, and as it is read.
+//! A section as the list keeps it, and as it is read.
 ghost use Rattle.std.specs.Prelude.{◌≡◌};
 ghost use Rattle.gitconf_sections.specs.Section.{read, viewed};
 
 use crate::body::{Body, body_items};
 use crate::held::Held;
+use crate::id::SectionId;
+use crate::letters::Names;
 use gitconf_items::event::Header;
 use gitconf_items::items::Item;
 use gitconf_sources::meta::Metadata;
 use std::alloc::Global;
 use std::rc::Rc;
 
-/// A section as the table keeps it: its header, where it comes from, where its body is, and the items held after it.
+/// A section as the list keeps it: its number, where its names are, its header, where it comes from, where its body is, and
+/// the items held after it.
 #[derive(Clone, Drop)]
 pub(crate) struct Row {
+    pub(crate) id: SectionId,
+    pub(crate) names: Names,
     pub(crate) header: Header,
     pub(crate) meta: Rc<Metadata>,
     pub(crate) body: Body,

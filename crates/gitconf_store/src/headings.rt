@@ -9,10 +9,10 @@ ghost use Rattle.gitconf_store.specs.Renamings.{marked_places, with_headers, Are
 
 use gitconf_items::event::Header;
 use gitconf_lookups::filters::passes;
+use gitconf_sections::id::SectionId;
 use gitconf_sections::sections::SectionList;
 use gitconf_sources::lists::put;
 use gitconf_sources::meta::Metadata;
-use gitconf_table::table::SectionId;
 use gitconf_text::NoMemory;
 use std::alloc::Global;
 

@@ -1,11 +1,18 @@
-//! The table of sections: its changes, and walks over it from both ends.
+//! The list of sections: its changes, and walks over it from both ends. What a section holds is told by the tag of a comment, its only item.
 
 use self::Step::{Change, Put, PutAll, Remove, Rename, Reseed};
 use crate::shim::{MOST, Outcome, begin, each_refused, was_refused};
-use gitconf_table::table::{SectionId, SectionTable};
+use gitconf_items::event::{Header, Span};
+use gitconf_items::items::Item;
+use gitconf_sections::id::SectionId;
+use gitconf_sections::row::Section;
+use gitconf_sections::runs::Run;
+use gitconf_sections::sections::SectionList;
+use gitconf_sources::meta::Metadata;
 use gitconf_text::NoMemory;
 use gitconf_text::parse::span;
 use std::alloc::Global;
+use std::rc::Rc;
 use std::test::Fail;
 
 /// A section's name and its subsection.
@@ -23,12 +30,12 @@ const BRANCH: Names<'static> = (b"branch", None);
 
 const OTHER: Names<'static> = (b"core", Some(b"\xff"));
 
-/// A change of a table; a section is given by its place, or by its number if it is removed.
+/// A change of a list; a section is given by its place, or by its number if it is removed.
 #[derive(Clone, Copy)]
 enum Step<'a> {
     /// Last.
     Put(Names<'a>, u8),
-    /// Before a section, all sections of another table.
+    /// Before a section, all sections of another list.
     PutAll(usize, &'a [(Names<'a>, u8)]),
     Remove(usize),
     Rename(usize, Names<'a>),
@@ -37,83 +44,167 @@ enum Step<'a> {
     Reseed(u64),
 }
 
+/// No name.
+const NOWHERE: Header = Header {
+    name: Span::NOTHING,
+    separator: None,
+    subsection: None,
+    decoded: None,
+};
+
+/// A list of one item, which has the tag.
+fn items_of(alloc: Global, tag: u8) -> Result<Vec<Item>, NoMemory> {
+    let mut items = Vec::with_capacity(alloc, 1)?;
+    items.push(Item::Comment {
+        tag,
+        text: Span::NOTHING,
+    })?;
+    Ok(items)
+}
+
+/// What a section holds: the tag of its first item; 0 if that is no comment.
+fn content_of(section: &Section<'_>) -> u8 {
+    match section.items.first() {
+        Some(Item::Comment { tag, .. }) => *tag,
+        _ => 0,
+    }
+}
+
+/// Puts a section in, with items in the list that all share.
+fn put(
+    alloc: Global,
+    table: &mut SectionList,
+    names: Names<'_>,
+    content: u8,
+) -> Result<SectionId, span::Error> {
+    let meta = Rc::new(alloc, Metadata::api())?;
+    let mut items = items_of(alloc, content)?;
+    table.push_loaded(names.0, names.1, NOWHERE, meta, &mut items)
+}
+
+/// The same, with items of its own.
+fn put_own(
+    alloc: Global,
+    table: &mut SectionList,
+    names: Names<'_>,
+    content: u8,
+) -> Result<SectionId, span::Error> {
+    let meta = Rc::new(alloc, Metadata::api())?;
+    let items = items_of(alloc, content)?;
+    table.push(names.0, names.1, NOWHERE, meta, items)
+}
+
 /// Puts a section in, then these, and removes the first.
-fn fill(table: &mut SectionTable<u8>, sections: &[(Names<'_>, u8)]) -> Result<(), span::Error> {
-    let first = table.push(b"x", None, b'x')?;
+fn fill(
+    alloc: Global,
+    table: &mut SectionList,
+    sections: &[(Names<'_>, u8)],
+) -> Result<(), span::Error> {
+    let first = put(alloc, table, (b"x", None), b'x')?;
     for (names, content) in sections {
-        table.push(names.0, names.1, *content)?;
+        put(alloc, table, *names, *content)?;
     }
     table.remove(first);
     Ok(())
 }
 
-/// A table of these sections, from which one was removed before.
-fn table_of(alloc: Global, sections: &[(Names<'_>, u8)]) -> Result<SectionTable<u8>, span::Error> {
-    let mut table = SectionTable::new(alloc);
-    fill(&mut table, sections)?;
+/// A list of these sections, from which one was removed before.
+fn table_of(alloc: Global, sections: &[(Names<'_>, u8)]) -> Result<SectionList, span::Error> {
+    let mut table = SectionList::new(alloc);
+    fill(alloc, &mut table, sections)?;
     Ok(table)
 }
 
 /// What is under a number.
-fn under(table: &SectionTable<u8>, id: SectionId) -> Option<u8> {
-    let at = table.position(id)?;
-    Some(*table.at(at))
+fn under(table: &SectionList, id: SectionId) -> Option<u8> {
+    let section = table.get(id)?;
+    Some(content_of(&section))
+}
+
+/// Moves the sections from `first` on to before the section at a place.
+fn weave_last(table: &mut SectionList, first: usize, at: usize) {
+    let len = table.len();
+    if first <= len && at <= first {
+        table.weave(
+            first,
+            &[Run {
+                ahead: at,
+                count: len - first,
+            }],
+        );
+    }
 }
 
 fn put_all(
     alloc: Global,
-    table: &mut SectionTable<u8>,
+    table: &mut SectionList,
     at: usize,
     sections: &[(Names<'_>, u8)],
 ) -> Result<(), span::Error> {
     let other = table_of(alloc, sections)?;
-    if at <= table.len() {
-        table.insert_all(at, other)?;
+    let first = table.len();
+    if at <= first {
+        table.append(other)?;
+        weave_last(table, first, at);
     }
     Ok(())
 }
 
-fn rename(table: &mut SectionTable<u8>, at: usize, names: Names<'_>) -> Result<(), NoMemory> {
+fn rename(table: &mut SectionList, at: usize, names: Names<'_>) -> Result<(), NoMemory> {
     if at < table.len() {
         table.rename_each(&[at], names.0, names.1)?;
     }
     Ok(())
 }
 
-fn change(table: &mut SectionTable<u8>, at: usize, content: u8) {
+/// Gives the section at a place other items.
+fn change(alloc: Global, table: &mut SectionList, at: usize, content: u8) -> Result<(), NoMemory> {
     if at < table.len() {
-        *table.at_mut(at) = content;
+        let items = Box::new(alloc, items_of(alloc, content)?)?;
+        table.put_items(at, items);
     }
+    Ok(())
+}
+
+/// Removes the section of a number, and returns what it held.
+fn remove(table: &mut SectionList, id: SectionId) -> Option<u8> {
+    let held = under(table, id);
+    table.remove(id);
+    held
 }
 
 /// Takes the step, and returns what is under the number that was given, or what was removed.
 fn take(
     alloc: Global,
-    table: &mut SectionTable<u8>,
+    table: &mut SectionList,
     numbers: &[SectionId],
     step: Step<'_>,
 ) -> Result<Option<u8>, span::Error> {
     match step {
         Put(names, content) => {
-            let id = table.push(names.0, names.1, content)?;
+            let id = put_own(alloc, table, names, content)?;
             return Ok(under(table, id));
         }
         PutAll(at, sections) => put_all(alloc, table, at, sections)?,
         Remove(number) => {
             let id = numbers.get(number).copied().unwrap_or_default();
-            return Ok(table.remove(id));
+            return Ok(remove(table, id));
         }
         Rename(at, names) => rename(table, at, names)?,
-        Change(at, content) => change(table, at, content),
+        Change(at, content) => change(alloc, table, at, content)?,
         Reseed(seed) => table.reseed(seed),
     }
     Ok(None)
 }
 
 /// The numbers that a table gives to sections that are put in.
-fn give(table: &mut SectionTable<u8>, numbers: &mut [SectionId]) -> Result<(), span::Error> {
+fn give(
+    alloc: Global,
+    table: &mut SectionList,
+    numbers: &mut [SectionId],
+) -> Result<(), span::Error> {
     for number in numbers.iter_mut() {
-        *number = table.push(b"", None, b'x')?;
+        *number = put(alloc, table, (b"", None), b'x')?;
     }
     Ok(())
 }
@@ -121,8 +212,8 @@ fn give(table: &mut SectionTable<u8>, numbers: &mut [SectionId]) -> Result<(), s
 /// The numbers that a table gives first.
 fn numbers(alloc: Global) -> Result<[SectionId; 11], span::Error> {
     let mut numbers = [SectionId::default(); 11];
-    let mut table = SectionTable::new(alloc);
-    give(&mut table, &mut numbers)?;
+    let mut table = SectionList::new(alloc);
+    give(alloc, &mut table, &mut numbers)?;
     Ok(numbers)
 }
 
@@ -136,35 +227,35 @@ fn behind(told: &[u8], at: usize, letter: u8) -> Option<usize> {
 }
 
 /// The place after the contents of all sections.
-fn behind_all(table: &SectionTable<u8>, told: &[u8]) -> Option<usize> {
+fn behind_all(table: &SectionList, told: &[u8]) -> Option<usize> {
     let mut at = 0;
-    for (_, content) in table.iter() {
-        at = behind(told, at, *content)?;
+    for (_, section) in table.iter() {
+        at = behind(told, at, content_of(&section))?;
     }
     Some(at)
 }
 
 /// The place after a `|` and the contents of the sections of the names.
-fn behind_named(table: &SectionTable<u8>, names: &Asked, told: &[u8], at: usize) -> Option<usize> {
+fn behind_named(table: &SectionList, names: &Asked, told: &[u8], at: usize) -> Option<usize> {
     let mut at = behind(told, at, b'|')?;
-    for (_, content) in table.named(names.0, names.1) {
-        at = behind(told, at, *content)?;
+    for (_, section) in table.named(names.0, names.1) {
+        at = behind(told, at, content_of(&section))?;
     }
     Some(at)
 }
 
 /// The same for the sections of one name.
-fn behind_name(table: &SectionTable<u8>, told: &[u8], at: usize) -> Option<usize> {
+fn behind_name(table: &SectionList, told: &[u8], at: usize) -> Option<usize> {
     let mut at = behind(told, at, b'|')?;
-    for (_, content) in table.with_name("Remote") {
-        at = behind(told, at, *content)?;
+    for (_, section) in table.with_name("Remote") {
+        at = behind(told, at, content_of(&section))?;
     }
     Some(at)
 }
 
 /// The same for what is under each number.
 fn behind_numbers(
-    table: &SectionTable<u8>,
+    table: &SectionList,
     numbers: &[SectionId],
     told: &[u8],
     at: usize,
@@ -187,7 +278,7 @@ static ASKED: [Asked; 4] = [
 ];
 
 /// The place after everything that is expected of a table.
-fn end(table: &SectionTable<u8>, numbers: &[SectionId], told: &[u8]) -> Option<usize> {
+fn end(table: &SectionList, numbers: &[SectionId], told: &[u8]) -> Option<usize> {
     let mut at = behind_all(table, told)?;
     for names in ASKED.iter() {
         at = behind_named(table, names, told, at)?;
@@ -198,14 +289,14 @@ fn end(table: &SectionTable<u8>, numbers: &[SectionId], told: &[u8]) -> Option<u
 
 /// Whether the table is as expected: the contents of all sections, of those of four names, and of those with a name, with
 /// a `|` after each of these lists; last what is under each number.
-fn is_told(table: &SectionTable<u8>, numbers: &[SectionId], told: &[u8]) -> bool {
+fn is_told(table: &SectionList, numbers: &[SectionId], told: &[u8]) -> bool {
     end(table, numbers, told) == Some(told.len())
 }
 
 /// Whether the step was taken. If a growth of it was refused instead, the table is as it was.
 fn is_taken(
     alloc: Global,
-    table: &mut SectionTable<u8>,
+    table: &mut SectionList,
     numbers: &[SectionId],
     row: &Row,
     before: &[u8],
@@ -225,7 +316,7 @@ fn is_taken(
 /// Takes the step, with each of its growths refused before, and returns whether the table is then as expected.
 fn leads_to(
     alloc: Global,
-    table: &mut SectionTable<u8>,
+    table: &mut SectionList,
     numbers: &[SectionId],
     row: &Row,
     before: &[u8],
@@ -317,7 +408,7 @@ fn told_before(rows: &[Row], at: usize) -> &'static [u8] {
 }
 
 /// Whether the table is as the rows say, step by step.
-fn goes_through(alloc: Global, table: &mut SectionTable<u8>, rows: &[Row]) -> Result<bool, Fail> {
+fn goes_through(alloc: Global, table: &mut SectionList, rows: &[Row]) -> Result<bool, Fail> {
     let numbers = numbers(alloc)?;
     for (at, row) in rows.iter().enumerate() {
         if !leads_to(alloc, table, &numbers, row, told_before(rows, at))? {
@@ -328,7 +419,7 @@ fn goes_through(alloc: Global, table: &mut SectionTable<u8>, rows: &[Row]) -> Re
 }
 
 fn are_changed(alloc: Global) -> Result<bool, Fail> {
-    let mut table = SectionTable::new(alloc);
+    let mut table = SectionList::new(alloc);
     goes_through(alloc, &mut table, &ROWS)
 }
 
@@ -344,13 +435,13 @@ const LEFT: &[u8] = b"dcwk";
 const RIGHT: &[u8] = b"didd";
 
 /// Whether the sections of the two subsections are told apart.
-fn are_told_apart(table: &SectionTable<u8>) -> bool {
+fn are_told_apart(table: &SectionList) -> bool {
     behind_named(table, &("Remote", Some(LEFT)), b"|ac", 0) == Some(3)
         && behind_named(table, &("remote", Some(RIGHT)), b"|b", 0) == Some(2)
 }
 
 /// The same before and after another seed.
-fn stay_apart(table: &mut SectionTable<u8>) -> bool {
+fn stay_apart(table: &mut SectionList) -> bool {
     if !are_told_apart(table) {
         return false;
     }
@@ -358,7 +449,7 @@ fn stay_apart(table: &mut SectionTable<u8>) -> bool {
     are_told_apart(table)
 }
 
-/// The same for a table that is filled here.
+/// The same for a list that is filled here.
 fn is_one_told_apart(alloc: Global) -> Result<bool, span::Error> {
     let left: Names<'_> = (b"remote", Some(LEFT));
     let right: Names<'_> = (b"REMOTE", Some(RIGHT));
@@ -384,58 +475,69 @@ fn names_of_one_word_are_told_apart(rt: HostRuntime) -> Result<(), Fail> {
 }
 
 /// Puts three sections of one name in, and another one, and returns the numbers of the three.
-fn three_of_one_name(table: &mut SectionTable<char>) -> Result<[SectionId; 3], span::Error> {
-    let first = table.push(b"core", None, 'a')?;
-    table.push(b"other", None, 'b')?;
-    let second = table.push(b"Core", None, 'c')?;
-    let third = table.push(b"CORE", None, 'd')?;
+fn three_of_one_name(
+    alloc: Global,
+    table: &mut SectionList,
+) -> Result<[SectionId; 3], span::Error> {
+    let first = put(alloc, table, (b"core", None), b'a')?;
+    put(alloc, table, (b"other", None), b'b')?;
+    let second = put_own(alloc, table, (b"Core", None), b'c')?;
+    let third = put(alloc, table, (b"CORE", None), b'd')?;
     Ok([first, second, third])
 }
 
+/// Whether an item of a walk is the section of a number, and holds this.
+fn is_item(item: &Option<(SectionId, Section<'_>)>, number: SectionId, content: u8) -> bool {
+    match item {
+        Some((id, section)) => *id == number && content_of(section) == content,
+        None => false,
+    }
+}
+
 /// Whether the sections of a name and no subsection are found from both ends.
-fn named_are_walked(table: &SectionTable<char>, numbers: &[SectionId; 3]) -> bool {
+fn named_are_walked(table: &SectionList, numbers: &[SectionId; 3]) -> bool {
     let [first, second, third] = *numbers;
     let mut named = table.named("core", None);
-    named.next_back() == Some((third, &'d'))
-        && named.next() == Some((first, &'a'))
-        && named.next_back() == Some((second, &'c'))
+    is_item(&named.next_back(), third, b'd')
+        && is_item(&named.next(), first, b'a')
+        && is_item(&named.next_back(), second, b'c')
         && named.next().is_none()
         && named.next_back().is_none()
 }
 
 /// The same for the sections of a name.
-fn with_name_are_walked(table: &SectionTable<char>, numbers: &[SectionId; 3]) -> bool {
+fn with_name_are_walked(table: &SectionList, numbers: &[SectionId; 3]) -> bool {
     let [first, second, third] = *numbers;
     let mut any = table.with_name("cORE");
-    any.next_back() == Some((third, &'d'))
-        && any.next() == Some((first, &'a'))
-        && any.next_back() == Some((second, &'c'))
+    is_item(&any.next_back(), third, b'd')
+        && is_item(&any.next(), first, b'a')
+        && is_item(&any.next_back(), second, b'c')
         && any.next_back().is_none()
 }
 
 /// The same for all sections: the last one, the first one, and two between them.
-fn all_are_walked(table: &SectionTable<char>, numbers: &[SectionId; 3]) -> bool {
+fn all_are_walked(table: &SectionList, numbers: &[SectionId; 3]) -> bool {
     let [first, _, third] = *numbers;
     let mut all = table.iter();
-    all.next_back() == Some((third, &'d')) && all.next() == Some((first, &'a')) && all.count() == 2
+    is_item(&all.next_back(), third, b'd') && is_item(&all.next(), first, b'a') && all.count() == 2
 }
 
 /// All three.
-fn are_walked(table: &SectionTable<char>, numbers: &[SectionId; 3]) -> bool {
+fn are_walked(table: &SectionList, numbers: &[SectionId; 3]) -> bool {
     named_are_walked(table, numbers)
         && with_name_are_walked(table, numbers)
         && all_are_walked(table, numbers)
 }
 
-/// The same for a table that is filled here.
-fn is_filled_and_walked(table: &mut SectionTable<char>) -> Result<bool, span::Error> {
-    let numbers = three_of_one_name(table)?;
+/// The same for a list that is filled here.
+fn is_filled_and_walked(alloc: Global, table: &mut SectionList) -> Result<bool, span::Error> {
+    let numbers = three_of_one_name(alloc, table)?;
     Ok(are_walked(table, &numbers))
 }
 
 fn is_one_walked(alloc: Global) -> Result<bool, span::Error> {
-    let mut table = SectionTable::new(alloc);
-    is_filled_and_walked(&mut table)
+    let mut table = SectionList::new(alloc);
+    is_filled_and_walked(alloc, &mut table)
 }
 
 #[test]
@@ -447,7 +549,7 @@ fn tables_are_walked_from_both_ends(rt: HostRuntime) -> Result<(), Fail> {
 /// A copy of a table has the same sections under the same numbers, or is refused with each growth.
 fn a_table_copied(
     alloc: Global,
-    table: &SectionTable<u8>,
+    table: &SectionList,
     numbers: &[SectionId],
 ) -> Result<Outcome, Fail> {
     let expected: &[u8] = b"cr|c||r||r|-cr--------";

@@ -15,7 +15,7 @@ use Rattle.gitconf_text.specs.Sections as table
 use Rattle.gitconf_state.specs.Edits.{numbered_from}
 use Rattle.gitconf_state.proofs.Edits.Keep.{holds_appended}
 use Rattle.gitconf_items.specs.Items.{items_of}
-use Rattle.gitconf_table.proofs.SectionLemmas.{section_edited}
+use Rattle.gitconf_sections.proofs.SectionLemmas.{section_edited}
 use Rattle.gitconf_sections.specs.Section.{Section, holding}
 use Rattle.gitconf_sections.proofs.Adding.{edited_before, stays_before}
 use Rattle.gitconf_sections.proofs.Edits.{put_again, there_is}

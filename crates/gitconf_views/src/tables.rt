@@ -6,8 +6,8 @@ ghost use Rattle.gitconf_views.specs.Viewed.{IsViewed};
 ghost use Rattle.gitconf_views.specs.Views.{shown};
 
 use crate::section::SectionRef;
+use gitconf_sections::id::SectionId;
 use gitconf_sections::row;
-use gitconf_table::table::SectionId;
 
 /// A view of a section that a table has under a number, over the buffer and the copies that its spans are offsets of.
 pub fn view_of<'a>(

@@ -1,15 +1,12 @@
 -- A file that is made of the entries that variables of the environment set, and its refusals.
 -- Source: git-config's manual page, under "ENVIRONMENT"; the order of refusals is gix-config's.
-use Rattle.std.specs.Prelude.{◌≡◌, ◌⊎◌, ◌<◌, ℕ, zero, suc, ◌+◌, ◌==◌, true, false, List, Option, Some, None, Result, Ok, Err}
+use Rattle.std.specs.Prelude.{◌≡◌, ◌⊎◌, ◌<◌, ℕ, zero, suc, ◌+◌, ◌==◌, true, false, List, Option, Some, None, Result, Ok, Err, codes}
 use Rattle.gitconf_text.specs.declared.parse.section.header.Error.{Error as HeaderError}
-use Rattle.gitconf_text.specs.HeaderErrors.{header_number}
 use Rattle.gitconf_sources.specs.Key.{Key, parsed_key}
 use Rattle.gitconf_sources.specs.Metadata.{Meta, meta_of_source}
 use Rattle.gitconf_sources.specs.declared.source.Source.TheVariants.{Env}
 use Rattle.gitconf_sources.specs.Reports.{FileReport, VariableReport}
 use Rattle.gitconf_sources.specs.declared.host.Places.{Places}
-use Rattle.gitconf_includes.specs.Rules.{rules_of}
-use Rattle.gitconf_includes.specs.declared.init.Options.{Options}
 use Rattle.gitconf_state.specs.Clean.{is_nameless}
 use Rattle.gitconf_state.specs.Edit.{made_header}
 use Rattle.gitconf_state.specs.Edits.{Push}
@@ -17,14 +14,12 @@ use Rattle.gitconf_state.specs.Editors.{Editor}
 use Rattle.gitconf_state.specs.State.{State}
 use Rattle.gitconf_includes.specs.Expansion.{Asks}
 use Rattle.gitconf_includes.specs.Laws.{IncludesHeaded}
-use Rattle.gitconf_includes.specs.Outcomes.{IsCause}
+use Rattle.gitconf_loaders.specs.Errors.{env_of_header, env_of_value, env_says}
+use Rattle.gitconf_loaders.specs.Refused.{NoDot, NotText, OutOfMemory, Refused}
 use Rattle.gitconf_loaders.specs.Resolving.{MakesOf}
 use Rattle.gitconf_loaders.specs.Globals.{empty_file, home_rules, IsOrEmpty}
 use Rattle.gitconf_loaders.specs.Paths.{left_by, Then}
-use Rattle.gitconf_loaders.specs.Variables.{IsCount, IsCountCause, IsEntryRefused, IsKeyAt, IsValueAt, reported_key, key_variable}
-use Rattle.gitconf_loaders.specs.declared.from_env.Error.{Error}
-use Rattle.gitconf_loaders.specs.declared.from_env.Error.TheVariants as env
-use Rattle.gitconf_body.specs.ValueErrors.{value_number}
+use Rattle.gitconf_loaders.specs.Variables.{IsCount, IsKeyAt, IsValueAt, reported_key, key_variable}
 use Rattle.gitconf_body.specs.declared.value.Error.{Error as ValueError}
 use Rattle.gitconf_body.specs.Refusals.{value_refusal}
 use Rattle.gitconf_store.specs.Edited.{IsEdited}
@@ -34,35 +29,36 @@ use Rattle.gix_config.specs.SectionEditors.{editor_at, IsFoundOrMade}
 abbrev pub Edited : Type 0
 Edited = State × (ℕ × Editor)
 
--- the value is pushed after the section's entries; one that isn't UTF-8 is refused
-abbrev pub IsValuePushed : (name : List ℕ) → (value : Option (List ℕ)) → Edited → Result State ℕ → Type 0
-IsValuePushed name None edited r = r ≡ Err 22
-IsValuePushed name (Some value) edited r =
-    (pushed : Result Unit ValueError) × (new : State) × IsEdited value_refusal (Push edited.1.0 edited.1.1 name (Some value) None) pushed edited.0 new × (r ≡ left_by value_number pushed new)
+-- the value of an entry is pushed after the section's entries; one that isn't UTF-8 is refused
+abbrev pub IsValuePushed : (index : ℕ) → (name : List ℕ) → (value : Option (List ℕ)) → Edited → Result State Refused → Type 0
+IsValuePushed index name None edited r = r ≡ Err (NotText index (codes "value"))
+IsValuePushed index name (Some value) edited r =
+    (pushed : Result Unit ValueError) × (new : State) × IsEdited value_refusal (Push edited.1.0 edited.1.1 name (Some value) None) pushed edited.0 new
+    × (r ≡ left_by (λ e. env_says (env_of_value e)) pushed new)
 
 -- the last section of the name and subsection, or one that is made if there is none
 abbrev pub IsSectionFor : Key → (old : State) → Result Edited HeaderError → Type 0
 IsSectionFor key old found = IsFoundOrMade (λ edited. edited.0) (λ edited. edited.1) (editor_at old) key.section key.subsection (λ _. true) old found
 
 -- a value is put into that section
-abbrev pub IsValuePut : Key → (value : Option (List ℕ)) → (old : State) → Result State ℕ → Type 0
-IsValuePut key value old r = (found : Result Edited HeaderError) × IsSectionFor key old found × elim found [
-  | Err e ↦ r ≡ Err (header_number e)
-  | Ok edited ↦ IsValuePushed key.name value edited r
+abbrev pub IsValuePut : (index : ℕ) → Key → (value : Option (List ℕ)) → (old : State) → Result State Refused → Type 0
+IsValuePut index key value old r = (found : Result Edited HeaderError) × IsSectionFor key old found × elim found [
+  | Err e ↦ r ≡ Err (env_says (env_of_header e))
+  | Ok edited ↦ IsValuePushed index key.name value edited r
 ]
 
 -- a value is put under a key, if the key's text has one; otherwise it is refused
-abbrev pub IsPutUnder : Option Key → (value : Option (List ℕ)) → (old : State) → Result State ℕ → Type 0
-IsPutUnder None value old r = r ≡ Err 25
-IsPutUnder (Some key) value old r = IsValuePut key value old r
+abbrev pub IsPutUnder : (index : ℕ) → (text : List ℕ) → Option Key → (value : Option (List ℕ)) → (old : State) → Result State Refused → Type 0
+IsPutUnder index text None value old r = r ≡ Err (NoDot index text)
+IsPutUnder index text (Some key) value old r = IsValuePut index key value old r
 
 -- an entry, counted from 0: its key and its value are asked, and then it is put into the file
-abbrev pub IsEntryPut : Option (List ℕ → VariableReport) → (index : ℕ) → (old : State) → Result State ℕ → Type 0
+abbrev pub IsEntryPut : Option (List ℕ → VariableReport) → (index : ℕ) → (old : State) → Result State Refused → Type 0
 IsEntryPut variables index old =
-    Then (IsKeyAt variables index) (λ key. Then (IsValueAt variables index) (λ value. λ r. (r ≡ Err 27) ⊎ IsPutUnder (parsed_key key) value old r))
+    Then (IsKeyAt variables index) (λ key. Then (IsValueAt variables index) (λ value. λ r. (r ≡ Err OutOfMemory) ⊎ IsPutUnder index key (parsed_key key) value old r))
 
 -- that many entries, from this one on
-abbrev pub AreEntriesPut : Option (List ℕ → VariableReport) → (left index : ℕ) → (old : State) → Result State ℕ → Type 0
+abbrev pub AreEntriesPut : Option (List ℕ → VariableReport) → (left index : ℕ) → (old : State) → Result State Refused → Type 0
 AreEntriesPut variables zero index old r = r ≡ Ok old
 AreEntriesPut variables (suc left) index old r = Then (IsEntryPut variables index old) (AreEntriesPut variables left (index + 1)) r
 
@@ -71,34 +67,23 @@ abbrev pub env_meta : Meta
 env_meta = meta_of_source Env
 
 -- a file was made
-abbrev pub IsSome : State → Result (Option State) ℕ → Type 0
+abbrev pub IsSome : State → Result (Option State) Refused → Type 0
 IsSome file r = r ≡ Ok (Some file)
 
 -- the file of that many entries, and then what it includes; nothing without entries
-abbrev pub IsMadeOfEntries : Option (List ℕ → VariableReport) → Asks → (count : ℕ) → Result (Option State) ℕ → Type 0
+abbrev pub IsMadeOfEntries : Option (List ℕ → VariableReport) → Asks → (count : ℕ) → Result (Option State) Refused → Type 0
 IsMadeOfEntries variables asks count r = elim (count == 0) [
   | true ↦ r ≡ Ok None
-  | false ↦ Then (AreEntriesPut variables count 0 (empty_file env_meta)) (λ file. Then (λ r. MakesOf (λ number. number) asks r (Ok file)) IsSome) r
+  | false ↦ Then (AreEntriesPut variables count 0 (empty_file env_meta)) (λ file. Then (λ r. MakesOf (λ why. why) asks r (Ok file)) IsSome) r
 ]
 
 -- first the count is asked; memory may run out
-abbrev pub IsFromEnv : Option (List ℕ → VariableReport) → Asks → Result (Option State) ℕ → Type 0
-IsFromEnv variables asks r = (r ≡ Err 27) ⊎ Then (IsCount variables) (IsMadeOfEntries variables asks) r
-
--- the refusal of the first of so many entries that can't be put into a file: those before it were
-abbrev pub IsFirstRefused : Option (List ℕ → VariableReport) → (count : ℕ) → (old : State) → Error → Type 0
-IsFirstRefused variables count old e = (index : ℕ) × (mid : State) × (index < count) × AreEntriesPut variables index 0 old (Ok mid) × IsEntryRefused variables index e
-
--- the causes of its refusals
-abbrev pub IsEnvCause : Option (List ℕ → VariableReport) → Options → Option (List ℕ → FileReport) → Error → Type 0
-IsEnvCause variables options table (env.Includes e) = IsCause options table e
-IsEnvCause variables options table (env.InvalidConfigCount input) = IsCountCause variables (env.InvalidConfigCount input)
-IsEnvCause variables options table env.Memory = Unit {0}
-IsEnvCause variables options table e = (count : ℕ) × IsCount variables (Ok count) × IsFirstRefused variables count (empty_file env_meta) e
+abbrev pub IsFromEnv : Option (List ℕ → VariableReport) → Asks → Result (Option State) Refused → Type 0
+IsFromEnv variables asks r = (r ≡ Err OutOfMemory) ⊎ Then (IsCount variables) (IsMadeOfEntries variables asks) r
 
 -- no key that variables set names a section `[]`, with an empty name and no subsection
 abbrev pub HaveSectionNames : (variables : List ℕ → VariableReport) → Type 0
-HaveSectionNames variables = (index : ℕ) (text : List ℕ) (key : Key) → ◌≡◌ {A = Result (List ℕ) ℕ} (reported_key (variables (key_variable index))) (Ok text) → parsed_key text ≡ Some key
+HaveSectionNames variables = (index : ℕ) (text : List ℕ) (key : Key) → ◌≡◌ {A = Result (List ℕ) Refused} (reported_key index (variables (key_variable index))) (Ok text) → parsed_key text ≡ Some key
     → is_nameless (made_header key.section key.subsection) ≡ false
 
 -- no file that the file of variables includes has an entry before its first section
@@ -106,9 +91,5 @@ abbrev pub IncludeHeaded : (variables : List ℕ → VariableReport) → Asks �
 IncludeHeaded variables asks = (count : ℕ) (file : State) → AreEntriesPut (Some variables) count 0 (empty_file env_meta) (Ok file) → IncludesHeaded asks.rules.max_depth asks file
 
 -- the overrides: includes know the home folder of the places, and without entries the file is empty
-abbrev pub IsOverrides : Option (List ℕ → VariableReport) → Places → Option (List ℕ → FileReport) → Result State ℕ → Type 0
-IsOverrides variables places table r = (r ≡ Err 27) ⊎ Then (IsFromEnv variables (record { rules = home_rules places; table = table })) IsOrEmpty r
-
--- the causes of its refusals; or memory ran out
-abbrev pub IsOverridesCause : Option (List ℕ → VariableReport) → Places → Option (List ℕ → FileReport) → Error → Type 0
-IsOverridesCause variables places table e = (e ≡ env.Memory) ⊎ (options : Options) × (rules_of options ≡ home_rules places) × IsEnvCause variables options table e
+abbrev pub IsOverrides : Option (List ℕ → VariableReport) → Places → Option (List ℕ → FileReport) → Result State Refused → Type 0
+IsOverrides variables places table r = (r ≡ Err OutOfMemory) ⊎ Then (IsFromEnv variables (record { rules = home_rules places; table = table })) IsOrEmpty r

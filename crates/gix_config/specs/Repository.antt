@@ -9,24 +9,20 @@ use Rattle.gitconf_sources.specs.Key.{Key}
 use Rattle.gitconf_sources.specs.Metadata.{Meta}
 use Rattle.gitconf_sources.specs.declared.source.Source.TheVariants.{Local, Worktree}
 use Rattle.gitconf_sources.specs.Reports.{FileReport, VariableReport}
+use Rattle.gitconf_sources.specs.declared.fault.FileFault.{FileFault}
 use Rattle.gitconf_sources.specs.declared.host.Places.{Places}
-use Rattle.gitconf_includes.specs.Rules.{Rules, rules_of}
-use Rattle.gitconf_includes.specs.declared.init.Options.{Options}
+use Rattle.gitconf_includes.specs.Rules.{Rules}
 use Rattle.gitconf_state.specs.State.{entries_of, State}
 use Rattle.gitconf_includes.specs.Expansion.{Asks}
 use Rattle.gitconf_includes.specs.Laws.{IncludesHeaded}
-use Rattle.gitconf_includes.specs.Outcomes.{IsCause}
 use Rattle.gitconf_lookups.specs.Lookups.{implicit_at}
 use Rattle.gitconf_loaders.specs.Resolving.{MakesOf}
-use Rattle.gitconf_loaders.specs.Causes.{IsFileCause}
-use Rattle.gitconf_loaders.specs.Globals.{home_rules, IsGlobal, IsGlobalCause}
+use Rattle.gitconf_loaders.specs.Globals.{home_rules, IsGlobal}
 use Rattle.gitconf_loaders.specs.Headed.{AreHeadedAt}
-use Rattle.gitconf_loaders.specs.Paths.{has_room_behind, IsAppendedTo, IsLoadedFrom, Then}
-use Rattle.gitconf_loaders.specs.declared.from_git_dir.Error.{Error}
-use Rattle.gitconf_loaders.specs.declared.from_git_dir.Error.TheVariants as git
-use Rattle.gitconf_loaders.specs.declared.from_paths.Error.{Error as PathsError}
+use Rattle.gitconf_loaders.specs.Paths.{Around, has_room_behind, IsAppendedTo, IsLoadedFrom, Then}
+use Rattle.gitconf_loaders.specs.Refused.{BadFile, BadVariables, NoRoom, OutOfMemory, Refused}
 use Rattle.gix_config.specs.declared.file.init.repository.Parts.{Parts}
-use Rattle.gix_config.specs.Environment.{IncludeHeaded, IsOverrides, IsOverridesCause}
+use Rattle.gix_config.specs.Environment.{IncludeHeaded, IsOverrides}
 use Rattle.gix_config.specs.Typed.{boolean_or_refusal}
 
 -- the path of the repository's configuration
@@ -56,38 +52,38 @@ abbrev pub worktree_path : (folder : List ℕ) → List ℕ
 worktree_path folder = join folder (codes "config.worktree")
 
 -- the worktree's configuration, loaded without its includes, if the repository has one
-abbrev pub IsWorktree : Option (List ℕ → FileReport) → (folder : List ℕ) → (local : State) → Result (Option State) ℕ → Type 0
+abbrev pub IsWorktree : Option (List ℕ → FileReport) → (folder : List ℕ) → (local : State) → Result (Option State) Refused → Type 0
 IsWorktree table folder local r = elim (has_worktree local) [
   | true ↦ Then (IsLoadedFrom table (worktree_path folder) Worktree) (λ worktree. λ r. r ≡ Ok (Some worktree)) r
   | false ↦ r ≡ Ok None
 ]
 
 -- the rules of the includes: the user's home folder and the folder of the repository are known, and no branch
-abbrev pub repository_rules : Places → (folder : List ℕ) → (real : Option (List ℕ)) → Rules
+abbrev pub repository_rules : Places → (folder : List ℕ) → (real : Result (List ℕ) FileFault) → Rules
 repository_rules places folder real = record (home_rules places) { homes = None; git_dir = Some (record { path = folder; real = real }) }
 
 -- a file with what it includes
-abbrev pub IsExpanded : Asks → (file : State) → Result State ℕ → Type 0
-IsExpanded asks file r = MakesOf (λ number. number) asks r (Ok file)
+abbrev pub IsExpanded : Asks → (file : State) → Result State Refused → Type 0
+IsExpanded asks file r = MakesOf (λ why. why) asks r (Ok file)
 
 -- a file is appended to another one; memory may run out
-abbrev pub IsPutBehind : (target other : State) → Result State ℕ → Type 0
-IsPutBehind target other r = (r ≡ Err 27) ⊎ elim (has_room_behind target other) [
+abbrev pub IsPutBehind : (target other : State) → Result State Refused → Type 0
+IsPutBehind target other r = (r ≡ Err OutOfMemory) ⊎ elim (has_room_behind target other) [
   | true ↦ (now : State) × IsAppendedTo target other now × (r ≡ Ok now)
-  | false ↦ r ≡ Err 3
+  | false ↦ r ≡ Err (NoRoom 3)
 ]
 
 -- a file is expanded, and then appended to another one
-abbrev pub IsExpandedBehind : Asks → (target : State) → (file : State) → Result State ℕ → Type 0
+abbrev pub IsExpandedBehind : Asks → (target : State) → (file : State) → Result State Refused → Type 0
 IsExpandedBehind asks target file = Then (IsExpanded asks file) (IsPutBehind target)
 
 -- the same for the worktree's file, if there is one
-abbrev pub IsWorktreeBehind : Asks → (worktree : Option State) → (target : State) → Result State ℕ → Type 0
+abbrev pub IsWorktreeBehind : Asks → (worktree : Option State) → (target : State) → Result State Refused → Type 0
 IsWorktreeBehind asks None target r = r ≡ Ok target
 IsWorktreeBehind asks (Some worktree) target r = IsExpandedBehind asks target worktree r
 
 -- a repository's own file, and then its worktree's
-abbrev pub IsOwnBehind : Asks → (local : State) → (worktree : Option State) → (target : State) → Result State ℕ → Type 0
+abbrev pub IsOwnBehind : Asks → (local : State) → (worktree : Option State) → (target : State) → Result State Refused → Type 0
 IsOwnBehind asks local worktree target = Then (IsExpandedBehind asks target local) (IsWorktreeBehind asks worktree)
 
 -- the files of a repository: its own, that of its worktree, and that of the machine and of the user
@@ -102,26 +98,26 @@ parts_of parts = record { local = parts.own.local; worktree = parts.own.worktree
 
 module _ (variables : Option (List ℕ → VariableReport)) (places : Places) (table : Option (List ℕ → FileReport)) where
   -- The files are read: first the repository's, then that of its worktree, then those of the machine and of the user; memory may run out.
-  abbrev pub IsReadOf : (path folder : List ℕ) → Result RepositoryFiles ℕ → Type 0
-  IsReadOf path folder r = (r ≡ Err 27) ⊎ Then (IsLoadedFrom table path Local) (λ local. Then (IsWorktree table folder local)
+  abbrev pub IsReadOf : (path folder : List ℕ) → Result RepositoryFiles Refused → Type 0
+  IsReadOf path folder r = (r ≡ Err OutOfMemory) ⊎ Then (IsLoadedFrom table path Local) (λ local. Then (IsWorktree table folder local)
       (λ worktree. Then (IsGlobal variables places table) (λ globals. λ r. r ≡ Ok (record { local = local; worktree = worktree; globals = globals })))) r
 
   -- the overrides are appended to a file
-  abbrev pub AreOverridesBehind : (target : State) → Result State ℕ → Type 0
-  AreOverridesBehind target = Then (IsOverrides variables places table) (IsPutBehind target)
+  abbrev pub AreOverridesBehind : (target : State) → Result State Refused → Type 0
+  AreOverridesBehind target = Then (Around BadVariables (IsOverrides variables places table)) (IsPutBehind target)
 
   -- the repository's own files are appended to a file, and then the overrides
-  abbrev pub AreOwnAndOverridesBehind : Asks → (local : State) → (worktree : Option State) → (target : State) → Result State ℕ → Type 0
+  abbrev pub AreOwnAndOverridesBehind : Asks → (local : State) → (worktree : Option State) → (target : State) → Result State Refused → Type 0
   AreOwnAndOverridesBehind asks local worktree target = Then (IsOwnBehind asks local worktree target) AreOverridesBehind
 
   -- All are expanded, each is appended to those before it, and the overrides come last.
-  abbrev pub IsJoined : Asks → RepositoryFiles → Result State ℕ → Type 0
+  abbrev pub IsJoined : Asks → RepositoryFiles → Result State Refused → Type 0
   IsJoined asks parts = Then (IsExpanded asks parts.globals) (AreOwnAndOverridesBehind asks parts.local parts.worktree)
 
   -- the configuration of the repository in that folder; memory may run out
-  abbrev pub IsRepository : (dir : List ℕ) → (real : Option (List ℕ)) → Result State ℕ → Type 0
-  IsRepository dir real r = (r ≡ Err 27)
-      ⊎ Then (IsReadOf (local_path dir) (folder_of (local_path dir))) (IsJoined (record { rules = repository_rules places (folder_of (local_path dir)) real; table = table })) r
+  abbrev pub IsRepository : (dir : List ℕ) → (real : Result (List ℕ) FileFault) → Result State Refused → Type 0
+  IsRepository dir real r = (r ≡ Err OutOfMemory)
+      ⊎ Then (Around BadFile (IsReadOf (local_path dir) (folder_of (local_path dir)))) (IsJoined (record { rules = repository_rules places (folder_of (local_path dir)) real; table = table })) r
 
 -- a file has no entry before its first section, nor has any that it includes
 abbrev pub IsHeadedWith : Asks → State → Type 0
@@ -133,43 +129,8 @@ AreHeadedWith asks parts = IsHeadedWith asks parts.local × IfSome parts.worktre
 
 -- No file that a repository's configuration is made of has an entry before its first section, nor has any that it includes: the files of the
 -- machine and of the user, as they are found; all that was read, as the repository expands it; and what the overrides include.
-pub record IsHeadedRepository (variables : List ℕ → VariableReport) (places : Places) (table : Option (List ℕ → FileReport)) (dir : List ℕ) (real : Option (List ℕ)) : Type 0 where
+pub record IsHeadedRepository (variables : List ℕ → VariableReport) (places : Places) (table : Option (List ℕ → FileReport)) (dir : List ℕ) (real : Result (List ℕ) FileFault) : Type 0 where
   pub globals : (found : List Meta) → AreFound (Some variables) places table global_sources found → AreHeadedAt true false (record { rules = home_rules places; table = table }) found
   pub files : (parts : RepositoryFiles) → IsReadOf (Some variables) places table (local_path dir) (folder_of (local_path dir)) (Ok parts)
       → AreHeadedWith (record { rules = repository_rules places (folder_of (local_path dir)) real; table = table }) parts
   pub overrides : IncludeHeaded variables (record { rules = home_rules places; table = table })
-
--- The cause of a refusal of the files that are read, besides its number: of the repository's, of its worktree's, or of those of the machine and of
--- the user.
-abbrev pub IsReadCause : Option (List ℕ → VariableReport) → Places → Option (List ℕ → FileReport) → (path folder : List ℕ) → PathsError → Type 0
-IsReadCause variables places table path folder e = IsFileCause table path e ⊎ (IsFileCause table (worktree_path folder) e ⊎ IsGlobalCause variables places table e)
-
--- the cause of a refusal of a file that includes and is put behind others
-abbrev pub IsIncludeCause : Options → Option (List ℕ → FileReport) → Error → Type 0
-IsIncludeCause options table (git.Includes e) = IsCause options table e
-IsIncludeCause options table (git.Span number) = number ≡ 3
-IsIncludeCause options table git.Memory = Unit {0}
-IsIncludeCause options table e = ⊥
-
--- the cause of a refusal of the overrides, which are put behind others
-abbrev pub IsOverridingCause : Option (List ℕ → VariableReport) → Places → Option (List ℕ → FileReport) → Error → Type 0
-IsOverridingCause variables places table (git.FromEnv e) = IsOverridesCause variables places table e
-IsOverridingCause variables places table (git.Span number) = number ≡ 3
-IsOverridingCause variables places table git.Memory = Unit {0}
-IsOverridingCause variables places table e = ⊥
-
--- the cause of a refusal of files that were read: of one that includes, or of the overrides; or there is no room for one of them behind the
--- others
-abbrev pub IsGitCause : Option (List ℕ → VariableReport) → Options → Places → Option (List ℕ → FileReport) → Error → Type 0
-IsGitCause variables options places table (git.FromPaths e) = ⊥
-IsGitCause variables options places table (git.FromEnv e) = IsOverridesCause variables places table e
-IsGitCause variables options places table (git.Includes e) = IsCause options table e
-IsGitCause variables options places table (git.Span number) = number ≡ 3
-IsGitCause variables options places table (git.Init e) = ⊥
-IsGitCause variables options places table git.Memory = Unit {0}
-
--- the cause of a refusal of the repository in that folder: of a file that is read, or then; or memory ran out
-abbrev pub IsRepositoryCause : Option (List ℕ → VariableReport) → Places → Option (List ℕ → FileReport) → (dir : List ℕ) → (real : Option (List ℕ)) → Error → Type 0
-IsRepositoryCause variables places table dir real e = (e ≡ git.Memory)
-    ⊎ (((unread : PathsError) × (e ≡ git.FromPaths unread) × IsReadCause variables places table (local_path dir) (folder_of (local_path dir)) unread)
-    ⊎ (options : Options) × (rules_of options ≡ repository_rules places (folder_of (local_path dir)) real) × IsGitCause variables options places table e)

@@ -1,13 +1,9 @@
 -- What refused loads of the machine, of variables and of a repository are about.
-use Rattle.std.proofs.Common.{◌≡◌, ℕ, List, Option, Some, None, Result, Ok, Err, inl, inr, refl, sym, subst}
-use Rattle.std.specs.Prelude.{◌⊎◌, IfErr, IsErrAnd}
-use Rattle.gitconf_includes.specs.Rules.{rules_of}
-use Rattle.gitconf_includes.specs.declared.init.Options.{Options}
-use Rattle.gitconf_loaders.specs.declared.from_env.Error.{Error as EnvError}
-use Rattle.gitconf_loaders.specs.declared.from_env.Error.TheVariants as env
+use Rattle.std.proofs.Common.{◌≡◌, ℕ, List, Option, Some, None, inl, inr}
+use Rattle.std.specs.Prelude.{◌⊎◌}
 use Rattle.gitconf_state.specs.State.{State}
 use Rattle.gix_config_c.specs.Blocks.{IsKept}
-use Rattle.gix_config_c.specs.HostLoads.{AVariable, IsAnsweredFor, IsAskedAbout, IsEnvRefused, TellsFile, file_about}
+use Rattle.gix_config_c.specs.HostLoads.{AVariable, IsAnsweredFor, IsAskedAbout, TellsFile, file_about}
 use Rattle.gix_config_c.specs.Loaded.{IsAnswered}
 use Rattle.gix_config_c.specs.declared.block.Block.{Block}
 use Rattle.gix_config_c.specs.declared.object.Object.{Object}
@@ -31,8 +27,3 @@ pub put_tells : (f : State) (number : ℕ) (file : Option Object) (old new : Blo
     → IsKept old new → (number ≡ 27 → ⊥) → TellsFile (Some f) number file old new
 put_tells f number file old new (inl done) put kept short = (done, put done, kept)
 put_tells f number file old new (inr memory) put kept short = absurd (short memory)
-
--- memory ran out before the entries that variables set were read
-pub env_short : {T : Type 0} (told : Told) (options : Options) (result : Result T EnvError) → IsErrAnd result (λ r. r ≡ env.Memory) → IfErr result (IsEnvRefused told (rules_of options))
-env_short told options (Ok made) err = tt
-env_short told options (Err r) err = subst (IsEnvRefused told (rules_of options)) (sym err) (options, refl, tt)

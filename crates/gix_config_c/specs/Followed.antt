@@ -1,5 +1,5 @@
 -- How includes are followed, as a program in C says it.
-use Rattle.std.specs.Prelude.{ℕ, Bool, true, List, if◌then◌else◌, Option, Some, None}
+use Rattle.std.specs.Prelude.{ℕ, Bool, true, List, if◌then◌else◌, Option, Some, None, Ok}
 use Rattle.std.specs.Option.{option_and_then, option_map}
 use Rattle.gitconf_text.specs.SectionKeys.{as_utf8}
 use Rattle.gitconf_includes.specs.Rules.{GitFolder, Rules}
@@ -10,7 +10,7 @@ use Rattle.gix_config_c.specs.declared.includes.Includes.{Includes}
 abbrev pub git_folder_of : Includes → Option (Option GitFolder)
 git_folder_of i =
     if i.has_git_folder
-    then option_and_then (λ path. option_map (λ real. Some (record { path = path; real = Some real })) (as_utf8 i.real_git_folder.now)) (as_utf8 i.git_folder.now)
+    then option_and_then (λ path. option_map (λ real. Some (record { path = path; real = Ok real })) (as_utf8 i.real_git_folder.now)) (as_utf8 i.git_folder.now)
     else Some None
 
 -- the rules of these folders, of this repository and of this branch

@@ -1,11 +1,11 @@
 -- What loads answer that ask for variables and for places, besides files.
-use Rattle.std.specs.Prelude.{◌≡◌, ◌⊎◌, if◌then◌else◌, ℕ, List, [], ◌∷◌, ◌++◌, Option, Some, None, Result, Ok, Err, IfErr, codes, string_bytes}
+use Rattle.std.specs.Prelude.{◌≡◌, ◌⊎◌, if◌then◌else◌, ℕ, List, [], ◌∷◌, ◌++◌, Option, Some, None, Result, Ok, Err, codes, string_bytes}
 use Rattle.std.specs.Str.{bytes_eq}
-use Rattle.gitconf_includes.specs.Rules.{Rules, rules_of}
-use Rattle.gitconf_includes.specs.declared.init.Options.{Options}
-use Rattle.gitconf_loaders.specs.Errors.{env_number, git_number, paths_number}
-use Rattle.gitconf_loaders.specs.Globals.{IsGlobal, IsGlobalCause}
-use Rattle.gitconf_loaders.specs.Paths.{numbered}
+use Rattle.gitconf_includes.specs.Rules.{Rules}
+use Rattle.gitconf_loaders.specs.Errors.{env_number, env_says, git_number, git_says, paths_number, paths_says}
+use Rattle.gitconf_loaders.specs.Globals.{IsGlobal}
+use Rattle.gitconf_loaders.specs.Paths.{telling}
+use Rattle.gitconf_loaders.specs.Refused.{Refused}
 use Rattle.gitconf_loaders.specs.Variables.{key_variable, value_variable}
 use Rattle.gitconf_loaders.specs.declared.from_env.Error.{Error as EnvError}
 use Rattle.gitconf_loaders.specs.declared.from_env.Error.TheVariants as env
@@ -16,8 +16,8 @@ use Rattle.gitconf_sources.specs.InMemory.{variable_at}
 use Rattle.gitconf_sources.specs.Reports.{FileReport, VariableReport}
 use Rattle.gitconf_sources.specs.declared.host.Places.{Places}
 use Rattle.gitconf_state.specs.State.{State}
-use Rattle.gix_config.specs.Environment.{IsEnvCause, IsFromEnv}
-use Rattle.gix_config.specs.Repository.{IsRepository, IsRepositoryCause}
+use Rattle.gix_config.specs.Environment.{IsFromEnv}
+use Rattle.gix_config.specs.Repository.{IsRepository}
 use Rattle.gix_config_c.specs.Blocks.{Holds, IsKept}
 use Rattle.gix_config_c.specs.KnownPlaces.{PlainPlaces, PlainRepository, plain_places}
 use Rattle.gix_config_c.specs.Loaded.{IsAnswered, OfRules, asks_by, include_path, load_path}
@@ -115,11 +115,10 @@ module _ (told : Told) where
   abbrev pub files_told : Option (List ℕ → FileReport)
   files_told = Some (told_at told.files)
 
-  -- the configuration of the machine and of the user was loaded, or refused for a cause
+  -- the configuration of the machine and of the user was loaded, or refused
   abbrev pub IsGlobalMade : Places → (number : ℕ) → (file : Option Object) → (old new : Block) → Type 0
   IsGlobalMade places number file old new = (r : Result State PathsError)
-      × IsGlobal variables_told places files_told (numbered paths_number r) × IfErr r (IsGlobalCause variables_told places files_told)
-      × TellsOf Some paths_about paths_number told r number file old new
+      × IsGlobal variables_told places files_told (telling paths_says r) × TellsOf Some paths_about paths_number told r number file old new
 
   -- the same once all is told of the variables that it needs
   abbrev pub IsGlobalLoad : Places → (number : ℕ) → (file : Option Object) → (old new : Block) → Type 0
@@ -129,27 +128,23 @@ module _ (told : Told) where
   pub record IsGlobalLoadAt (given : PlainPlaces) (number : ℕ) (file : Option Object) (old new : Block) : Type 0 where
     pub load : (number ≡ 27 → ⊥) → (places : Places) × (plain_places places ≡ given) × IsGlobalLoad places number file old new
 
-  -- the cause of a refusal of the entries that variables set, or of what they include by these rules
-  abbrev pub IsEnvRefused : Rules → EnvError → Type 0
-  IsEnvRefused rules e = (options : Options) × (rules_of options ≡ rules) × IsEnvCause variables_told options files_told e
-
-  -- the file of the entries that variables set was loaded, with what it includes, or refused for a cause; 100 where they set none
+  -- the file of the entries that variables set was loaded, with what it includes, or refused; 100 where they set none
   abbrev pub IsEnvMade : Rules → (number : ℕ) → (file : Option Object) → (old new : Block) → Type 0
-  IsEnvMade rules number file old new = (r : Result (Option State) EnvError) × IsFromEnv variables_told (asks_by told.files rules) (numbered env_number r)
-      × IfErr r (IsEnvRefused rules) × TellsOf (λ made. made) env_about env_number told r number file old new
+  IsEnvMade rules number file old new = (r : Result (Option State) EnvError) × IsFromEnv variables_told (asks_by told.files rules) (telling env_says r)
+      × TellsOf (λ made. made) env_about env_number told r number file old new
 
   -- the same for the rules that a program gives, once the count of the entries is told; or memory ran out
   pub record IsEnvLoad (given : Option Rules) (number : ℕ) (file : Option Object) (old new : Block) : Type 0 where
     pub load : (number ≡ 27 → ⊥) → OfVariables told (count_variable ∷ []) number new (OfRules given number (λ rules. IsEnvMade rules number file old new))
 
   -- the configuration of the repository in a folder, as the library has it
-  abbrev pub IsRepositoryIn : (folder real : List ℕ) → Places → Result State ℕ → Type 0
-  IsRepositoryIn folder real places r = IsRepository variables_told places files_told folder (Some real) r
+  abbrev pub IsRepositoryIn : (folder real : List ℕ) → Places → Result State Refused → Type 0
+  IsRepositoryIn folder real places r = IsRepository variables_told places files_told folder (Ok real) r
 
-  -- the configuration of a repository was refused for a cause
+  -- the configuration of a repository was refused
   abbrev pub IsRefusedRepository : (folder real : List ℕ) → Places → (number : ℕ) → (old new : Block) → Type 0
-  IsRefusedRepository folder real places number old new = (e : GitError) × IsRepositoryIn folder real places (Err (git_number e))
-      × IsRepositoryCause variables_told places files_told folder (Some real) e × IsAnsweredFor told (git_about e) (git_number e) number old new
+  IsRefusedRepository folder real places number old new = (e : GitError) × IsRepositoryIn folder real places (Err (git_says e))
+      × IsAnsweredFor told (git_about e) (git_number e) number old new
 
   -- the configuration of the repository that a program gives was loaded, or refused
   abbrev pub IsRepositoryMade : PlainRepository → (number : ℕ) → (file : Option Object) → (old new : Block) → Type 0

@@ -1,19 +1,15 @@
 -- What loads by what was told answer.
 use Rattle.std.specs.Prelude.{◌≡◌, if◌then◌else◌, ℕ, true, false, List, [], ◌∷◌, Option, Some, None, Result, Ok, Err, string_bytes}
-use Rattle.gitconf_includes.specs.Errors.{includes_number}
+use Rattle.gitconf_includes.specs.Errors.{includes_number, says}
 use Rattle.gitconf_includes.specs.Expansion.{Asks, Resolves}
 use Rattle.gitconf_includes.specs.Rules.{Rules}
 use Rattle.gitconf_includes.specs.declared.includes.Error.{Error as IncludesError}
 use Rattle.gitconf_includes.specs.declared.includes.Error.TheVariants as includes
 use Rattle.gitconf_includes.specs.declared.init.Error.TheVariants as init
-use Rattle.gitconf_loaders.specs.Errors.{paths_number}
-use Rattle.gitconf_loaders.specs.Paths.{IsLoadOfPaths, numbered}
+use Rattle.gitconf_loaders.specs.Errors.{paths_number, paths_says}
+use Rattle.gitconf_loaders.specs.Paths.{IsLoadOfPaths, telling}
 use Rattle.gitconf_loaders.specs.declared.from_paths.Error.{Error as PathsError}
 use Rattle.gitconf_loaders.specs.declared.from_paths.Error.TheVariants as paths
-use Rattle.gitconf_read.specs.EventResult.{IsRefused}
-use Rattle.gitconf_read.specs.ParseError.{Refusal}
-use Rattle.gitconf_sources.specs.Reports.{read_of}
-use Rattle.gitconf_sources.specs.declared.fault.FileFault.{FileFault}
 use Rattle.gitconf_state.specs.State.{State}
 use Rattle.gix_config_c.specs.Blocks.{Holds, IsKept}
 use Rattle.gix_config_c.specs.Loads.{PlainWanted}
@@ -46,16 +42,6 @@ load_path (paths.Init path (init.Parse e)) = Some (string_bytes path)
 load_path (paths.Init path (init.Includes e)) = include_path e
 load_path _ = None
 
--- the file that was read can't be opened or read, or its text is refused
-abbrev pub IsFaultyText : Result (List ℕ) FileFault → Type 0
-IsFaultyText (Err fault) = Unit {0}
-IsFaultyText (Ok text) = (e : Refusal) × IsRefused text e
-
--- the same of the file at the path
-abbrev pub IsFaulty : Tells → Option (List ℕ) → Type 0
-IsFaulty told None = Unit {0}
-IsFaulty told (Some path) = IsFaultyText (read_of (told_at told path))
-
 -- the block is as it was, but for the numbers with which it has the path of a file
 abbrev pub IsKeptPath : (number : ℕ) → (old new : Block) → Type 0
 IsKeptPath number old new = (number ≡ 1 → ⊥) → (number ≡ 2 → ⊥) → (number ≡ 19 → ⊥) → (number ≡ 20 → ⊥) → (number ≡ 21 → ⊥) → (number ≡ 103 → ⊥) → IsKept old new
@@ -70,19 +56,18 @@ IsAnswered told (Some path) refusal number old new = (number ≡ (if is_told tol
 abbrev pub TellsLoad : Tells → Result (Option State) PathsError → (number : ℕ) → (file : Option Object) → (old new : Block) → Type 0
 TellsLoad told (Ok (Some f)) number file old new = (number ≡ 0) × (file ≡ Some (File f)) × IsKept old new
 TellsLoad told (Ok None) number file old new = (number ≡ 100) × IsKept old new
-TellsLoad told (Err e) number file old new = IsAnswered told (load_path e) (paths_number e) number old new × IsFaulty told (load_path e)
+TellsLoad told (Err e) number file old new = IsAnswered told (load_path e) (paths_number e) number old new
 
 -- the file was loaded, with what it includes, from what was told, or refused; or memory ran out
 pub record IsLoadedBy (told : Tells) (wanted : PlainWanted) (number : ℕ) (file : Option Object) (old new : Block) : Type 0 where
   pub load : (number ≡ 27 → ⊥) → (r : Result (Option State) PathsError)
-      × IsLoadOfPaths true false (asks_by told wanted.rules) (wanted.meta ∷ []) (numbered paths_number r) × TellsLoad told r number file old new
+      × IsLoadOfPaths true false (asks_by told wanted.rules) (wanted.meta ∷ []) (telling paths_says r) × TellsLoad told r number file old new
 
 -- what is told of includes that were resolved: that the file has them, or the number of the refusal
 abbrev pub TellsResolved : Tells → Rules → (f g : State) → Result (Unit {0}) IncludesError → (number : ℕ) → (old new : Block) → Type 0
-TellsResolved told rules f g (Ok done) number old new = (number ≡ 0) × Resolves includes_number (asks_by told rules) f (Ok done) g × IsKept old new
+TellsResolved told rules f g (Ok done) number old new = (number ≡ 0) × Resolves says (asks_by told rules) f (Ok done) g × IsKept old new
 TellsResolved told rules f g (Err e) number old new =
-    ((left : State) × Resolves includes_number (asks_by told rules) f (Err e) left)
-    × IsAnswered told (include_path e) (includes_number e) number old new × IsFaulty told (include_path e)
+    ((left : State) × Resolves says (asks_by told rules) f (Err e) left) × IsAnswered told (include_path e) (includes_number e) number old new
 
 -- the file has what it includes, from what was told, or that was refused; or memory ran out
 pub record IsResolvedBy (told : Tells) (rules : Rules) (f g : State) (number : ℕ) (old new : Block) : Type 0 where

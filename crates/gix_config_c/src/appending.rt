@@ -7,8 +7,8 @@ ghost use Rattle.gix_config_c.specs.Appended.{IsAppended};
 ghost use Rattle.gix_config_c.specs.Edited.{IsEditedFile};
 
 use crate::object::Object;
-use crate::slot::Slot;
-use crate::{DONE, OUT_OF_MEMORY, WRONG_HANDLE};
+use crate::slot::{Slot, in_handle};
+use crate::{DONE, OUT_OF_MEMORY};
 use gix_config::File;
 use gix_config::refusals::Refusal as _;
 use std::alloc::Global;
@@ -28,15 +28,7 @@ pub extern "C" fn gix_config_file_append(
     ensures other { ((f : State) → file.old.it ≡ Some (object.File f) → ⊥) → file.new.it ≡ file.old.it }
     ensures same { other_file.new.it ≡ other_file.old.it }
 {
-    let Some(mut object) = file.take(alloc) else {
-        return WRONG_HANDLE;
-    };
-    let answer = match &mut *object {
-        Object::File(f) => append_from(alloc, f, other_file),
-        _ => WRONG_HANDLE,
-    };
-    file.put(object);
-    answer
+    in_handle!(alloc, &mut file, Object::File(f) => append_from(alloc, f, other_file))
 }
 
 /// Appends a copy of the file in a handle.
@@ -45,15 +37,7 @@ fn append_from(alloc: Global, file: &mut File, other_file: &mut Slot) -> u32
     ensures answer { OfFile other_file.old.it result (λ other. IsAppended other file.old file.new result) }
     ensures same { other_file.new.it ≡ other_file.old.it }
 {
-    let Some(object) = other_file.take(alloc) else {
-        return WRONG_HANDLE;
-    };
-    let answer = match &*object {
-        Object::File(other) => append(file, other),
-        _ => WRONG_HANDLE,
-    };
-    other_file.put(object);
-    answer
+    in_handle!(alloc, &other_file, Object::File(other) => append(file, other))
 }
 
 /// Appends a copy of another file.

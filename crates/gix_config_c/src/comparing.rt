@@ -9,8 +9,8 @@ use crate::entries::vector;
 use crate::entry::Entry;
 use crate::lists::put_list;
 use crate::object::Object;
-use crate::slot::Slot;
-use crate::{DONE, NOTHING_THERE, OUT_OF_MEMORY, WRONG_HANDLE};
+use crate::slot::{Slot, in_handle};
+use crate::{DONE, NOTHING_THERE, OUT_OF_MEMORY};
 use gix_config::diff::differences;
 use gix_config::{File, NoMemory};
 use std::alloc::Global;
@@ -31,15 +31,7 @@ pub extern "C" fn gix_config_file_equal(
     ensures same { file.new.it ≡ file.old.it }
     ensures same_other { other_file.new.it ≡ other_file.old.it }
 {
-    let Some(object) = file.take(alloc) else {
-        return WRONG_HANDLE;
-    };
-    let answer = match &*object {
-        Object::File(f) => tell_equal(alloc, f, other_file, equal),
-        _ => WRONG_HANDLE,
-    };
-    file.put(object);
-    answer
+    in_handle!(alloc, &file, Object::File(f) => tell_equal(alloc, f, other_file, equal))
 }
 
 /// Tells whether a file is equal to that in a handle.
@@ -48,15 +40,7 @@ fn tell_equal(alloc: Global, file: &File, other_file: &mut Slot, equal: &mut boo
     ensures kept { (result ≡ 0 → ⊥) → equal.new ≡ equal.old }
     ensures same { other_file.new.it ≡ other_file.old.it }
 {
-    let Some(object) = other_file.take(alloc) else {
-        return WRONG_HANDLE;
-    };
-    let answer = match &*object {
-        Object::File(other) => tell_if_same(file, other, equal),
-        _ => WRONG_HANDLE,
-    };
-    other_file.put(object);
-    answer
+    in_handle!(alloc, &other_file, Object::File(other) => tell_if_same(file, other, equal))
 }
 
 /// Tells whether two files are equal.
@@ -84,15 +68,7 @@ pub extern "C" fn gix_config_differences(
     ensures same { file.new.it ≡ file.old.it }
     ensures same_other { other_file.new.it ≡ other_file.old.it }
 {
-    let Some(object) = file.take(alloc) else {
-        return WRONG_HANDLE;
-    };
-    let answer = match &*object {
-        Object::File(f) => put_differences_from(alloc, f, other_file, list),
-        _ => WRONG_HANDLE,
-    };
-    file.put(object);
-    answer
+    in_handle!(alloc, &file, Object::File(f) => put_differences_from(alloc, f, other_file, list))
 }
 
 /// Puts what a file and that in a handle say differently into a list.
@@ -101,15 +77,7 @@ fn put_differences_from(alloc: Global, file: &File, other_file: &mut Slot, list:
     ensures kept { (result ≡ 0 → ⊥) → list.new.it ≡ list.old.it }
     ensures same { other_file.new.it ≡ other_file.old.it }
 {
-    let Some(object) = other_file.take(alloc) else {
-        return WRONG_HANDLE;
-    };
-    let answer = match &*object {
-        Object::File(other) => put_differences(alloc, file, other, list),
-        _ => WRONG_HANDLE,
-    };
-    other_file.put(object);
-    answer
+    in_handle!(alloc, &other_file, Object::File(other) => put_differences(alloc, file, other, list))
 }
 
 /// Puts what two files say differently into a list.
@@ -181,15 +149,7 @@ pub extern "C" fn gix_config_list_difference(
     ensures kept { (result ≡ 0 → ⊥) → difference.new ≡ difference.old }
     ensures same { list.new.it ≡ list.old.it }
 {
-    let Some(object) = list.take(alloc) else {
-        return WRONG_HANDLE;
-    };
-    let answer = match &*object {
-        Object::Differences(differences) => tell_difference(differences, index, difference),
-        _ => WRONG_HANDLE,
-    };
-    list.put(object);
-    answer
+    in_handle!(alloc, &list, Object::Differences(differences) => tell_difference(differences, index, difference))
 }
 
 /// Tells where the parts of the difference lie, if there is one.

@@ -15,8 +15,8 @@ ghost use Rattle.gix_config_c.specs.Entries.{IsEntryPushed, IsEntryRemoved, IsPu
 use crate::block::{Block, room};
 use crate::key::{Key, names};
 use crate::object::Object;
-use crate::slot::Slot;
-use crate::{DONE, NOT_UTF8, NOTHING_THERE, OUT_OF_MEMORY, WRONG_HANDLE};
+use crate::slot::{Slot, in_handle};
+use crate::{DONE, NOT_UTF8, NOTHING_THERE, OUT_OF_MEMORY};
 use gitconf_sources::key::KeyRef;
 use gix_config::File;
 use gix_config::file::SectionMut;
@@ -41,15 +41,7 @@ pub extern "C" fn gix_config_push_value(
         × IsEditedFile result f g × OfKey (names_of key.now) result (λ k. IsPushed k (if has_value then Some value.now else None) f g result)) }
     ensures other { ((f : State) → file.old.it ≡ Some (object.File f) → ⊥) → file.new.it ≡ file.old.it }
 {
-    let Some(mut object) = file.take(alloc) else {
-        return WRONG_HANDLE;
-    };
-    let answer = match &mut *object {
-        Object::File(f) => push(f, key, has_value, value),
-        _ => WRONG_HANDLE,
-    };
-    file.put(object);
-    answer
+    in_handle!(alloc, &mut file, Object::File(f) => push(f, key, has_value, value))
 }
 
 /// Adds an entry to a section of a file.
@@ -113,15 +105,7 @@ pub extern "C" fn gix_config_remove_value(
     ensures kept { (result ≡ 0 → ⊥) → IsKept old.old old.new }
     ensures other { ((f : State) → file.old.it ≡ Some (object.File f) → ⊥) → file.new.it ≡ file.old.it }
 {
-    let Some(mut object) = file.take(alloc) else {
-        return WRONG_HANDLE;
-    };
-    let answer = match &mut *object {
-        Object::File(f) => remove(alloc, f, key, old),
-        _ => WRONG_HANDLE,
-    };
-    file.put(object);
-    answer
+    in_handle!(alloc, &mut file, Object::File(f) => remove(alloc, f, key, old))
 }
 
 /// Removes an entry from a section of a file.

@@ -9,8 +9,8 @@ ghost use Rattle.gix_config_c.specs.Listed.{AreEntries, AreOf, IsEntryAt, IsEntr
 use crate::entry::{Entry, EntryPlace};
 use crate::lists::put_list;
 use crate::object::Object;
-use crate::slot::Slot;
-use crate::{DONE, NOTHING_THERE, OUT_OF_MEMORY, WRONG_HANDLE};
+use crate::slot::{Slot, in_handle};
+use crate::{DONE, NOTHING_THERE, OUT_OF_MEMORY};
 use bstr::BString;
 use gitconf_diff::setting::{Setting, Side};
 use gitconf_diff::settings::add_settings;
@@ -27,15 +27,7 @@ pub extern "C" fn gix_config_entries(alloc: Global, file: &mut Slot, list: &mut 
     ensures kept { (result ≡ 0 → ⊥) → list.new.it ≡ list.old.it }
     ensures same { file.new.it ≡ file.old.it }
 {
-    let Some(object) = file.take(alloc) else {
-        return WRONG_HANDLE;
-    };
-    let answer = match &*object {
-        Object::File(f) => put_entries(alloc, f, list),
-        _ => WRONG_HANDLE,
-    };
-    file.put(object);
-    answer
+    in_handle!(alloc, &file, Object::File(f) => put_entries(alloc, f, list))
 }
 
 /// Puts all entries of a file into a list.
@@ -113,15 +105,7 @@ pub extern "C" fn gix_config_list_entry(
     ensures kept { (result ≡ 0 → ⊥) → entry.new ≡ entry.old }
     ensures same { list.new.it ≡ list.old.it }
 {
-    let Some(object) = list.take(alloc) else {
-        return WRONG_HANDLE;
-    };
-    let answer = match &*object {
-        Object::Entries(entries) => tell_entry(entries, index, entry),
-        _ => WRONG_HANDLE,
-    };
-    list.put(object);
-    answer
+    in_handle!(alloc, &list, Object::Entries(entries) => tell_entry(entries, index, entry))
 }
 
 /// Tells where the parts of the entry lie, if there is one.

@@ -1,13 +1,13 @@
 //! The file of the entries that variables of the environment set, by what a program told.
-ghost use Rattle.std.specs.Prelude.{◌≡◌, IfErr, IfOk, string_bytes};
+ghost use Rattle.std.specs.Prelude.{◌≡◌, IfOk, string_bytes};
 ghost use Rattle.gitconf_includes.specs.Rules.{rules_of_includes};
-ghost use Rattle.gitconf_loaders.specs.Errors.{env_number};
-ghost use Rattle.gitconf_loaders.specs.Paths.{numbered};
+ghost use Rattle.gitconf_loaders.specs.Errors.{env_number, env_says};
+ghost use Rattle.gitconf_loaders.specs.Paths.{telling};
 ghost use Rattle.gitconf_loaders.specs.Variables as entries;
 ghost use Rattle.gix_config.specs.Environment.{IsFromEnv};
 ghost use Rattle.gix_config_c.specs.Blocks.{IsKept};
 ghost use Rattle.gix_config_c.specs.Followed.{rules_of};
-ghost use Rattle.gix_config_c.specs.HostLoads.{IsAnsweredFor, IsAskedAbout, IsEnvLoad, IsEnvMade, IsEnvRefused, IsKeptBut, entry_variable, env_about, variables_told};
+ghost use Rattle.gix_config_c.specs.HostLoads.{IsAnsweredFor, IsAskedAbout, IsEnvLoad, IsEnvMade, IsKeptBut, entry_variable, env_about, variables_told};
 ghost use Rattle.gix_config_c.specs.Loaded.{OfRules, asks_by};
 ghost use Rattle.gix_config_c.specs.Telling.{OfTold};
 ghost use Rattle.gix_config_c.specs.Variables.{count_variable};
@@ -18,10 +18,13 @@ use crate::includes::{Includes, followed};
 use crate::lists::put_list;
 use crate::loading::{boxed, refused_include};
 use crate::object::Object;
-use crate::slot::Slot;
+use crate::slot::{Slot, in_handle};
 use crate::told::Told;
 use crate::variables::untold;
-use crate::{NOT_UTF8, NOTHING_THERE, OUT_OF_MEMORY, VARIABLE_NOT_TOLD, WRONG_HANDLE};
+use crate::{
+    ILLFORMED_VARIABLE, INVALID_CONFIG_COUNT, INVALID_KEY_ID, INVALID_KEY_VALUE, INVALID_VALUE_ID,
+    NOT_UTF8, NOTHING_THERE, OUT_OF_MEMORY, VARIABLE_NOT_TOLD,
+};
 use gitconf_includes::{includes, init};
 use gitconf_loaders::from_env;
 use gix_config::host::{Host, Places};
@@ -52,15 +55,7 @@ pub extern "C" fn gix_config_load_env_told(
     ensures kept_asked { IsKeptBut result asked.old asked.new }
     ensures same { told.new.it ≡ told.old.it }
 {
-    let Some(object) = told.take(alloc) else {
-        return WRONG_HANDLE;
-    };
-    let answer = match &*object {
-        Object::Told(it) => load_env(alloc, it, includes, file, asked),
-        _ => WRONG_HANDLE,
-    };
-    told.put(object);
-    answer
+    in_handle!(alloc, &told, Object::Told(it) => load_env(alloc, it, includes, file, asked))
 }
 
 /// Loads the file of the entries that variables set, once their count is told.
@@ -110,9 +105,8 @@ fn env_file(
     includes: includes::Options<'_>,
     lossy: bool,
 ) -> Result<Option<File>, from_env::Error>
-    ensures loaded { IsFromEnv (variables_told told.now) (asks_by told.now.files (record (rules_of_includes includes.entry) { lossy = lossy }))
-        (numbered env_number result) }
-    ensures cause { IfErr result (IsEnvRefused told.now (record (rules_of_includes includes.entry) { lossy = lossy })) }
+    ensures { IsFromEnv (variables_told told.now) (asks_by told.now.files (record (rules_of_includes includes.entry) { lossy = lossy }))
+        (telling env_says result) }
 {
     let known = told.files.try_clone()?;
     let files = boxed(alloc, known)?;
@@ -211,15 +205,20 @@ pub(crate) fn refused_env(
         from_env::Error::IllformedUtf8 { index, kind } => {
             ask_about_part(alloc, told, kind, *index, asked)
         }
-        from_env::Error::InvalidConfigCount { .. } => ask_about_count(alloc, told, 23, asked),
+        from_env::Error::InvalidConfigCount { .. } => ask_about_count(
+            alloc,
+            told,
+            INVALID_CONFIG_COUNT,
+            asked,
+        ),
         from_env::Error::InvalidKeyId { key_id } => {
-            ask_about_key(alloc, told, *key_id, 24, asked)
+            ask_about_key(alloc, told, *key_id, INVALID_KEY_ID, asked)
         }
         from_env::Error::InvalidKeyValue { key_id, .. } => {
-            ask_about_key(alloc, told, *key_id, 25, asked)
+            ask_about_key(alloc, told, *key_id, INVALID_KEY_VALUE, asked)
         }
         from_env::Error::InvalidValueId { value_id } => {
-            ask_about_value(alloc, told, *value_id, 26, asked)
+            ask_about_value(alloc, told, *value_id, INVALID_VALUE_ID, asked)
         }
         from_env::Error::Includes(e) => refused_include(alloc, &told.files, e, asked),
         refusal => u32::from(refusal.number()),
@@ -243,7 +242,7 @@ fn ask_about_part(alloc: Global, told: &Told, kind: &str, index: usize, asked: &
     ensures kept { result ≡ 27 → IsKept asked.old asked.new }
 {
     match named_part(alloc, kind, index) {
-        Ok(name) => ask_about(alloc, told, name, 22, asked),
+        Ok(name) => ask_about(alloc, told, name, ILLFORMED_VARIABLE, asked),
         Err(_) => OUT_OF_MEMORY,
     }
 }

@@ -8,8 +8,8 @@ ghost use Rattle.gix_config_c.specs.declared.object.Object.TheVariants as object
 
 use crate::key::{Key, names};
 use crate::object::Object;
-use crate::slot::Slot;
-use crate::{DONE, NOT_UTF8, WRONG_HANDLE};
+use crate::slot::{Slot, in_handle};
+use crate::{DONE, NOT_UTF8};
 use gix_config::File;
 use gix_config::refusals::Refusal as _;
 use std::alloc::Global;
@@ -29,15 +29,7 @@ pub extern "C" fn gix_config_set_existing_value(
     ensures answer { OfFile file.old.it result (λ f. (g : State) × (file.new.it ≡ Some (object.File g)) × (names_of key.now ≡ None → g ≡ f) × OfKey (names_of key.now) result (λ k. IsValueSet k value.now f g result)) }
     ensures other { ((f : State) → file.old.it ≡ Some (object.File f) → ⊥) → file.new.it ≡ file.old.it }
 {
-    let Some(mut object) = file.take(alloc) else {
-        return WRONG_HANDLE;
-    };
-    let answer = match &mut *object {
-        Object::File(f) => set_value(f, key, value),
-        _ => WRONG_HANDLE,
-    };
-    file.put(object);
-    answer
+    in_handle!(alloc, &mut file, Object::File(f) => set_value(f, key, value))
 }
 
 /// Gives the last entry of a key another value.
@@ -76,15 +68,7 @@ pub extern "C" fn gix_config_set_existing_values(
         × (names_of key.now ≡ None → g ≡ f) × OfKey (names_of key.now) result (λ k. AreValuesSet k (map (λ v. v.now) values.now) f g result)) }
     ensures other { ((f : State) → file.old.it ≡ Some (object.File f) → ⊥) → file.new.it ≡ file.old.it }
 {
-    let Some(mut object) = file.take(alloc) else {
-        return WRONG_HANDLE;
-    };
-    let answer = match &mut *object {
-        Object::File(f) => set_values(f, key, values),
-        _ => WRONG_HANDLE,
-    };
-    file.put(object);
-    answer
+    in_handle!(alloc, &mut file, Object::File(f) => set_values(f, key, values))
 }
 
 /// Gives the entries of a key other values.

@@ -7,8 +7,8 @@ ghost use Rattle.gix_config_c.specs.Messages.{message_of};
 
 use crate::block::{Block, room};
 use crate::object::Object;
-use crate::slot::Slot;
-use crate::{DONE, OUT_OF_MEMORY, WRONG_HANDLE};
+use crate::slot::{Slot, in_handle};
+use crate::{DONE, OUT_OF_MEMORY};
 use gix_config::File;
 use std::alloc::Global;
 
@@ -21,15 +21,7 @@ pub extern "C" fn gix_config_file_text(alloc: Global, file: &mut Slot, text: &mu
     ensures kept { (result ≡ 0 → ⊥) → IsKept text.old text.new }
     ensures same { file.new.it ≡ file.old.it }
 {
-    let Some(object) = file.take(alloc) else {
-        return WRONG_HANDLE;
-    };
-    let answer = match &*object {
-        Object::File(f) => put_text(alloc, f, text),
-        _ => WRONG_HANDLE,
-    };
-    file.put(object);
-    answer
+    in_handle!(alloc, &file, Object::File(f) => put_text(alloc, f, text))
 }
 
 /// Puts the text of a file into a block.

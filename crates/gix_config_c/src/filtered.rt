@@ -9,15 +9,13 @@ ghost use Rattle.gix_config_c.specs.Answers.{OfFile, OfKey};
 ghost use Rattle.gix_config_c.specs.Found.{AreValues, IsBooleanOf, IsIntegerOf, IsKeptText, IsValue};
 
 use crate::block::{Block, room};
-use crate::finding::{boolean_where, integer_where};
-use crate::key::{Key, names};
-use crate::look_ups::{put_value, put_values};
+use crate::key::Key;
+use crate::look_ups::{put_boolean, put_integer, put_value, put_values};
 use crate::object::Object;
 use crate::origin::{Filter, passes};
-use crate::slot::Slot;
-use crate::{DONE, NOT_UTF8, NOTHING_THERE, OUT_OF_MEMORY, WRONG_HANDLE};
+use crate::slot::{Slot, in_handle};
+use crate::{DONE, OUT_OF_MEMORY};
 use gitconf_items::sink::SinkFault;
-use gix_config::refusals::Refusal as _;
 use gix_config::{File, NoMemory};
 use std::alloc::Global;
 
@@ -35,15 +33,7 @@ pub extern "C" fn gix_config_value_filter(
     ensures kept { (result ≡ 0 → ⊥) → IsKept value.old value.new }
     ensures same { file.new.it ≡ file.old.it }
 {
-    let Some(object) = file.take(alloc) else {
-        return WRONG_HANDLE;
-    };
-    let answer = match &*object {
-        Object::File(f) => put_value(alloc, f, key, Some(filter), value),
-        _ => WRONG_HANDLE,
-    };
-    file.put(object);
-    answer
+    in_handle!(alloc, &file, Object::File(f) => put_value(alloc, f, key, Some(filter), value))
 }
 
 /// As gix_config_values, in the sections that the filter keeps. The numbers are those of gix_config_value_filter.
@@ -59,15 +49,7 @@ pub extern "C" fn gix_config_values_filter(
     ensures kept { (result ≡ 0 → ⊥) → list.new.it ≡ list.old.it }
     ensures same { file.new.it ≡ file.old.it }
 {
-    let Some(object) = file.take(alloc) else {
-        return WRONG_HANDLE;
-    };
-    let answer = match &*object {
-        Object::File(f) => put_values(alloc, f, key, Some(filter), list),
-        _ => WRONG_HANDLE,
-    };
-    file.put(object);
-    answer
+    in_handle!(alloc, &file, Object::File(f) => put_values(alloc, f, key, Some(filter), list))
 }
 
 /// As gix_config_boolean, in the sections that the filter keeps. The numbers are the same.
@@ -83,33 +65,7 @@ pub extern "C" fn gix_config_boolean_filter(
     ensures kept { (result ≡ 0 → ⊥) → value.new ≡ value.old }
     ensures same { file.new.it ≡ file.old.it }
 {
-    let Some(object) = file.take(alloc) else {
-        return WRONG_HANDLE;
-    };
-    let answer = match &*object {
-        Object::File(f) => put_boolean(f, key, filter, value),
-        _ => WRONG_HANDLE,
-    };
-    file.put(object);
-    answer
-}
-
-/// Tells what the last value of a key means as a boolean in the sections that the filter keeps.
-fn put_boolean(file: &File, key: &Key<'_>, filter: &Filter, value: &mut bool) -> u32
-    ensures answer { OfKey (names_of key.now) result (λ k. IsBooleanOf k (keeps filter.now) file.now result value.new) }
-    ensures kept { (result ≡ 0 → ⊥) → value.new ≡ value.old }
-{
-    let Some(key) = names(key) else {
-        return NOT_UTF8;
-    };
-    match boolean_where(file, key, filter) {
-        Ok(Some(found)) => {
-            *value = found;
-            DONE
-        }
-        Ok(None) => NOTHING_THERE,
-        Err(refusal) => u32::from(refusal.number()),
-    }
+    in_handle!(alloc, &file, Object::File(f) => put_boolean(f, key, Some(filter), value))
 }
 
 /// As gix_config_integer, in the sections that the filter keeps. The numbers are the same.
@@ -125,33 +81,7 @@ pub extern "C" fn gix_config_integer_filter(
     ensures kept { (result ≡ 0 → ⊥) → value.new ≡ value.old }
     ensures same { file.new.it ≡ file.old.it }
 {
-    let Some(object) = file.take(alloc) else {
-        return WRONG_HANDLE;
-    };
-    let answer = match &*object {
-        Object::File(f) => put_integer(f, key, filter, value),
-        _ => WRONG_HANDLE,
-    };
-    file.put(object);
-    answer
-}
-
-/// Tells what the last value of a key means as an integer in the sections that the filter keeps.
-fn put_integer(file: &File, key: &Key<'_>, filter: &Filter, value: &mut i64) -> u32
-    ensures answer { OfKey (names_of key.now) result (λ k. IsIntegerOf k (keeps filter.now) file.now result value.new) }
-    ensures kept { (result ≡ 0 → ⊥) → value.new ≡ value.old }
-{
-    let Some(key) = names(key) else {
-        return NOT_UTF8;
-    };
-    match integer_where(file, key, filter) {
-        Ok(Some(found)) => {
-            *value = found;
-            DONE
-        }
-        Ok(None) => NOTHING_THERE,
-        Err(refusal) => u32::from(refusal.number()),
-    }
+    in_handle!(alloc, &file, Object::File(f) => put_integer(f, key, Some(filter), value))
 }
 
 /// Hands out the text of what comes before the first section, and of the sections that the filter keeps. What the block had is freed.
@@ -168,15 +98,7 @@ pub extern "C" fn gix_config_file_text_filter(
     ensures kept { (result ≡ 0 → ⊥) → IsKept text.old text.new }
     ensures same { file.new.it ≡ file.old.it }
 {
-    let Some(object) = file.take(alloc) else {
-        return WRONG_HANDLE;
-    };
-    let answer = match &*object {
-        Object::File(f) => put_text(alloc, f, filter, text),
-        _ => WRONG_HANDLE,
-    };
-    file.put(object);
-    answer
+    in_handle!(alloc, &file, Object::File(f) => put_text(alloc, f, filter, text))
 }
 
 /// Puts the text of the sections that the filter keeps into a block.

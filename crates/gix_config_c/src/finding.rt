@@ -58,7 +58,7 @@ pub(crate) fn values_of(
 }
 
 /// What a key's last entry means as a boolean in the sections that the filter keeps.
-pub(crate) fn boolean_where(
+fn boolean_where(
     file: &File,
     key: KeyRef<'_>,
     filter: &Filter,
@@ -68,13 +68,37 @@ pub(crate) fn boolean_where(
     file.boolean_filter(key, |meta| passes(filter, meta))
 }
 
-/// The last value of a key as an integer in the sections that the filter keeps.
-pub(crate) fn integer_where(
+/// What a key's last entry means as a boolean.
+pub(crate) fn boolean_of(
     file: &File,
     key: KeyRef<'_>,
-    filter: &Filter,
-) -> Result<Option<i64>, value::Error>
+    filter: Option<&Filter>,
+) -> Result<Option<bool>, value::Error>
+    ensures { IsBoolean (key_of key.entry) (keeps_if (option_copied filter.entry)) file.now result }
+{
+    match filter {
+        Some(filter) => boolean_where(file, key, filter),
+        None => file.boolean_by(key.section_name, key.subsection_name, key.value_name),
+    }
+}
+
+/// The last value of a key as an integer in the sections that the filter keeps.
+fn integer_where(file: &File, key: KeyRef<'_>, filter: &Filter) -> Result<Option<i64>, value::Error>
     ensures { IsInteger (key_of key.entry) (keeps filter.now) file.now result }
 {
     file.integer_filter(key, |meta| passes(filter, meta))
+}
+
+/// The last value of a key as an integer.
+pub(crate) fn integer_of(
+    file: &File,
+    key: KeyRef<'_>,
+    filter: Option<&Filter>,
+) -> Result<Option<i64>, value::Error>
+    ensures { IsInteger (key_of key.entry) (keeps_if (option_copied filter.entry)) file.now result }
+{
+    match filter {
+        Some(filter) => integer_where(file, key, filter),
+        None => file.integer_by(key.section_name, key.subsection_name, key.value_name),
+    }
 }

@@ -1,9 +1,9 @@
 //! The configuration of the machine and of the user, by what a program told.
 ghost use Rattle.std.specs.Option.{option_copied};
-ghost use Rattle.std.specs.Prelude.{◌≡◌, ◌⊎◌, IfErr, Some};
-ghost use Rattle.gitconf_loaders.specs.Errors.{paths_number};
-ghost use Rattle.gitconf_loaders.specs.Globals.{IsGlobal, IsGlobalCause};
-ghost use Rattle.gitconf_loaders.specs.Paths.{numbered};
+ghost use Rattle.std.specs.Prelude.{◌≡◌, ◌⊎◌, Some};
+ghost use Rattle.gitconf_loaders.specs.Errors.{paths_says};
+ghost use Rattle.gitconf_loaders.specs.Globals.{IsGlobal};
+ghost use Rattle.gitconf_loaders.specs.Paths.{telling};
 ghost use Rattle.gix_config_c.specs.Blocks.{Holds, IsKept};
 ghost use Rattle.gix_config_c.specs.HostLoads.{IsGlobalLoad, IsGlobalLoadAt, IsGlobalMade, IsKeptBut, OfPlaces, files_told, variables_told};
 ghost use Rattle.gix_config_c.specs.KnownPlaces.{places_of, plain_texts};
@@ -15,10 +15,10 @@ use crate::lists::put_list;
 use crate::loading::{boxed, refused_load};
 use crate::object::Object;
 use crate::places::{KnownPlaces, PlaceTexts, host_places, texts};
-use crate::slot::Slot;
+use crate::slot::{Slot, in_handle};
 use crate::told::Told;
 use crate::variables::untold;
-use crate::{NOT_UTF8, OUT_OF_MEMORY, VARIABLE_NOT_TOLD, WRONG_HANDLE};
+use crate::{NOT_UTF8, OUT_OF_MEMORY, VARIABLE_NOT_TOLD};
 use gitconf_loaders::from_paths;
 use gix_config::File;
 use gix_config::host::{Host, Places};
@@ -61,15 +61,7 @@ pub extern "C" fn gix_config_load_globals_told(
     ensures kept_asked { IsKeptBut result asked.old asked.new }
     ensures same { told.new.it ≡ told.old.it }
 {
-    let Some(object) = told.take(alloc) else {
-        return WRONG_HANDLE;
-    };
-    let answer = match &*object {
-        Object::Told(it) => load_globals(alloc, it, places, file, asked),
-        _ => WRONG_HANDLE,
-    };
-    told.put(object);
-    answer
+    in_handle!(alloc, &told, Object::Told(it) => load_globals(alloc, it, places, file, asked))
 }
 
 /// Loads the configuration of the machine and of the user.
@@ -156,8 +148,7 @@ fn put_known(alloc: Global, told: &Told, places: Places, file: &mut Slot, asked:
 
 /// The configuration of the machine and of the user.
 fn globals(alloc: Global, told: &Told, places: Places) -> Result<File, from_paths::Error>
-    ensures loaded { IsGlobal (variables_told told.now) places (files_told told.now) (numbered paths_number result) }
-    ensures cause { IfErr result (IsGlobalCause (variables_told told.now) places (files_told told.now)) }
+    ensures { IsGlobal (variables_told told.now) places (files_told told.now) (telling paths_says result) }
 {
     let known = told.files.try_clone()?;
     let files = boxed(alloc, known)?;

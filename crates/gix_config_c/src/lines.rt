@@ -13,8 +13,8 @@ use crate::key::text;
 use crate::line::Assigned;
 use crate::numbered::id_at;
 use crate::object::Object;
-use crate::slot::Slot;
-use crate::{DONE, NOT_UTF8, NOTHING_THERE, OUT_OF_MEMORY, WRONG_HANDLE};
+use crate::slot::{Slot, in_handle};
+use crate::{DONE, NOT_UTF8, NOTHING_THERE, OUT_OF_MEMORY};
 use gix_config::File;
 use gix_config::file::{SectionId, SectionMut};
 use gix_config::refusals::Refusal as _;
@@ -35,15 +35,7 @@ pub extern "C" fn gix_config_push_below_last_at(
     ensures answer { OfFile file.old.it result (λ f. (g : State) × (file.new.it ≡ Some (object.File g)) × IsEditedFile result f g × IsPutAt place assigned.now f g result) }
     ensures other { ((f : State) → file.old.it ≡ Some (object.File f) → ⊥) → file.new.it ≡ file.old.it }
 {
-    let Some(mut object) = file.take(alloc) else {
-        return WRONG_HANDLE;
-    };
-    let answer = match &mut *object {
-        Object::File(f) => put_at(f, place, assigned),
-        _ => WRONG_HANDLE,
-    };
-    file.put(object);
-    answer
+    in_handle!(alloc, &mut file, Object::File(f) => put_at(f, place, assigned))
 }
 
 /// Adds an entry to the section at a place, below its last one.
@@ -91,15 +83,7 @@ pub extern "C" fn gix_config_push_newline_at(alloc: Global, file: &mut Slot, pla
     ensures answer { OfFile file.old.it result (λ f. (g : State) × (file.new.it ≡ Some (object.File g)) × IsEditedFile result f g × IsLineEndPushedAt place f g result) }
     ensures other { ((f : State) → file.old.it ≡ Some (object.File f) → ⊥) → file.new.it ≡ file.old.it }
 {
-    let Some(mut object) = file.take(alloc) else {
-        return WRONG_HANDLE;
-    };
-    let answer = match &mut *object {
-        Object::File(f) => end_at(f, place),
-        _ => WRONG_HANDLE,
-    };
-    file.put(object);
-    answer
+    in_handle!(alloc, &mut file, Object::File(f) => end_at(f, place))
 }
 
 /// Adds a line ending to the section at a place.
@@ -156,15 +140,7 @@ pub extern "C" fn gix_config_remove_marked_at(
     ensures kept { (result ≡ 0 → ⊥) → count.new ≡ count.old }
     ensures other { ((f : State) → file.old.it ≡ Some (object.File f) → ⊥) → file.new.it ≡ file.old.it }
 {
-    let Some(mut object) = file.take(alloc) else {
-        return WRONG_HANDLE;
-    };
-    let answer = match &mut *object {
-        Object::File(f) => remove_marked_at(f, place, name, marks, count),
-        _ => WRONG_HANDLE,
-    };
-    file.put(object);
-    answer
+    in_handle!(alloc, &mut file, Object::File(f) => remove_marked_at(f, place, name, marks, count))
 }
 
 /// Removes the marked entries of a name from the section at a place.

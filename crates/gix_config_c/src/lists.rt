@@ -4,8 +4,8 @@ ghost use Rattle.gix_config_c.specs.Lists.{IsAt, IsLength, IsTextAt};
 
 use crate::block::Span;
 use crate::object::Object;
-use crate::slot::Slot;
-use crate::{DONE, NOTHING_THERE, OUT_OF_MEMORY, WRONG_HANDLE};
+use crate::slot::{Slot, in_handle};
+use crate::{DONE, NOTHING_THERE, OUT_OF_MEMORY};
 use std::alloc::Global;
 
 /// Puts a list into a handle, in the place of what was there, which is closed.
@@ -57,15 +57,7 @@ pub extern "C" fn gix_config_list_at(
     ensures kept { (result ≡ 0 → ⊥) → (text.new.at ≡ text.old.at) × (text.new.len ≡ text.old.len) }
     ensures same { list.new.it ≡ list.old.it }
 {
-    let Some(object) = list.take(alloc) else {
-        return WRONG_HANDLE;
-    };
-    let answer = match &*object {
-        Object::Texts(texts) => tell_at(texts, index, text),
-        _ => WRONG_HANDLE,
-    };
-    list.put(object);
-    answer
+    in_handle!(alloc, &list, Object::Texts(texts) => tell_at(texts, index, text))
 }
 
 /// Tells where the text lies, if there is one.

@@ -1,18 +1,18 @@
 //! Files, loaded with what they include, and includes of files, by what a program told.
 ghost use Rattle.std.specs.Prelude.{◌≡◌, ◌⊎◌, ◌∷◌, [], if◌then◌else◌, true, false, IfErr, IfOk, Ok, Err, Some};
-ghost use Rattle.gitconf_includes.specs.Errors.{includes_number};
+ghost use Rattle.gitconf_includes.specs.Errors.{includes_number, says};
 ghost use Rattle.gitconf_includes.specs.Expansion.{Resolves};
 ghost use Rattle.gitconf_includes.specs.Rules.{rules_of_includes};
 ghost use Rattle.gitconf_includes.specs.declared.includes.Error.TheVariants as refusals;
-ghost use Rattle.gitconf_loaders.specs.Errors.{paths_number};
-ghost use Rattle.gitconf_loaders.specs.Paths.{IsLoadOfPaths, numbered};
+ghost use Rattle.gitconf_loaders.specs.Errors.{paths_number, paths_says};
+ghost use Rattle.gitconf_loaders.specs.Paths.{IsLoadOfPaths, telling};
 ghost use Rattle.gitconf_sources.specs.Metadata.{meta_of_file};
 ghost use Rattle.gitconf_state.specs.State.{State};
 ghost use Rattle.gix_config_c.specs.Answers.{OfFile, OfWanted};
 ghost use Rattle.gix_config_c.specs.Blocks.{Holds, IsKept};
 ghost use Rattle.gix_config_c.specs.Edited.{IsEditedFile};
 ghost use Rattle.gix_config_c.specs.Followed.{rules_of};
-ghost use Rattle.gix_config_c.specs.Loaded.{IsAnswered, IsFaulty, IsKeptPath, IsLoadedBy, IsResolvedBy, IsResolvedFrom, OfRules, asks_by, include_path, load_path};
+ghost use Rattle.gix_config_c.specs.Loaded.{IsAnswered, IsKeptPath, IsLoadedBy, IsResolvedBy, IsResolvedFrom, OfRules, asks_by, include_path, load_path};
 ghost use Rattle.gix_config_c.specs.Loads.{plain_wanted, wanted_of};
 ghost use Rattle.gix_config_c.specs.Telling.{OfTold};
 ghost use Rattle.gix_config_c.specs.Told.{is_told};
@@ -23,9 +23,12 @@ use crate::includes::{Includes, followed};
 use crate::lists::put_list;
 use crate::load::{Load, Wanted, want};
 use crate::object::Object;
-use crate::slot::Slot;
+use crate::slot::{Slot, in_handle};
 use crate::told::ToldFiles;
-use crate::{DONE, NOT_TOLD, NOT_UTF8, NOTHING_THERE, OUT_OF_MEMORY, WRONG_HANDLE};
+use crate::{
+    DONE, FILE_NOT_READ, INCLUDE_NOT_OPENED, INCLUDE_NOT_READ, INPUT_TOO_LARGE, NOT_TOLD, NOT_UTF8,
+    NOTHING_THERE, OUT_OF_MEMORY, UNEXPECTED_TOKEN,
+};
 use gitconf_includes::{includes, init};
 use gitconf_loaders::from_paths;
 use gitconf_read::error as parse;
@@ -56,15 +59,7 @@ pub extern "C" fn gix_config_load_told(
     ensures kept_path { IsKeptPath result path.old path.new }
     ensures same { told.new.it ≡ told.old.it }
 {
-    let Some(object) = told.take(alloc) else {
-        return WRONG_HANDLE;
-    };
-    let answer = match &*object {
-        Object::Told(it) => load_by(alloc, &it.files, load, file, path),
-        _ => WRONG_HANDLE,
-    };
-    told.put(object);
-    answer
+    in_handle!(alloc, &told, Object::Told(it) => load_by(alloc, &it.files, load, file, path))
 }
 
 /// Loads the file that a program wants.
@@ -130,9 +125,8 @@ fn loaded(
     told: &ToldFiles,
     wanted: Wanted<'_>,
 ) -> Result<Option<File>, from_paths::Error>
-    ensures loaded { IsLoadOfPaths true false (asks_by told.now (plain_wanted wanted.entry).rules) ((plain_wanted wanted.entry).meta ∷ [])
-        (numbered paths_number result) }
-    ensures faulty { IfErr result (λ e. IsFaulty told.now (load_path e)) }
+    ensures { IsLoadOfPaths true false (asks_by told.now (plain_wanted wanted.entry).rules) ((plain_wanted wanted.entry).meta ∷ [])
+        (telling paths_says result) }
 {
     let Wanted {
         path,
@@ -162,7 +156,7 @@ pub(crate) fn refused_load(
     ensures kept { IsKeptPath result path.old path.new }
 {
     match refusal {
-        from_paths::Error::Io { path: at, .. } => ask(alloc, told, at, 21, path),
+        from_paths::Error::Io { path: at, .. } => ask(alloc, told, at, FILE_NOT_READ, path),
         from_paths::Error::Init {
             path: at,
             source: init::Error::Parse(e),
@@ -187,8 +181,14 @@ pub(crate) fn refused_include(
     ensures kept { IsKeptPath result path.old path.new }
 {
     match refusal {
-        includes::Error::Io { path: at, .. } => ask(alloc, told, at, 19, path),
-        includes::Error::CopyBuffer { path: at, .. } => ask(alloc, told, at, 20, path),
+        includes::Error::Io { path: at, .. } => ask(alloc, told, at, INCLUDE_NOT_OPENED, path),
+        includes::Error::CopyBuffer { path: at, .. } => ask(
+            alloc,
+            told,
+            at,
+            INCLUDE_NOT_READ,
+            path,
+        ),
         includes::Error::Parse { path: at, source } => refused_text(alloc, told, at, source, path),
         refusal => u32::from(refusal.number()),
     }
@@ -205,9 +205,9 @@ fn refused_text(
     ensures answer { (result ≡ 27 → ⊥) → IsAnswered told.now (Some at.now) refusal.now.number result path.old path.new }
     ensures kept { IsKeptPath result path.old path.new }
 {
-    match refusal.number() {
-        1 => ask(alloc, told, at, 1, path),
-        2 => ask(alloc, told, at, 2, path),
+    match u32::from(refusal.number()) {
+        UNEXPECTED_TOKEN => ask(alloc, told, at, UNEXPECTED_TOKEN, path),
+        INPUT_TOO_LARGE => ask(alloc, told, at, INPUT_TOO_LARGE, path),
         _ => OUT_OF_MEMORY,
     }
 }
@@ -247,15 +247,7 @@ pub extern "C" fn gix_config_resolve_includes_told(
     ensures kept_path { IsKeptPath result path.old path.new }
     ensures same { told.new.it ≡ told.old.it }
 {
-    let Some(mut object) = file.take(alloc) else {
-        return WRONG_HANDLE;
-    };
-    let answer = match &mut *object {
-        Object::File(f) => resolve_from(alloc, told, f, includes, path),
-        _ => WRONG_HANDLE,
-    };
-    file.put(object);
-    answer
+    in_handle!(alloc, &mut file, Object::File(f) => resolve_from(alloc, told, f, includes, path))
 }
 
 /// Resolves the includes of a file by what was told in a handle.
@@ -271,15 +263,7 @@ fn resolve_from(
     ensures kept_path { IsKeptPath result path.old path.new }
     ensures same { told.new.it ≡ told.old.it }
 {
-    let Some(object) = told.take(alloc) else {
-        return WRONG_HANDLE;
-    };
-    let answer = match &*object {
-        Object::Told(it) => resolve_by(alloc, &it.files, file, includes, path),
-        _ => WRONG_HANDLE,
-    };
-    told.put(object);
-    answer
+    in_handle!(alloc, &told, Object::Told(it) => resolve_by(alloc, &it.files, file, includes, path))
 }
 
 /// Resolves the includes of a file as a program says it.
@@ -321,10 +305,9 @@ fn resolved(
     includes: includes::Options<'_>,
     lossy: bool,
 ) -> Result<File, includes::Error>
-    ensures made { IfOk result (λ made. Resolves includes_number (asks_by told.now (record (rules_of_includes includes.entry) { lossy = lossy })) file.now (Ok tt) made) }
+    ensures made { IfOk result (λ made. Resolves says (asks_by told.now (record (rules_of_includes includes.entry) { lossy = lossy })) file.now (Ok tt) made) }
     ensures refused { IfErr result (λ e. (e ≡ refusals.Memory)
-        ⊎ ((left : State) × Resolves includes_number (asks_by told.now (record (rules_of_includes includes.entry) { lossy = lossy })) file.now (Err e) left)) }
-    ensures faulty { IfErr result (λ e. IsFaulty told.now (include_path e)) }
+        ⊎ ((left : State) × Resolves says (asks_by told.now (record (rules_of_includes includes.entry) { lossy = lossy })) file.now (Err e) left)) }
 {
     let mut made = file.try_clone()?;
     let mut host = Host {

@@ -9,13 +9,13 @@ ghost use Rattle.gix_config_c.specs.Answers.{OfFile, OfKey};
 ghost use Rattle.gix_config_c.specs.Found.{AreTexts, AreValues, HaveBytes, IsBooleanOf, IsIntegerOf, IsValue};
 
 use crate::block::{Block, room};
-use crate::finding::{value_of, values_of};
+use crate::finding::{boolean_of, integer_of, value_of, values_of};
 use crate::key::{Key, names};
 use crate::lists::put_list;
 use crate::object::Object;
 use crate::origin::Filter;
-use crate::slot::Slot;
-use crate::{DONE, NOT_UTF8, NOTHING_THERE, OUT_OF_MEMORY, WRONG_HANDLE};
+use crate::slot::{Slot, in_handle};
+use crate::{DONE, NOT_UTF8, NOTHING_THERE, OUT_OF_MEMORY};
 use bstr::BString;
 use gix_config::refusals::Refusal as _;
 use gix_config::{File, NoMemory};
@@ -36,15 +36,7 @@ pub extern "C" fn gix_config_value(
     ensures kept { (result ≡ 0 → ⊥) → IsKept value.old value.new }
     ensures same { file.new.it ≡ file.old.it }
 {
-    let Some(object) = file.take(alloc) else {
-        return WRONG_HANDLE;
-    };
-    let answer = match &*object {
-        Object::File(f) => put_value(alloc, f, key, None, value),
-        _ => WRONG_HANDLE,
-    };
-    file.put(object);
-    answer
+    in_handle!(alloc, &file, Object::File(f) => put_value(alloc, f, key, None, value))
 }
 
 /// Puts what the last value of a key means in the sections that are kept into a block.
@@ -87,15 +79,7 @@ pub extern "C" fn gix_config_values(
     ensures kept { (result ≡ 0 → ⊥) → list.new.it ≡ list.old.it }
     ensures same { file.new.it ≡ file.old.it }
 {
-    let Some(object) = file.take(alloc) else {
-        return WRONG_HANDLE;
-    };
-    let answer = match &*object {
-        Object::File(f) => put_values(alloc, f, key, None, list),
-        _ => WRONG_HANDLE,
-    };
-    file.put(object);
-    answer
+    in_handle!(alloc, &file, Object::File(f) => put_values(alloc, f, key, None, list))
 }
 
 /// Puts what all values of a key mean in the sections that are kept into a list.
@@ -156,26 +140,23 @@ pub extern "C" fn gix_config_boolean(
     ensures kept { (result ≡ 0 → ⊥) → value.new ≡ value.old }
     ensures same { file.new.it ≡ file.old.it }
 {
-    let Some(object) = file.take(alloc) else {
-        return WRONG_HANDLE;
-    };
-    let answer = match &*object {
-        Object::File(f) => put_boolean(f, key, value),
-        _ => WRONG_HANDLE,
-    };
-    file.put(object);
-    answer
+    in_handle!(alloc, &file, Object::File(f) => put_boolean(f, key, None, value))
 }
 
-/// Tells what the last value of a key means as a boolean.
-fn put_boolean(file: &File, key: &Key<'_>, value: &mut bool) -> u32
-    ensures answer { OfKey (names_of key.now) result (λ k. IsBooleanOf k (λ _. true) file.now result value.new) }
+/// Tells what the last value of a key means as a boolean in the sections that are kept.
+pub(crate) fn put_boolean(
+    file: &File,
+    key: &Key<'_>,
+    filter: Option<&Filter>,
+    value: &mut bool,
+) -> u32
+    ensures answer { OfKey (names_of key.now) result (λ k. IsBooleanOf k (keeps_if (option_copied filter.entry)) file.now result value.new) }
     ensures kept { (result ≡ 0 → ⊥) → value.new ≡ value.old }
 {
     let Some(key) = names(key) else {
         return NOT_UTF8;
     };
-    match file.boolean_by(key.section_name, key.subsection_name, key.value_name) {
+    match boolean_of(file, key, filter) {
         Ok(Some(found)) => {
             *value = found;
             DONE
@@ -200,26 +181,23 @@ pub extern "C" fn gix_config_integer(
     ensures kept { (result ≡ 0 → ⊥) → value.new ≡ value.old }
     ensures same { file.new.it ≡ file.old.it }
 {
-    let Some(object) = file.take(alloc) else {
-        return WRONG_HANDLE;
-    };
-    let answer = match &*object {
-        Object::File(f) => put_integer(f, key, value),
-        _ => WRONG_HANDLE,
-    };
-    file.put(object);
-    answer
+    in_handle!(alloc, &file, Object::File(f) => put_integer(f, key, None, value))
 }
 
-/// Tells what the last value of a key means as an integer.
-fn put_integer(file: &File, key: &Key<'_>, value: &mut i64) -> u32
-    ensures answer { OfKey (names_of key.now) result (λ k. IsIntegerOf k (λ _. true) file.now result value.new) }
+/// Tells what the last value of a key means as an integer in the sections that are kept.
+pub(crate) fn put_integer(
+    file: &File,
+    key: &Key<'_>,
+    filter: Option<&Filter>,
+    value: &mut i64,
+) -> u32
+    ensures answer { OfKey (names_of key.now) result (λ k. IsIntegerOf k (keeps_if (option_copied filter.entry)) file.now result value.new) }
     ensures kept { (result ≡ 0 → ⊥) → value.new ≡ value.old }
 {
     let Some(key) = names(key) else {
         return NOT_UTF8;
     };
-    match file.integer_by(key.section_name, key.subsection_name, key.value_name) {
+    match integer_of(file, key, filter) {
         Ok(Some(found)) => {
             *value = found;
             DONE

@@ -7,8 +7,8 @@ ghost use Rattle.gix_config_c.specs.Metas.{IsMetaTold, IsPathHeld, IsToldOrigin}
 use crate::block::{Block, room};
 use crate::object::Object;
 use crate::origin::{Origin, source, trust};
-use crate::slot::Slot;
-use crate::{DONE, OUT_OF_MEMORY, WRONG_HANDLE};
+use crate::slot::{Slot, in_handle};
+use crate::{DONE, OUT_OF_MEMORY};
 use gitconf_sources::meta::Metadata;
 use std::alloc::Global;
 
@@ -27,15 +27,7 @@ pub extern "C" fn gix_config_file_origin(
     ensures kept { (result ≡ 0 → ⊥) → (origin.new ≡ origin.old) × IsKept path.old path.new }
     ensures same { file.new.it ≡ file.old.it }
 {
-    let Some(object) = file.take(alloc) else {
-        return WRONG_HANDLE;
-    };
-    let answer = match &*object {
-        Object::File(f) => tell_meta(alloc, f.meta(), origin, path),
-        _ => WRONG_HANDLE,
-    };
-    file.put(object);
-    answer
+    in_handle!(alloc, &file, Object::File(f) => tell_meta(alloc, f.meta(), origin, path))
 }
 
 /// Tells what metadata says.

@@ -23,8 +23,8 @@ use crate::object::Object;
 use crate::origin::trust_of;
 use crate::section_lists::section_at;
 use crate::sections::copied;
-use crate::slot::Slot;
-use crate::{DONE, NO_SUCH_NUMBER, NOT_UTF8, NOTHING_THERE, OUT_OF_MEMORY, WRONG_HANDLE};
+use crate::slot::{Slot, in_handle};
+use crate::{DONE, NO_SUCH_NUMBER, NOT_UTF8, NOTHING_THERE, OUT_OF_MEMORY};
 use bstr::BString;
 use gitconf_sources::source::Trust;
 use gix_config::File;
@@ -59,15 +59,7 @@ pub extern "C" fn gix_config_push_line_at(
     ensures answer { OfFile file.old.it result (λ f. (g : State) × (file.new.it ≡ Some (object.File g)) × IsEditedFile result f g × IsPushedAt place line.now f g result) }
     ensures other { ((f : State) → file.old.it ≡ Some (object.File f) → ⊥) → file.new.it ≡ file.old.it }
 {
-    let Some(mut object) = file.take(alloc) else {
-        return WRONG_HANDLE;
-    };
-    let answer = match &mut *object {
-        Object::File(f) => push_at(f, place, line),
-        _ => WRONG_HANDLE,
-    };
-    file.put(object);
-    answer
+    in_handle!(alloc, &mut file, Object::File(f) => push_at(f, place, line))
 }
 
 /// Adds a line to the section at a place.
@@ -131,15 +123,7 @@ pub extern "C" fn gix_config_set_value_at(
     ensures kept { (result ≡ 0 → ⊥) → (had.new ≡ had.old) × IsKept old.old old.new }
     ensures new { result ≡ 0 → had.new ≡ false → IsKept old.old old.new }
 {
-    let Some(mut object) = file.take(alloc) else {
-        return WRONG_HANDLE;
-    };
-    let answer = match &mut *object {
-        Object::File(f) => set_at(alloc, f, place, assigned, had, old),
-        _ => WRONG_HANDLE,
-    };
-    file.put(object);
-    answer
+    in_handle!(alloc, &mut file, Object::File(f) => set_at(alloc, f, place, assigned, had, old))
 }
 
 /// Gives an entry of the section at a place a value.
@@ -234,15 +218,7 @@ pub extern "C" fn gix_config_remove_value_at(
     ensures kept { (result ≡ 0 → ⊥) → IsKept old.old old.new }
     ensures other { ((f : State) → file.old.it ≡ Some (object.File f) → ⊥) → file.new.it ≡ file.old.it }
 {
-    let Some(mut object) = file.take(alloc) else {
-        return WRONG_HANDLE;
-    };
-    let answer = match &mut *object {
-        Object::File(f) => remove_at(alloc, f, place, name, old),
-        _ => WRONG_HANDLE,
-    };
-    file.put(object);
-    answer
+    in_handle!(alloc, &mut file, Object::File(f) => remove_at(alloc, f, place, name, old))
 }
 
 /// Removes an entry from the section at a place.
@@ -296,15 +272,7 @@ pub extern "C" fn gix_config_pop_value_at(
     ensures kept { (result ≡ 0 → ⊥) → IsKept name.old name.new × IsKept value.old value.new }
     ensures other { ((f : State) → file.old.it ≡ Some (object.File f) → ⊥) → file.new.it ≡ file.old.it }
 {
-    let Some(mut object) = file.take(alloc) else {
-        return WRONG_HANDLE;
-    };
-    let answer = match &mut *object {
-        Object::File(f) => pop_at(alloc, f, place, name, value),
-        _ => WRONG_HANDLE,
-    };
-    file.put(object);
-    answer
+    in_handle!(alloc, &mut file, Object::File(f) => pop_at(alloc, f, place, name, value))
 }
 
 /// Removes the last entry from the section at a place.
@@ -381,15 +349,7 @@ pub extern "C" fn gix_config_section_rename_at(
         × IsRenamedAt place (section_names_of new_section.now) f g result) }
     ensures other { ((f : State) → file.old.it ≡ Some (object.File f) → ⊥) → file.new.it ≡ file.old.it }
 {
-    let Some(mut object) = file.take(alloc) else {
-        return WRONG_HANDLE;
-    };
-    let answer = match &mut *object {
-        Object::File(f) => rename_at(alloc, f, place, new_section),
-        _ => WRONG_HANDLE,
-    };
-    file.put(object);
-    answer
+    in_handle!(alloc, &mut file, Object::File(f) => rename_at(alloc, f, place, new_section))
 }
 
 /// Gives the section at a place other names.
@@ -447,15 +407,7 @@ pub extern "C" fn gix_config_section_remove_at(alloc: Global, file: &mut Slot, p
     ensures answer { OfFile file.old.it result (λ f. (g : State) × (file.new.it ≡ Some (object.File g)) × IsEditedFile result f g × IsGoneAt place f g result) }
     ensures other { ((f : State) → file.old.it ≡ Some (object.File f) → ⊥) → file.new.it ≡ file.old.it }
 {
-    let Some(mut object) = file.take(alloc) else {
-        return WRONG_HANDLE;
-    };
-    let answer = match &mut *object {
-        Object::File(f) => remove_section_at(f, place),
-        _ => WRONG_HANDLE,
-    };
-    file.put(object);
-    answer
+    in_handle!(alloc, &mut file, Object::File(f) => remove_section_at(f, place))
 }
 
 /// Removes the section at a place.
@@ -494,15 +446,7 @@ pub extern "C" fn gix_config_section_set_trust_at(
     ensures answer { OfFile file.old.it result (λ f. (g : State) × (file.new.it ≡ Some (object.File g)) × IsEditedFile result f g × IsTrustedAt place trust f g result) }
     ensures other { ((f : State) → file.old.it ≡ Some (object.File f) → ⊥) → file.new.it ≡ file.old.it }
 {
-    let Some(mut object) = file.take(alloc) else {
-        return WRONG_HANDLE;
-    };
-    let answer = match &mut *object {
-        Object::File(f) => set_trust_at(f, place, trust),
-        _ => WRONG_HANDLE,
-    };
-    file.put(object);
-    answer
+    in_handle!(alloc, &mut file, Object::File(f) => set_trust_at(f, place, trust))
 }
 
 /// Sets how far the section at a place is trusted.

@@ -11,9 +11,9 @@ ghost use Rattle.gix_config_c.specs.TextMetas.{meta_of, plain_meta};
 use crate::fault::{Fault, column};
 use crate::lists::put_list;
 use crate::object::Object;
-use crate::slot::Slot;
+use crate::slot::{Slot, in_handle};
 use crate::text_meta::{Known, TextMeta, known_meta, shared};
-use crate::{DONE, OUT_OF_MEMORY, WRONG_HANDLE};
+use crate::{DONE, OUT_OF_MEMORY};
 use gitconf_includes::{includes, init};
 use gix_config::refusals::Refusal as _;
 use gix_config::{File, parse};
@@ -154,15 +154,7 @@ pub extern "C" fn gix_config_file_clone(
     ensures kept { (result ≡ 0 → ⊥) → other_file.new.it ≡ other_file.old.it }
     ensures same { file.new.it ≡ file.old.it }
 {
-    let Some(object) = file.take(alloc) else {
-        return WRONG_HANDLE;
-    };
-    let answer = match &*object {
-        Object::File(f) => put_copy(alloc, f, other_file),
-        _ => WRONG_HANDLE,
-    };
-    file.put(object);
-    answer
+    in_handle!(alloc, &file, Object::File(f) => put_copy(alloc, f, other_file))
 }
 
 /// Puts a copy of a file into a handle.

@@ -10,8 +10,8 @@ use crate::block::{Block, room};
 use crate::folders::{Folders, context};
 use crate::key::{Key, names};
 use crate::object::Object;
-use crate::slot::Slot;
-use crate::{DONE, NOT_UTF8, NOTHING_THERE, OUT_OF_MEMORY, WRONG_HANDLE};
+use crate::slot::{Slot, in_handle};
+use crate::{DONE, NOT_UTF8, NOTHING_THERE, OUT_OF_MEMORY};
 use gitconf_values::path::interpolate::Context;
 use gix_config::refusals::Refusal as _;
 use gix_config::{File, Path};
@@ -35,15 +35,7 @@ pub extern "C" fn gix_config_path(
     ensures kept { (result ≡ 0 → ⊥) → IsKept path.old path.new }
     ensures same { file.new.it ≡ file.old.it }
 {
-    let Some(object) = file.take(alloc) else {
-        return WRONG_HANDLE;
-    };
-    let answer = match &*object {
-        Object::File(f) => put_path(alloc, f, key, folders, path),
-        _ => WRONG_HANDLE,
-    };
-    file.put(object);
-    answer
+    in_handle!(alloc, &file, Object::File(f) => put_path(alloc, f, key, folders, path))
 }
 
 /// Puts the path that the last value of a key writes into a block.

@@ -1,11 +1,10 @@
 //! The configuration of a repository, by what a program told.
-ghost use Rattle.std.specs.Prelude.{◌≡◌, [], ◌∷◌, ◌++◌, IfErr, IfOk, Ok, Some};
+ghost use Rattle.std.specs.Prelude.{◌≡◌, [], ◌∷◌, ◌++◌, IfErr, IfOk, Ok};
 ghost use Rattle.std.specs.Option.{option_copied};
-ghost use Rattle.gitconf_loaders.specs.Errors.{git_number};
-ghost use Rattle.gitconf_loaders.specs.Paths.{numbered};
+ghost use Rattle.gitconf_loaders.specs.Errors.{git_number, git_says};
+ghost use Rattle.gitconf_loaders.specs.Paths.{telling};
 ghost use Rattle.gix_config_c.specs.Blocks.{IsKept};
-ghost use Rattle.gix_config.specs.Repository.{IsRepositoryCause};
-ghost use Rattle.gix_config_c.specs.HostLoads.{IsAnsweredFor, IsKeptBut, IsRefusedRepository, IsRepositoryIn, IsRepositoryLoad, IsRepositoryMade, OfRepository, files_told, git_about, variables_told};
+ghost use Rattle.gix_config_c.specs.HostLoads.{IsAnsweredFor, IsKeptBut, IsRefusedRepository, IsRepositoryIn, IsRepositoryLoad, IsRepositoryMade, OfRepository, git_about};
 ghost use Rattle.gix_config_c.specs.KnownPlaces.{repository_of, repository_texts};
 ghost use Rattle.gix_config_c.specs.Telling.{OfTold};
 ghost use Rattle.gix_config_c.specs.Variables.{count_variable, first_untold, place_variables};
@@ -17,10 +16,10 @@ use crate::lists::put_list;
 use crate::loading::{boxed, refused_include, refused_load};
 use crate::object::Object;
 use crate::places::{Repository, RepositoryTexts, host_places, repository_text};
-use crate::slot::Slot;
+use crate::slot::{Slot, in_handle};
 use crate::told::Told;
 use crate::variables::untold;
-use crate::{NOT_UTF8, OUT_OF_MEMORY, WRONG_HANDLE};
+use crate::{NOT_UTF8, OUT_OF_MEMORY};
 use gitconf_loaders::from_git_dir;
 use gix_config::File;
 use gix_config::host::{Host, Places};
@@ -52,15 +51,7 @@ pub extern "C" fn gix_config_load_repository_told(
     ensures kept_asked { IsKeptBut result asked.old asked.new }
     ensures same { told.new.it ≡ told.old.it }
 {
-    let Some(object) = told.take(alloc) else {
-        return WRONG_HANDLE;
-    };
-    let answer = match &*object {
-        Object::Told(it) => load_repository(alloc, it, repository, file, asked),
-        _ => WRONG_HANDLE,
-    };
-    told.put(object);
-    answer
+    in_handle!(alloc, &told, Object::Told(it) => load_repository(alloc, it, repository, file, asked))
 }
 
 /// Loads the configuration of a repository.
@@ -163,8 +154,7 @@ fn repository_file(
     texts: &RepositoryTexts<'_>,
     places: Places,
 ) -> Result<File, from_git_dir::Error>
-    ensures loaded { IsRepositoryIn told.now texts.now.folder.now texts.now.real.now places (numbered git_number result) }
-    ensures cause { IfErr result (IsRepositoryCause (variables_told told.now) places (files_told told.now) texts.now.folder.now (Some texts.now.real.now)) }
+    ensures { IsRepositoryIn told.now texts.now.folder.now texts.now.real.now places (telling git_says result) }
 {
     let known = told.files.try_clone()?;
     let files = boxed(alloc, known)?;

@@ -10,8 +10,8 @@ use crate::entry::Entry;
 use crate::lists::put_list;
 use crate::object::Object;
 use crate::section::{Section, SectionPlace};
-use crate::slot::Slot;
-use crate::{DONE, NOTHING_THERE, OUT_OF_MEMORY, WRONG_HANDLE};
+use crate::slot::{Slot, in_handle};
+use crate::{DONE, NOTHING_THERE, OUT_OF_MEMORY};
 use gitconf_diff::setting::Side;
 use gitconf_diff::settings::add_section;
 use gitconf_sources::meta::Metadata;
@@ -28,15 +28,7 @@ pub extern "C" fn gix_config_sections(alloc: Global, file: &mut Slot, list: &mut
     ensures kept { (result ≡ 0 → ⊥) → list.new.it ≡ list.old.it }
     ensures same { file.new.it ≡ file.old.it }
 {
-    let Some(object) = file.take(alloc) else {
-        return WRONG_HANDLE;
-    };
-    let answer = match &*object {
-        Object::File(f) => put_sections(alloc, f, list),
-        _ => WRONG_HANDLE,
-    };
-    file.put(object);
-    answer
+    in_handle!(alloc, &file, Object::File(f) => put_sections(alloc, f, list))
 }
 
 /// Puts the sections of a file into a list.
@@ -119,15 +111,7 @@ pub extern "C" fn gix_config_list_section(
     ensures kept { (result ≡ 0 → ⊥) → section.new ≡ section.old }
     ensures same { list.new.it ≡ list.old.it }
 {
-    let Some(object) = list.take(alloc) else {
-        return WRONG_HANDLE;
-    };
-    let answer = match &*object {
-        Object::Sections(sections) => tell_section(sections, index, section),
-        _ => WRONG_HANDLE,
-    };
-    list.put(object);
-    answer
+    in_handle!(alloc, &list, Object::Sections(sections) => tell_section(sections, index, section))
 }
 
 /// Tells where the parts of the section lie, if there is one.
@@ -159,15 +143,7 @@ pub extern "C" fn gix_config_section_entries(
     ensures kept { (result ≡ 0 → ⊥) → list.new.it ≡ list.old.it }
     ensures same { file.new.it ≡ file.old.it }
 {
-    let Some(object) = file.take(alloc) else {
-        return WRONG_HANDLE;
-    };
-    let answer = match &*object {
-        Object::File(f) => put_section_entries(alloc, f, index, list),
-        _ => WRONG_HANDLE,
-    };
-    file.put(object);
-    answer
+    in_handle!(alloc, &file, Object::File(f) => put_section_entries(alloc, f, index, list))
 }
 
 /// Puts the entries of a section of a file into a list.

@@ -14,8 +14,8 @@ ghost use Rattle.gitconf_store.specs.Edited.{IsEdited};
 
 use crate::key::{SectionKey, section_names};
 use crate::object::Object;
-use crate::slot::Slot;
-use crate::{DONE, NOT_UTF8, NOTHING_THERE, OUT_OF_MEMORY, WRONG_HANDLE};
+use crate::slot::{Slot, in_handle};
+use crate::{DONE, NOT_UTF8, NOTHING_THERE, OUT_OF_MEMORY};
 use bstr::BString;
 use gitconf_text::parse::section::header;
 use gix_config::refusals::Refusal as _;
@@ -35,15 +35,7 @@ pub extern "C" fn gix_config_section_remove(
         × ((result ≡ 0 → ⊥) → g ≡ f) × OfSection (section_names_of section.now) result (λ k. IsRemoved k f g result)) }
     ensures other { ((f : State) → file.old.it ≡ Some (object.File f) → ⊥) → file.new.it ≡ file.old.it }
 {
-    let Some(mut object) = file.take(alloc) else {
-        return WRONG_HANDLE;
-    };
-    let answer = match &mut *object {
-        Object::File(f) => remove(f, section),
-        _ => WRONG_HANDLE,
-    };
-    file.put(object);
-    answer
+    in_handle!(alloc, &mut file, Object::File(f) => remove(f, section))
 }
 
 /// Removes a section of a file.
@@ -75,15 +67,7 @@ pub extern "C" fn gix_config_section_new(
         × IsEditedFile result f g × OfSection (section_names_of section.now) result (λ k. IsNew k f g result)) }
     ensures other { ((f : State) → file.old.it ≡ Some (object.File f) → ⊥) → file.new.it ≡ file.old.it }
 {
-    let Some(mut object) = file.take(alloc) else {
-        return WRONG_HANDLE;
-    };
-    let answer = match &mut *object {
-        Object::File(f) => make(alloc, f, section),
-        _ => WRONG_HANDLE,
-    };
-    file.put(object);
-    answer
+    in_handle!(alloc, &mut file, Object::File(f) => make(alloc, f, section))
 }
 
 /// A copy of a subsection.
@@ -143,15 +127,7 @@ pub extern "C" fn gix_config_section_rename(
         × IsEditedFile result f g × IsRenamedTo (section_names_of section.now) (section_names_of new_section.now) f g result) }
     ensures other { ((f : State) → file.old.it ≡ Some (object.File f) → ⊥) → file.new.it ≡ file.old.it }
 {
-    let Some(mut object) = file.take(alloc) else {
-        return WRONG_HANDLE;
-    };
-    let answer = match &mut *object {
-        Object::File(f) => rename(alloc, f, section, new_section),
-        _ => WRONG_HANDLE,
-    };
-    file.put(object);
-    answer
+    in_handle!(alloc, &mut file, Object::File(f) => rename(alloc, f, section, new_section))
 }
 
 /// Gives sections of a file other names.

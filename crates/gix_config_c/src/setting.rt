@@ -10,8 +10,8 @@ ghost use Rattle.gix_config_c.specs.Edited.{IsEditedFile, IsSetTo};
 use crate::block::{Block, room};
 use crate::key::{Key, names};
 use crate::object::Object;
-use crate::slot::Slot;
-use crate::{DONE, NOT_UTF8, OUT_OF_MEMORY, WRONG_HANDLE};
+use crate::slot::{Slot, in_handle};
+use crate::{DONE, NOT_UTF8, OUT_OF_MEMORY};
 use gix_config::File;
 use gix_config::refusals::Refusal as _;
 use std::alloc::Global;
@@ -38,15 +38,7 @@ pub extern "C" fn gix_config_set_value(
     ensures kept { (result ≡ 0 → ⊥) → (had.new ≡ had.old) × IsKept old.old old.new }
     ensures new { result ≡ 0 → had.new ≡ false → IsKept old.old old.new }
 {
-    let Some(mut object) = file.take(alloc) else {
-        return WRONG_HANDLE;
-    };
-    let answer = match &mut *object {
-        Object::File(f) => put_value(alloc, f, key, value, had, old),
-        _ => WRONG_HANDLE,
-    };
-    file.put(object);
-    answer
+    in_handle!(alloc, &mut file, Object::File(f) => put_value(alloc, f, key, value, had, old))
 }
 
 /// Gives a key of a file a value.

@@ -92,3 +92,31 @@ impl Slot {
         *self = Slot::of(object);
     }
 }
+
+/// What a call answers by what a handle holds; 102 where it is empty, or holds something else. What it holds is taken out meanwhile.
+macro_rules! in_handle {
+    ($alloc:ident, &mut $handle:ident, $held:pat => $answer:expr) => {{
+        let Some(mut object) = $handle.take($alloc) else {
+            return $crate::WRONG_HANDLE;
+        };
+        let answer = match &mut *object {
+            $held => $answer,
+            _ => $crate::WRONG_HANDLE,
+        };
+        $handle.put(object);
+        answer
+    }};
+    ($alloc:ident, &$handle:ident, $held:pat => $answer:expr) => {{
+        let Some(object) = $handle.take($alloc) else {
+            return $crate::WRONG_HANDLE;
+        };
+        let answer = match &*object {
+            $held => $answer,
+            _ => $crate::WRONG_HANDLE,
+        };
+        $handle.put(object);
+        answer
+    }};
+}
+
+pub(crate) use in_handle;

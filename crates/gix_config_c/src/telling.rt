@@ -11,10 +11,10 @@ ghost use Rattle.gix_config_c.specs.declared.told.Told.{Told as AllTold};
 
 use crate::lists::put_list;
 use crate::object::Object;
-use crate::slot::Slot;
+use crate::slot::{Slot, in_handle};
 use crate::told::{Report, Told, ToldFiles};
 use crate::variables::{ToldVariables, Variable};
-use crate::{DONE, NOT_UTF8, OUT_OF_MEMORY, WRONG_HANDLE, key};
+use crate::{DONE, NOT_UTF8, OUT_OF_MEMORY, key};
 use std::alloc::Global;
 
 /// Makes a place for what a program tells of files and of variables: nothing as yet. What was in the handle before is closed.
@@ -46,15 +46,7 @@ pub extern "C" fn gix_config_told_text(
     ensures answer { OfTold told.old.it result (λ old. IsToldIn path.now (IsFile text.now Full) old result told.new.it) }
     ensures other { ((old : AllTold) → told.old.it ≡ Some (object.Told old) → ⊥) → told.new.it ≡ told.old.it }
 {
-    let Some(mut object) = told.take(alloc) else {
-        return WRONG_HANDLE;
-    };
-    let answer = match &mut *object {
-        Object::Told(it) => tell_text(alloc, &mut it.files, path, text),
-        _ => WRONG_HANDLE,
-    };
-    told.put(object);
-    answer
+    in_handle!(alloc, &mut told, Object::Told(it) => tell_text(alloc, &mut it.files, path, text))
 }
 
 /// Tells the text of a file.
@@ -78,15 +70,7 @@ pub extern "C" fn gix_config_told_missing(alloc: Global, told: &mut Slot, path: 
     ensures answer { OfTold told.old.it result (λ old. IsToldIn path.now NoFile old result told.new.it) }
     ensures other { ((old : AllTold) → told.old.it ≡ Some (object.Told old) → ⊥) → told.new.it ≡ told.old.it }
 {
-    let Some(mut object) = told.take(alloc) else {
-        return WRONG_HANDLE;
-    };
-    let answer = match &mut *object {
-        Object::Told(it) => tell_missing(alloc, &mut it.files, path),
-        _ => WRONG_HANDLE,
-    };
-    told.put(object);
-    answer
+    in_handle!(alloc, &mut told, Object::Told(it) => tell_missing(alloc, &mut it.files, path))
 }
 
 /// Tells that there is no file.
@@ -113,15 +97,7 @@ pub extern "C" fn gix_config_told_fault(
     ensures answer { OfTold told.old.it result (λ old. IsToldIn path.now (if opens then Unread else Unopened false) old result told.new.it) }
     ensures other { ((old : AllTold) → told.old.it ≡ Some (object.Told old) → ⊥) → told.new.it ≡ told.old.it }
 {
-    let Some(mut object) = told.take(alloc) else {
-        return WRONG_HANDLE;
-    };
-    let answer = match &mut *object {
-        Object::Told(it) => tell_fault(alloc, &mut it.files, path, opens),
-        _ => WRONG_HANDLE,
-    };
-    told.put(object);
-    answer
+    in_handle!(alloc, &mut told, Object::Told(it) => tell_fault(alloc, &mut it.files, path, opens))
 }
 
 /// The fault of a file.
@@ -174,15 +150,7 @@ pub extern "C" fn gix_config_told_variable(
     ensures answer { OfTold told.old.it result (λ old. IsVariableToldIn name.now (set_to value.now) old result told.new.it) }
     ensures other { ((old : AllTold) → told.old.it ≡ Some (object.Told old) → ⊥) → told.new.it ≡ told.old.it }
 {
-    let Some(mut object) = told.take(alloc) else {
-        return WRONG_HANDLE;
-    };
-    let answer = match &mut *object {
-        Object::Told(it) => tell_value(alloc, &mut it.variables, name, value),
-        _ => WRONG_HANDLE,
-    };
-    told.put(object);
-    answer
+    in_handle!(alloc, &mut told, Object::Told(it) => tell_value(alloc, &mut it.variables, name, value))
 }
 
 /// Tells what a variable is set to.
@@ -206,15 +174,7 @@ pub extern "C" fn gix_config_told_no_variable(alloc: Global, told: &mut Slot, na
     ensures answer { OfTold told.old.it result (λ old. IsVariableToldIn name.now NotSet old result told.new.it) }
     ensures other { ((old : AllTold) → told.old.it ≡ Some (object.Told old) → ⊥) → told.new.it ≡ told.old.it }
 {
-    let Some(mut object) = told.take(alloc) else {
-        return WRONG_HANDLE;
-    };
-    let answer = match &mut *object {
-        Object::Told(it) => tell_unset(alloc, &mut it.variables, name),
-        _ => WRONG_HANDLE,
-    };
-    told.put(object);
-    answer
+    in_handle!(alloc, &mut told, Object::Told(it) => tell_unset(alloc, &mut it.variables, name))
 }
 
 /// Tells that a variable isn't set.

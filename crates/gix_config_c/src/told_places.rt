@@ -9,10 +9,10 @@ ghost use Rattle.gix_config_c.specs.ToldPlaces.{IsToldPlace, IsPlaceOfText};
 use crate::fault::Fault;
 use crate::object::Object;
 use crate::opening::{opened, refused};
-use crate::slot::Slot;
+use crate::slot::{Slot, in_handle};
 use crate::text_meta::Known;
 use crate::told::ToldFiles;
-use crate::{DONE, NOT_UTF8, NOTHING_THERE, WRONG_HANDLE, key};
+use crate::{DONE, NOT_UTF8, NOTHING_THERE, key};
 use std::alloc::Global;
 
 /// Tells where the text that was told of a path can't be read on: a load that needs that file is refused. The text is read once more. A load
@@ -32,15 +32,7 @@ pub extern "C" fn gix_config_told_place(
     ensures kept { (result ≡ 1 → ⊥) → (result ≡ 2 → ⊥) → IsKeptPlace place.old place.new }
     ensures same { told.new.it ≡ told.old.it }
 {
-    let Some(object) = told.take(alloc) else {
-        return WRONG_HANDLE;
-    };
-    let answer = match &*object {
-        Object::Told(it) => place_in(alloc, &it.files, path, place),
-        _ => WRONG_HANDLE,
-    };
-    told.put(object);
-    answer
+    in_handle!(alloc, &told, Object::Told(it) => place_in(alloc, &it.files, path, place))
 }
 
 /// Tells where the text at a path can't be read on.

@@ -12,9 +12,9 @@ ghost use Rattle.gix_config_c.specs.Views.{AreRowsOf, IsEmptied, IsView, rows};
 
 use crate::block::room;
 use crate::object::Object;
-use crate::slot::Slot;
+use crate::slot::{Slot, in_handle};
 use crate::view::{Arrays, EntryRow, OriginRow, Part, SectionRow, View};
-use crate::{DONE, OUT_OF_MEMORY, WRONG_HANDLE, origin};
+use crate::{DONE, OUT_OF_MEMORY, origin};
 use bstr::BString;
 use gitconf_body::entries::next_entry;
 use gitconf_body::meanings::entry_value;
@@ -34,15 +34,7 @@ pub extern "C" fn gix_config_view_file(alloc: Global, file: &mut Slot, view: &mu
     ensures kept { (result ≡ 0 → ⊥) → view.new ≡ view.old }
     ensures same { file.new.it ≡ file.old.it }
 {
-    let Some(object) = file.take(alloc) else {
-        return WRONG_HANDLE;
-    };
-    let answer = match &*object {
-        Object::File(f) => put_view(alloc, f, view),
-        _ => WRONG_HANDLE,
-    };
-    file.put(object);
-    answer
+    in_handle!(alloc, &file, Object::File(f) => put_view(alloc, f, view))
 }
 
 /// Frees what a view has; an empty one stays empty.

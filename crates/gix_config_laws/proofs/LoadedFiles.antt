@@ -4,6 +4,7 @@ use Rattle.std.specs.Prelude.{IfOk, IfSome}
 use Rattle.gitconf_sources.specs.FoundFiles.{AreFound, global_sources}
 use Rattle.gitconf_sources.specs.Metadata.{Meta}
 use Rattle.gitconf_sources.specs.Reports.{FileReport, VariableReport}
+use Rattle.gitconf_sources.specs.declared.fault.FileFault.{FileFault}
 use Rattle.gitconf_sources.specs.declared.host.Places.{Places}
 use Rattle.gitconf_sources.specs.declared.source.Source.{Source}
 use Rattle.gitconf_state.specs.Clean.{IsClean}
@@ -12,7 +13,8 @@ use Rattle.gitconf_includes.specs.Expansion.{Asks, IsLoaded}
 use Rattle.gitconf_includes.specs.Laws.{IncludesHeaded}
 use Rattle.gitconf_loaders.specs.Globals.{IsGlobal, home_rules}
 use Rattle.gitconf_loaders.specs.Headed.{AreHeadedAt, IsHeadedText}
-use Rattle.gitconf_loaders.specs.Paths.{IsLoadedFrom, IsLoadOfPaths, numbered}
+use Rattle.gitconf_loaders.specs.Paths.{IsLoadedFrom, IsLoadOfPaths, telling}
+use Rattle.gitconf_loaders.specs.Refused.{Refused}
 use Rattle.gitconf_loaders.specs.Resolving.{IsMadeOf}
 use Rattle.gitconf_loaders.proofs.Clean.{from_path, global_clean, made, made_whole, paths_clean}
 use Rattle.gix_config.specs.Environment.{HaveSectionNames, IncludeHeaded, IsFromEnv, IsOverrides}
@@ -36,53 +38,53 @@ pub begun_for : {I E : Type 0} (P : I → Type 0) (loaded : Result State E) → 
 begun_for P (Ok file) clean begins = λ i p. begins (clean i p)
 begun_for P (Err e) clean begins = tt
 
-pub text_begins : {E : Type 0} (number : E → ℕ) (asks : Asks) (text : List ℕ) (place : Meta) (loaded : Result State E) → IsMadeOf number asks text place loaded → BeginsIfClean loaded
+pub text_begins : {E : Type 0} (tells : E → Refused) (asks : Asks) (text : List ℕ) (place : Meta) (loaded : Result State E) → IsMadeOf tells asks text place loaded → BeginsIfClean loaded
     → IsHeadedText asks place text → IfOk loaded AlwaysReads
-text_begins number asks text place (Ok file) is begins heads = begins (made asks number text place file heads is).clean
-text_begins number asks text place (Err e) is begins heads = tt
+text_begins tells asks text place (Ok file) is begins heads = begins (made asks tells text place file heads is).clean
+text_begins tells asks text place (Err e) is begins heads = tt
 
-pub whole_text_begins : {E : Type 0} (number : E → ℕ) (asks : Asks) (text : List ℕ) (place : Meta) (loaded : Result State E) → IsMadeOf number asks text place loaded
+pub whole_text_begins : {E : Type 0} (tells : E → Refused) (asks : Asks) (text : List ℕ) (place : Meta) (loaded : Result State E) → IsMadeOf tells asks text place loaded
     → BeginsIfClean loaded → asks.rules.lossy ≡ false → ((file : State) → IsLoaded false text place file → IncludesHeaded asks.rules.max_depth asks file) → IfOk loaded AlwaysReads
-whole_text_begins number asks text place (Ok file) is begins whole heads = begins (made_whole asks number text place file whole heads is)
-whole_text_begins number asks text place (Err e) is begins whole heads = tt
+whole_text_begins tells asks text place (Ok file) is begins whole heads = begins (made_whole asks tells text place file whole heads is)
+whole_text_begins tells asks text place (Err e) is begins whole heads = tt
 
-pub path_begins : {E : Type 0} (number : E → ℕ) (table : Option (List ℕ → FileReport)) (path : List ℕ) (source : Source) (loaded : Result State E)
-    → IsLoadedFrom table path source (numbered number loaded) → BeginsIfClean loaded → IfOk loaded AlwaysReads
-path_begins number table path source (Ok file) is begins = begins (from_path table path source file is)
-path_begins number table path source (Err e) is begins = tt
+pub path_begins : {E : Type 0} (tells : E → Refused) (table : Option (List ℕ → FileReport)) (path : List ℕ) (source : Source) (loaded : Result State E)
+    → IsLoadedFrom table path source (telling tells loaded) → BeginsIfClean loaded → IfOk loaded AlwaysReads
+path_begins tells table path source (Ok file) is begins = begins (from_path table path source file is)
+path_begins tells table path source (Err e) is begins = tt
 
-pub paths_begin : {E : Type 0} (number : E → ℕ) (must_exist ignores : Bool) (asks : Asks) (metas : List Meta) (loaded : Result (Option State) E)
-    → IsLoadOfPaths must_exist ignores asks metas (numbered number loaded) → MayBeginIfClean loaded → AreHeadedAt must_exist ignores asks metas
+pub paths_begin : {E : Type 0} (tells : E → Refused) (must_exist ignores : Bool) (asks : Asks) (metas : List Meta) (loaded : Result (Option State) E)
+    → IsLoadOfPaths must_exist ignores asks metas (telling tells loaded) → MayBeginIfClean loaded → AreHeadedAt must_exist ignores asks metas
     → IfOk loaded (λ o. IfSome o AlwaysReads)
-paths_begin number must_exist ignores asks metas (Ok (Some file)) is begins heads = begins (paths_clean must_exist ignores asks metas file heads is).0
-paths_begin number must_exist ignores asks metas (Ok None) is begins heads = tt
-paths_begin number must_exist ignores asks metas (Err e) is begins heads = tt
+paths_begin tells must_exist ignores asks metas (Ok (Some file)) is begins heads = begins (paths_clean must_exist ignores asks metas file heads is).0
+paths_begin tells must_exist ignores asks metas (Ok None) is begins heads = tt
+paths_begin tells must_exist ignores asks metas (Err e) is begins heads = tt
 
-pub globals_begin : {E : Type 0} (number : E → ℕ) (variables : Option (List ℕ → VariableReport)) (places : Places) (table : Option (List ℕ → FileReport)) (loaded : Result State E)
-    → IsGlobal variables places table (numbered number loaded) → BeginsIfClean loaded
+pub globals_begin : {E : Type 0} (tells : E → Refused) (variables : Option (List ℕ → VariableReport)) (places : Places) (table : Option (List ℕ → FileReport)) (loaded : Result State E)
+    → IsGlobal variables places table (telling tells loaded) → BeginsIfClean loaded
     → ((found : List Meta) → AreFound variables places table global_sources found → AreHeadedAt true false (record { rules = home_rules places; table = table }) found)
     → IfOk loaded AlwaysReads
-globals_begin number variables places table (Ok file) is begins heads = begins (global_clean variables places table file heads is).0
-globals_begin number variables places table (Err e) is begins heads = tt
+globals_begin tells variables places table (Ok file) is begins heads = begins (global_clean variables places table file heads is).0
+globals_begin tells variables places table (Err e) is begins heads = tt
 
-pub env_begins : {E : Type 0} (number : E → ℕ) (reports : Option (List ℕ → VariableReport)) (asks : Asks) (loaded : Result (Option State) E)
-    → IsFromEnv reports asks (numbered number loaded) → MayBeginIfClean loaded → (variables : List ℕ → VariableReport) → reports ≡ Some variables → HaveSectionNames variables
+pub env_begins : {E : Type 0} (tells : E → Refused) (reports : Option (List ℕ → VariableReport)) (asks : Asks) (loaded : Result (Option State) E)
+    → IsFromEnv reports asks (telling tells loaded) → MayBeginIfClean loaded → (variables : List ℕ → VariableReport) → reports ≡ Some variables → HaveSectionNames variables
     → IncludeHeaded variables asks → IfOk loaded (λ o. IfSome o AlwaysReads)
-env_begins number reports asks (Ok (Some file)) is begins variables told named heads =
+env_begins tells reports asks (Ok (Some file)) is begins variables told named heads =
     begins (env_clean variables asks file named heads (subst (λ o. IsFromEnv o asks (Ok (Some file))) told is)).0
-env_begins number reports asks (Ok None) is begins variables told named heads = tt
-env_begins number reports asks (Err e) is begins variables told named heads = tt
+env_begins tells reports asks (Ok None) is begins variables told named heads = tt
+env_begins tells reports asks (Err e) is begins variables told named heads = tt
 
-pub overrides_begin : {E : Type 0} (number : E → ℕ) (reports : Option (List ℕ → VariableReport)) (places : Places) (table : Option (List ℕ → FileReport)) (loaded : Result State E)
-    → IsOverrides reports places table (numbered number loaded) → BeginsIfClean loaded → (variables : List ℕ → VariableReport) → reports ≡ Some variables → HaveSectionNames variables
+pub overrides_begin : {E : Type 0} (tells : E → Refused) (reports : Option (List ℕ → VariableReport)) (places : Places) (table : Option (List ℕ → FileReport)) (loaded : Result State E)
+    → IsOverrides reports places table (telling tells loaded) → BeginsIfClean loaded → (variables : List ℕ → VariableReport) → reports ≡ Some variables → HaveSectionNames variables
     → IncludeHeaded variables (record { rules = home_rules places; table = table }) → IfOk loaded AlwaysReads
-overrides_begin number reports places table (Ok file) is begins variables told named heads =
+overrides_begin tells reports places table (Ok file) is begins variables told named heads =
     begins (overrides_clean variables places table file named heads (subst (λ o. IsOverrides o places table (Ok file)) told is)).0
-overrides_begin number reports places table (Err e) is begins variables told named heads = tt
+overrides_begin tells reports places table (Err e) is begins variables told named heads = tt
 
-pub repository_begins : {E : Type 0} (number : E → ℕ) (reports : Option (List ℕ → VariableReport)) (places : Places) (table : Option (List ℕ → FileReport)) (dir : List ℕ) (real : Option (List ℕ)) (loaded : Result State E)
-    → IsRepository reports places table dir real (numbered number loaded) → BeginsIfClean loaded → (variables : List ℕ → VariableReport) → reports ≡ Some variables
+pub repository_begins : {E : Type 0} (tells : E → Refused) (reports : Option (List ℕ → VariableReport)) (places : Places) (table : Option (List ℕ → FileReport)) (dir : List ℕ) (real : Result (List ℕ) FileFault) (loaded : Result State E)
+    → IsRepository reports places table dir real (telling tells loaded) → BeginsIfClean loaded → (variables : List ℕ → VariableReport) → reports ≡ Some variables
     → HaveSectionNames variables → IsHeadedRepository variables places table dir real → IfOk loaded AlwaysReads
-repository_begins number reports places table dir real (Ok file) is begins variables told named heads =
+repository_begins tells reports places table dir real (Ok file) is begins variables told named heads =
     begins (repository_clean variables places table dir real file named heads (subst (λ o. IsRepository o places table dir real (Ok file)) told is)).0
-repository_begins number reports places table dir real (Err e) is begins variables told named heads = tt
+repository_begins tells reports places table dir real (Err e) is begins variables told named heads = tt

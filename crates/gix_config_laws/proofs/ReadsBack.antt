@@ -32,7 +32,7 @@ use Rattle.gitconf_body.specs.Done.{Cause, InvalidKey, InvalidName, InvalidSubse
 use Rattle.gitconf_body.specs.Refusals.{span_refusal}
 use Rattle.gitconf_body.specs.ValuesAt.{rewritten_put}
 use Rattle.gitconf_includes.specs.declared.includes.Error.{Error as IncludesError}
-use Rattle.gitconf_includes.specs.Errors.{includes_number}
+use Rattle.gitconf_includes.specs.Errors.{says}
 use Rattle.gitconf_includes.specs.Expansion as expansions
 use Rattle.gitconf_includes.specs.Expansion.{Asks, Ended, Expands, On, Reached}
 use Rattle.gitconf_includes.specs.Laws.{file_of, IncludesHeaded}
@@ -242,14 +242,14 @@ kept_by_deletions (place ∷ places) old kept =
 
 -- so does an expansion
 kept_by_expansion : (asks : Asks) (result : Result (Unit {0}) IncludesError) (old new : State) → IncludesHeaded asks.rules.max_depth asks old → Keeps old
-    → expansions.Resolves includes_number asks old result new → Keeps new
+    → expansions.Resolves says asks old result new → Keeps new
 kept_by_expansion asks result old new included kept is = left result is.0 is.2 (reached (asks.rules.max_depth == 0) is.1)
   where
     reached : (b : Bool) → (elim b as (λ _. Type 0) [ true ↦ is.0 ≡ On old | false ↦ Expands asks.rules.max_depth asks None old is.0 ]) → Keeps (file_of is.0)
     reached true same = subst (λ r. Keeps (file_of r)) (sym same) kept
     reached false all = (items_stay asks.rules.max_depth asks None old is.0 kept.0 all, clean_stays asks.rules.max_depth asks None old is.0 included kept.1 all)
 
-    left : (result : Result (Unit {0}) IncludesError) (r : Reached) → expansions.Leaves includes_number result new r → Keeps (file_of r) → Keeps new
+    left : (result : Result (Unit {0}) IncludesError) (r : Reached) → expansions.Leaves says result new r → Keeps (file_of r) → Keeps new
     left (Ok done) r leaves there = subst Keeps (ap file_of leaves) there
     left (Err e) (Ended n file) leaves there = subst Keeps (sym leaves.1) there
     left (Err e) (On done) leaves there = absurd leaves

@@ -8,7 +8,7 @@ use Rattle.gitconf_state.specs.Edit.{made_header}
 use Rattle.gitconf_state.specs.Edits.{Answer, Append, Edit, IsCleanEdit, IsEditor, Push, PushAfterLast, PushLineEnd, PushSection, SetValue, WriteAt, answer}
 use Rattle.gitconf_state.specs.State.{HasItems, HasSectionItems, State}
 use Rattle.gitconf_includes.specs.declared.includes.Error.{Error as IncludesError}
-use Rattle.gitconf_includes.specs.Errors.{includes_number}
+use Rattle.gitconf_includes.specs.Errors.{says}
 use Rattle.gitconf_includes.specs.Expansion as expansions
 use Rattle.gitconf_includes.specs.Expansion.{Asks}
 use Rattle.gitconf_includes.specs.Laws.{IncludesHeaded}
@@ -63,7 +63,7 @@ LeavesFile (SetsExisting key value result) old new = IsSetExisting key value res
 LeavesFile (SetsAllExisting key values result) old new = AreSetExisting key values result old new
 LeavesFile (SetsValues key places values result) old new = AreRewritten span_refusal key places values result old new
 LeavesFile (DeletesAll places) old new = new ≡ all_deleted places old
-LeavesFile (Resolves asks result) old new = expansions.Resolves includes_number asks old result new
+LeavesFile (Resolves asks result) old new = expansions.Resolves says asks old result new
 
 -- calls, each on the file that the one before it left
 abbrev pub Runs : List Call → (old new : State) → Type 0

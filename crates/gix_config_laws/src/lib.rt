@@ -11,6 +11,7 @@ ghost use Rattle.bstr.specs.Owned.{bstring_bytes};
 ghost use Rattle.std.specs.Prelude.{◌≡◌, ◌≤◌, ℕ, Bool, false, true, List, [], filter, map, option_map, None, Result, Ok, Option, Some, IfOk, OnErr, OnOk, string_bytes};
 ghost use Rattle.gitconf_sources.specs.Metadata.{Meta};
 ghost use Rattle.gitconf_sources.specs.Reports.{FileReport, VariableReport};
+ghost use Rattle.gitconf_sources.specs.declared.fault.FileFault.{FileFault};
 ghost use Rattle.gitconf_sources.specs.declared.host.Places.{Places};
 ghost use Rattle.gitconf_state.specs.Clean.{IsClean};
 ghost use Rattle.gitconf_state.specs.Equality.{AreEqual};
@@ -115,7 +116,7 @@ pub fn configurations_have_one_outcome()
     ensures overrides { (variables : List ℕ → VariableReport) (places : Places) (files : List ℕ → FileReport)
         → HasOneOutcome (IsOverrides (Some variables) places (Some files)) }
     ensures repository { (variables : List ℕ → VariableReport) (places : Places) (files : List ℕ → FileReport) (dir : List ℕ)
-        (real : Option (List ℕ)) → HasOneOutcome (IsRepository (Some variables) places (Some files) dir real) }
+        (real : Result (List ℕ) FileFault) → HasOneOutcome (IsRepository (Some variables) places (Some files) dir real) }
 {}
 
 /// The file that variables set says the same where what it includes is loaded lossy, if neither load is refused.
@@ -130,9 +131,9 @@ pub fn lossy_loads_of_variables_say_the_same()
 /// file has such an entry if no text that the host tells has one.
 pub fn repositories_are_clean()
     ensures clean { (variables : List ℕ → VariableReport) (places : Places) (table : Option (List ℕ → FileReport)) (dir : List ℕ)
-        (real : Option (List ℕ)) (file : State) → HaveSectionNames variables → IsHeadedRepository variables places table dir real
+        (real : Result (List ℕ) FileFault) (file : State) → HaveSectionNames variables → IsHeadedRepository variables places table dir real
         → IsRepository (Some variables) places table dir real (Ok file) → IsClean file × (entries_of file.front ≡ []) }
-    ensures texts { (variables : List ℕ → VariableReport) (places : Places) (files : List ℕ → FileReport) (dir : List ℕ) (real : Option (List ℕ))
+    ensures texts { (variables : List ℕ → VariableReport) (places : Places) (files : List ℕ → FileReport) (dir : List ℕ) (real : Result (List ℕ) FileFault)
         → AreHeaded files → IsHeadedRepository variables places (Some files) dir real }
 {}
 

@@ -507,19 +507,19 @@ pub(crate) struct View {
 }
 
 extern "C" {
-    pub(super) fn gix_config_file_append(file: *mut File, other_file: *mut File) -> u32;
+    pub(super) fn gix_config_file_append(file: *mut File, other_file: *const File) -> u32;
     pub(super) fn gix_config_file_equal(
-        file: *mut File,
-        other_file: *mut File,
+        file: *const File,
+        other_file: *const File,
         equal: *mut bool,
     ) -> u32;
     pub(super) fn gix_config_differences(
-        file: *mut File,
-        other_file: *mut File,
+        file: *const File,
+        other_file: *const File,
         list: *mut List,
     ) -> u32;
     pub(super) fn gix_config_list_difference(
-        list: *mut List,
+        list: *const List,
         index: usize,
         difference: *mut Difference<'_>,
     ) -> u32;
@@ -535,14 +535,14 @@ extern "C" {
         key: *const Key<'_>,
         old: *mut Bytes,
     ) -> u32;
-    pub(super) fn gix_config_entries(file: *mut File, list: *mut List) -> u32;
+    pub(super) fn gix_config_entries(file: *const File, list: *mut List) -> u32;
     pub(super) fn gix_config_list_entry(
-        list: *mut List,
+        list: *const List,
         index: usize,
         entry: *mut Entry<'_>,
     ) -> u32;
     pub(super) fn gix_config_load_env_told(
-        told: *mut Told,
+        told: *const Told,
         includes: *const Includes<'_>,
         file: *mut File,
         asked: *mut Bytes,
@@ -559,40 +559,40 @@ extern "C" {
         values: *const Text<'_>,
         values_len: usize,
     ) -> u32;
-    pub(super) fn gix_config_file_text(file: *mut File, text: *mut Bytes) -> u32;
+    pub(super) fn gix_config_file_text(file: *const File, text: *mut Bytes) -> u32;
     pub(super) fn gix_config_bytes_free(bytes: *mut Bytes);
     pub(super) fn gix_config_refusal_text(number: u32, text: *mut Text<'static>);
     pub(super) fn gix_config_value_filter(
-        file: *mut File,
+        file: *const File,
         key: *const Key<'_>,
         filter: *const Filter,
         value: *mut Bytes,
     ) -> u32;
     pub(super) fn gix_config_values_filter(
-        file: *mut File,
+        file: *const File,
         key: *const Key<'_>,
         filter: *const Filter,
         list: *mut List,
     ) -> u32;
     pub(super) fn gix_config_boolean_filter(
-        file: *mut File,
+        file: *const File,
         key: *const Key<'_>,
         filter: *const Filter,
         value: *mut bool,
     ) -> u32;
     pub(super) fn gix_config_integer_filter(
-        file: *mut File,
+        file: *const File,
         key: *const Key<'_>,
         filter: *const Filter,
         value: *mut i64,
     ) -> u32;
     pub(super) fn gix_config_file_text_filter(
-        file: *mut File,
+        file: *const File,
         filter: *const Filter,
         text: *mut Bytes,
     ) -> u32;
     pub(super) fn gix_config_load_globals_told(
-        told: *mut Told,
+        told: *const Told,
         places: *const Places<'_>,
         file: *mut File,
         asked: *mut Bytes,
@@ -628,31 +628,43 @@ extern "C" {
         marks_len: usize,
         count: *mut usize,
     ) -> u32;
-    pub(super) fn gix_config_list_len(list: *mut List) -> usize;
-    pub(super) fn gix_config_list_at(list: *mut List, index: usize, text: *mut Text<'_>) -> u32;
+    pub(super) fn gix_config_list_len(list: *const List) -> usize;
+    pub(super) fn gix_config_list_at(list: *const List, index: usize, text: *mut Text<'_>) -> u32;
     pub(super) fn gix_config_list_close(list: *mut List);
     pub(super) fn gix_config_load_told(
-        told: *mut Told,
+        told: *const Told,
         load: *const Load<'_>,
         file: *mut File,
         path: *mut Bytes,
     ) -> u32;
     pub(super) fn gix_config_resolve_includes_told(
-        told: *mut Told,
+        told: *const Told,
         file: *mut File,
         includes: *const Includes<'_>,
         path: *mut Bytes,
     ) -> u32;
-    pub(super) fn gix_config_value(file: *mut File, key: *const Key<'_>, value: *mut Bytes) -> u32;
-    pub(super) fn gix_config_values(file: *mut File, key: *const Key<'_>, list: *mut List) -> u32;
+    pub(super) fn gix_config_value(
+        file: *const File,
+        key: *const Key<'_>,
+        value: *mut Bytes,
+    ) -> u32;
+    pub(super) fn gix_config_values(
+        file: *const File,
+        key: *const Key<'_>,
+        list: *mut List,
+    ) -> u32;
     pub(super) fn gix_config_boolean(
-        file: *mut File,
+        file: *const File,
         key: *const Key<'_>,
         value: *mut bool,
     ) -> u32;
-    pub(super) fn gix_config_integer(file: *mut File, key: *const Key<'_>, value: *mut i64) -> u32;
+    pub(super) fn gix_config_integer(
+        file: *const File,
+        key: *const Key<'_>,
+        value: *mut i64,
+    ) -> u32;
     pub(super) fn gix_config_file_origin(
-        file: *mut File,
+        file: *const File,
         origin: *mut Origin,
         path: *mut Bytes,
     ) -> u32;
@@ -708,9 +720,9 @@ extern "C" {
         place: *mut Place,
     ) -> u32;
     pub(super) fn gix_config_file_close(file: *mut File);
-    pub(super) fn gix_config_file_clone(file: *mut File, other_file: *mut File) -> u32;
+    pub(super) fn gix_config_file_clone(file: *const File, other_file: *mut File) -> u32;
     pub(super) fn gix_config_path(
-        file: *mut File,
+        file: *const File,
         key: *const Key<'_>,
         folders: *const Folders<'_>,
         path: *mut Bytes,
@@ -727,19 +739,19 @@ extern "C" {
         value: *mut i64,
     ) -> u32;
     pub(super) fn gix_config_load_repository_told(
-        told: *mut Told,
+        told: *const Told,
         repository: *const Repository<'_>,
         file: *mut File,
         asked: *mut Bytes,
     ) -> u32;
-    pub(super) fn gix_config_sections(file: *mut File, list: *mut List) -> u32;
+    pub(super) fn gix_config_sections(file: *const File, list: *mut List) -> u32;
     pub(super) fn gix_config_list_section(
-        list: *mut List,
+        list: *const List,
         index: usize,
         section: *mut ListedSection<'_>,
     ) -> u32;
     pub(super) fn gix_config_section_entries(
-        file: *mut File,
+        file: *const File,
         index: usize,
         list: *mut List,
     ) -> u32;
@@ -805,12 +817,12 @@ extern "C" {
         place: *mut Place,
     ) -> u32;
     pub(super) fn gix_config_told_place(
-        told: *mut Told,
+        told: *const Told,
         path: *const u8,
         path_len: usize,
         place: *mut Place,
     ) -> u32;
     pub(super) fn gix_config_version(text: *mut Text<'static>);
-    pub(super) fn gix_config_view_file(file: *mut File, view: *mut View) -> u32;
+    pub(super) fn gix_config_view_file(file: *const File, view: *mut View) -> u32;
     pub(super) fn gix_config_view_free(view: *mut View);
 }

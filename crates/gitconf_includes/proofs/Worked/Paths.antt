@@ -5,6 +5,7 @@ use Rattle.std.specs.Prelude.{codes}
 use Rattle.std.specs.Str.{is_utf8, chars}
 use Rattle.gitconf_values.specs.Paths.{trimmed_length, last_slash}
 use Rattle.gitconf_includes.specs.Paths.{file_named}
+use Rattle.gitconf_includes.specs.Said.{NoFolder, NoPath}
 use Rattle.gitconf_includes.proofs.Worked.Rules.{loose, strict, lax, of_file, of_none}
 
 pub absolute : file_named loose of_none (codes "/x") ≡ Ok (Some (codes "/x"))
@@ -23,11 +24,11 @@ pub in_an_empty_folder : file_named loose (of_file (codes "m")) (codes "x") ≡ 
 unfolding is_utf8 chars encode trimmed_length last_slash
 in_an_empty_folder = refl
 
-pub in_no_folder : file_named lax (of_file (codes "/")) (codes "x") ≡ Err 16
+pub in_no_folder : file_named lax (of_file (codes "/")) (codes "x") ≡ Err NoFolder
 unfolding is_utf8 chars encode trimmed_length last_slash
 in_no_folder = refl
 
-pub of_no_file : file_named loose of_none (codes "x") ≡ Err 16
+pub of_no_file : file_named loose of_none (codes "x") ≡ Err NoFolder
 unfolding is_utf8 chars encode
 of_no_file = refl
 
@@ -47,7 +48,7 @@ pub no_such_user : file_named loose of_none (codes "~v/x") ≡ Ok None
 unfolding is_utf8 chars encode
 no_such_user = refl
 
-pub no_such_user_refused : file_named strict of_none (codes "~v/x") ≡ Err 12
+pub no_such_user_refused : file_named strict of_none (codes "~v/x") ≡ Err (NoPath 12)
 unfolding is_utf8 chars encode
 no_such_user_refused = refl
 
@@ -57,10 +58,10 @@ not_installed = refl
 pub empty : file_named loose (of_file (codes "/d/m")) [] ≡ Ok None
 empty = refl
 
-pub user_not_text : file_named loose of_none (codes "~" ++ 255 ∷ codes "/x") ≡ Err 14
+pub user_not_text : file_named loose of_none (codes "~" ++ 255 ∷ codes "/x") ≡ Err (NoPath 14)
 unfolding is_utf8 chars encode
 user_not_text = refl
 
-pub not_text : file_named loose of_none (codes "/" ++ 255 ∷ []) ≡ Err 13
+pub not_text : file_named loose of_none (codes "/" ++ 255 ∷ []) ≡ Err (NoPath 13)
 unfolding is_utf8 chars encode
 not_text = refl

@@ -1,6 +1,8 @@
 -- The rules that rows go by.
-use Rattle.std.specs.Prelude.{◌∷◌, true, false, List, [], Option, Some, None, ℕ, codes}
+use Rattle.std.specs.Prelude.{◌∷◌, true, false, List, [], Some, None, ℕ, Result, codes}
 use Rattle.gitconf_sources.specs.Metadata.{Meta, api_meta}
+use Rattle.gitconf_sources.specs.declared.fault.FileFault.{FileFault}
+use Rattle.gitconf_sources.specs.declared.fault.Stage.TheVariants.{Open}
 use Rattle.gitconf_includes.specs.Rules.{Rules}
 
 -- `follow`: nothing is installed, the home folder is /h, that of u is /u; no git folder and no branch
@@ -29,8 +31,12 @@ lax = record loose { refuses_no_path = false }
 abbrev pub on_branch : List ℕ → Rules
 on_branch branch = record loose { branch = Some branch }
 
+-- why a folder can't be resolved
+abbrev pub unknown : FileFault
+unknown = record { stage = Open; not_found = true }
+
 -- in a repository, whose folder may be resolved
-abbrev pub in_repository : Rules → List ℕ → Option (List ℕ) → Rules
+abbrev pub in_repository : Rules → List ℕ → Result (List ℕ) FileFault → Rules
 in_repository rules path real = record rules { git_dir = Some (record { path = path; real = real }) }
 
 -- what comes from a file

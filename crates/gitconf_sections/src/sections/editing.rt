@@ -7,13 +7,14 @@ ghost use Rattle.gitconf_sections.specs.Moves.{IsMovable, IsMovedAt};
 ghost use Rattle.gitconf_sections.specs.Section.{with_items};
 
 use crate::body::Body;
+use crate::held::Held;
+use crate::id::SectionId;
 use crate::part::{leave_out_of, move_body, take_out};
 use crate::sections::SectionList;
 use gitconf_items::event::Header;
 use gitconf_items::items::Item;
 use gitconf_items::moving::moved_header;
 use gitconf_sources::meta::Metadata;
-use gitconf_table::table::SectionId;
 use gitconf_text::NoMemory;
 use std::mem::replace;
 use std::rc::Rc;
@@ -24,7 +25,7 @@ impl SectionList {
         requires { position < length self.old.entries }
         ensures { self.new ≡ edited_at (λ s. record s { header = header }) position self.old }
     {
-        let row = self.table.at_mut(position);
+        let row = &mut self.rows[position];
         row.header = header;
     }
 
@@ -33,7 +34,7 @@ impl SectionList {
         requires { position < length self.old.entries }
         ensures { self.new ≡ edited_at (λ s. record s { meta = meta }) position self.old }
     {
-        let row = self.table.at_mut(position);
+        let row = &mut self.rows[position];
         row.meta = meta;
     }
 
@@ -50,7 +51,7 @@ impl SectionList {
         ensures err { OnErr result (self.new ≡ self.old) }
     {
         let alloc = *self.list.allocator();
-        let row = self.table.at_mut(position);
+        let row = &mut self.rows[position];
         take_out(alloc, &mut self.list, &mut row.body)
     }
 
@@ -59,8 +60,27 @@ impl SectionList {
         requires { position < length self.old.entries }
         ensures { self.new ≡ edited_at (with_items items.value.items) position self.old }
     {
-        let row = self.table.at_mut(position);
+        let row = &mut self.rows[position];
         row.body = Body::Own(items);
+    }
+
+    /// Takes what is held after the section at a place, to be changed and put back by [`SectionList::put_held`].
+    pub(super) fn take_held(&mut self, position: usize) -> Held
+        requires { position < length self.old.entries }
+        ensures held { option_map (λ s. s.held.items) (section_at position self.old) ≡ Some result.items }
+        ensures left { self.new ≡ edited_at (λ s. record s { held = record { items = [] } }) position self.old }
+    {
+        let row = &mut self.rows[position];
+        replace(&mut row.held, Held::none())
+    }
+
+    /// Puts these items after the section at a place, in place of what is held there.
+    pub(super) fn put_held(&mut self, position: usize, held: Held)
+        requires { position < length self.old.entries }
+        ensures { self.new ≡ edited_at (λ s. record s { held = record { items = held.items } }) position self.old }
+    {
+        let row = &mut self.rows[position];
+        row.held = held;
     }
 
     /// Removes all items of the section at a place. Takes no memory.
@@ -68,7 +88,7 @@ impl SectionList {
         requires { position < length self.old.entries }
         ensures { self.new ≡ edited_at (with_items []) position self.old }
     {
-        let row = self.table.at_mut(position);
+        let row = &mut self.rows[position];
         row.body = Body::Nothing;
     }
 
@@ -79,7 +99,7 @@ impl SectionList {
         requires ascend { Ascend 0 places.now }
         ensures { self.new ≡ edited_at (λ s. with_items (without_all places.now s.items.items) s) position self.old }
     {
-        let row = self.table.at_mut(position);
+        let row = &mut self.rows[position];
         let body = replace(&mut row.body, Body::Nothing);
         row.body = leave_out_of(&mut self.list, body, places);
     }
@@ -91,7 +111,7 @@ impl SectionList {
         requires movable { IfSome (section_at position self.old) (IsMovable by copies_by) }
         ensures { IsMovedAt by copies_by position self.old self.new }
     {
-        let row = self.table.at_mut(position);
+        let row = &mut self.rows[position];
         row.header = moved_header(row.header, by, copies_by);
         row.held.move_by(by);
         let body = replace(&mut row.body, Body::Nothing);

@@ -4,10 +4,10 @@ use Rattle.std.specs.List.{AllByRecursion}
 use Rattle.gitconf_sources.specs.Metadata.{Meta}
 use Rattle.gitconf_items.specs.declared.items.Item.{Item}
 use Rattle.gitconf_state.specs.State.{HasSectionItems}
-use Rattle.gitconf_table.specs.declared.runs.Run.{Run}
-use Rattle.gitconf_table.specs.Runs.{woven}
+use Rattle.gitconf_sections.specs.declared.runs.Run.{Run}
+use Rattle.gitconf_sections.specs.Runs.{woven}
 use Rattle.gitconf_text.specs.Sections.{Sections}
-use Rattle.gitconf_table.proofs.Woven.{all_woven, map_woven}
+use Rattle.gitconf_sections.proofs.Woven.{all_woven, map_woven}
 use Rattle.gitconf_sections.specs.Section.{Section}
 use Rattle.gitconf_views.specs.Store.{section_state, state_of, SectionFits, StoreFits}
 

@@ -13,7 +13,7 @@ use Rattle.gitconf_items.specs.declared.event.Event.TheVariants as kinds
 use Rattle.gitconf_items.specs.declared.items.Item.{Item}
 use Rattle.gitconf_items.specs.Events.{header_of}
 use Rattle.gitconf_items.specs.ShownEvents.{IsExtended, IsShown}
-use Rattle.gitconf_table.specs.Renames.{with_names_at}
+use Rattle.gitconf_sections.specs.Renames.{with_names_at}
 use Rattle.gitconf_text.specs.Sections.{AreNumbered, SectionEntry, Sections, changed_at, with_names}
 use Rattle.gitconf_text.specs.Sections as table
 use Rattle.gitconf_state.specs.Edit.{is_target, made_header, with_used}

@@ -5,7 +5,7 @@ use gitconf_body::items_edits::{
     PopEntry, PushLine, PushLineBelow, PushNewline, RemoveEntry, RemoveMarkedEntries, SetEntry,
 };
 use gitconf_body::{take_out, value};
-use gitconf_table::table::SectionId;
+use gitconf_sections::id::SectionId;
 use gitconf_text::NoMemory;
 use gitconf_text::parse::section::ValueNameError;
 use gitconf_text::parse::section::bytes::is_value_name;

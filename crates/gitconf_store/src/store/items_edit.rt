@@ -1,7 +1,7 @@
 //! Edits of the items of one section of a store.
 use crate::store::Store;
 use gitconf_body::items_edit::{ItemsEdit, edit_or_leave};
-use gitconf_table::table::SectionId;
+use gitconf_sections::id::SectionId;
 use gitconf_text::NoMemory;
 
 impl Store {

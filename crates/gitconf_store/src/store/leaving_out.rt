@@ -4,7 +4,7 @@ ghost use Rattle.gitconf_sections.specs.LeavingOut.{Ascend};
 ghost use Rattle.gitconf_store.specs.LeavingOut.{AreIn};
 
 use crate::store::Store;
-use gitconf_table::table::SectionId;
+use gitconf_sections::id::SectionId;
 
 /// How many places come before the last run: the last run is of places in the section of the last one, each of which comes before the next
 /// one.

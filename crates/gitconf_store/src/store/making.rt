@@ -3,7 +3,7 @@ use crate::store::Store;
 use gitconf_body::blanks::Blanks;
 use gitconf_body::buffer::take_back;
 use gitconf_body::section;
-use gitconf_table::table::SectionId;
+use gitconf_sections::id::SectionId;
 use gitconf_text::NoMemory;
 use gitconf_text::parse::section::header::{Error, validate};
 use gitconf_text::parse::span;

@@ -9,7 +9,7 @@ use crate::store::Store;
 use crate::store::append::put_text;
 use gitconf_body::buffer::{check_room, take_back};
 use gitconf_items::moving::moved_header;
-use gitconf_table::table::SectionId;
+use gitconf_sections::id::SectionId;
 use gitconf_text::parse::span;
 use gitconf_views::detached;
 use gitconf_views::shifted_sections::{move_list, put_last};

@@ -11,8 +11,8 @@ ghost use Rattle.gitconf_views.specs.Views.{shown};
 
 use crate::store::Store;
 use gitconf_lookups::filters::last_passing;
+use gitconf_sections::id::SectionId;
 use gitconf_sources::meta::Metadata;
-use gitconf_table::table::SectionId;
 use gitconf_text::NoMemory;
 use gitconf_views::detached;
 use gitconf_views::section::SectionRef;

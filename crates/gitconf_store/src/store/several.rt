@@ -4,8 +4,8 @@ use crate::store::Store;
 use crate::store::leaving_out::before_run;
 use bstr::BString;
 use gitconf_body::value_at::InPlaceOf;
+use gitconf_sections::id::SectionId;
 use gitconf_sources::key::KeyRef;
-use gitconf_table::table::SectionId;
 use gitconf_text::NoMemory;
 use gitconf_text::parse::span;
 

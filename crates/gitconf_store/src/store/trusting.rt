@@ -4,8 +4,8 @@ ghost use Rattle.gitconf_state.specs.Edits.{SetTrust, apply, numbered};
 ghost use Rattle.gitconf_store.specs.Edited.{has_number};
 
 use crate::store::Store;
+use gitconf_sections::id::SectionId;
 use gitconf_sources::source::Trust;
-use gitconf_table::table::SectionId;
 use gitconf_text::NoMemory;
 use gitconf_views::section::trusted;
 

@@ -1,9 +1,9 @@
 //! Sections that were added at the end are moved to where they belong.
 ghost use Rattle.std.specs.Prelude.{◌≡◌, ◌-◌, ◌≤◌, length};
-ghost use Rattle.gitconf_table.specs.Runs.{woven, AreRuns};
+ghost use Rattle.gitconf_sections.specs.Runs.{woven, AreRuns};
 
 use crate::store::Store;
-use gitconf_table::runs::Run;
+use gitconf_sections::runs::Run;
 
 impl Store {
     /// Weaves the sections from `first` on among those before them: for each run that many of the first ones, and then that many of the

@@ -3,9 +3,9 @@ use crate::detached::editor::DetachedSectionMut;
 use crate::section::SectionRef;
 use crate::views::{BodyRef, HeaderRef, ValueNames};
 use bstr::BString;
+use gitconf_sections::id::SectionId;
 use gitconf_sources::lists::if_any;
 use gitconf_sources::meta::Metadata;
-use gitconf_table::table::SectionId;
 use gitconf_text::NoMemory;
 
 impl<'a> DetachedSectionMut<'a> {

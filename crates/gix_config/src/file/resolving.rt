@@ -12,11 +12,12 @@ use std::mem::replace;
 use std::rc::Rc;
 
 impl File {
-    ghost use Rattle.std.specs.Prelude.{◌≡◌, IfErr};
+    ghost use Rattle.std.specs.Prelude.{◌≡◌};
     ghost use Rattle.gitconf_includes.specs.Expansion.{Resolves};
-    ghost use Rattle.gitconf_includes.specs.Outcomes.{asks_of, CountsFaults, IsCause};
-    ghost use Rattle.gitconf_includes.specs.Errors.{includes_number, init_number};
-    ghost use Rattle.gitconf_loaders.specs.Resolving.{IsMadeCause, IsMadeOf, MakesCounted};
+    ghost use Rattle.gitconf_includes.specs.Outcomes.{asks_of, CountsFaults};
+    ghost use Rattle.gitconf_includes.specs.Errors.{says};
+    ghost use Rattle.gitconf_loaders.specs.Errors.{init_says};
+    ghost use Rattle.gitconf_loaders.specs.Resolving.{IsMadeOf, MakesCounted};
 
     /// Reads the files that the file's sections include, and puts each, with what it includes itself, after the section that includes it: its
     /// sections in their order under the next numbers, and what comes before its first section held after the section before. For an
@@ -39,8 +40,7 @@ impl File {
         options: Options<'_>,
         host: &mut Host,
     ) -> Result<(), includes::Error>
-        ensures expanded { Resolves includes_number (asks_of options.entry (⟦<Box<dyn Files> as Files>⟧.table host.old.files)) self.old result self.new }
-        ensures cause { IfErr result (IsCause options.entry (⟦<Box<dyn Files> as Files>⟧.table host.old.files)) }
+        ensures expanded { Resolves says (asks_of options.entry (⟦<Box<dyn Files> as Files>⟧.table host.old.files)) self.old result self.new }
         ensures table { ⟦<Box<dyn Files> as Files>⟧.table host.new.files ≡ ⟦<Box<dyn Files> as Files>⟧.table host.old.files }
         ensures counted { CountsFaults result (⟦<Box<dyn Files> as Files>⟧.failures host.old.files) (⟦<Box<dyn Files> as Files>⟧.failures host.new.files) }
         ensures env { host.new.env ≡ host.old.env }
@@ -72,8 +72,7 @@ impl File {
         options: Options<'_>,
         host: &mut Host,
     ) -> Result<File, Error>
-        ensures made { IsMadeOf init_number (asks_of options.entry (⟦<Box<dyn Files> as Files>⟧.table host.old.files)) text.items meta.value result }
-        ensures cause { IfErr result (IsMadeCause options.entry (⟦<Box<dyn Files> as Files>⟧.table host.old.files) text.items) }
+        ensures made { IsMadeOf init_says (asks_of options.entry (⟦<Box<dyn Files> as Files>⟧.table host.old.files)) text.items meta.value result }
         ensures table { ⟦<Box<dyn Files> as Files>⟧.table host.new.files ≡ ⟦<Box<dyn Files> as Files>⟧.table host.old.files }
         ensures counted { MakesCounted result (⟦<Box<dyn Files> as Files>⟧.failures host.old.files) (⟦<Box<dyn Files> as Files>⟧.failures host.new.files) }
         ensures env { host.new.env ≡ host.old.env }

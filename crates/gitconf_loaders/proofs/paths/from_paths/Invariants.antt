@@ -1,11 +1,10 @@
-use Rattle.std.proofs.Common.{◌≡◌, ℕ, List, [], None, Option, Result, true}
-use Rattle.std.specs.List.{list_any}
+use Rattle.std.proofs.Common.{◌≡◌, [], None, Option, Result}
 use Rattle.std.specs.Vec.Iter.{into_iter_items}
 use Rattle.gitconf_sources.specs.Reports.{IsNoLess}
 use Rattle.gitconf_state.specs.State.{State}
 use Rattle.gitconf_includes.specs.Outcomes.{asks_of}
-use Rattle.gitconf_loaders.specs.Causes.{has_path}
 use Rattle.gitconf_loaders.specs.Paths.{AreFilesLoaded, once}
+use Rattle.gitconf_loaders.specs.Refused.{Refused}
 use Rattle.gitconf_loaders.proofs.paths.from_paths.Given as goal
 
 abbrev pub invariant-loop-meta : goal.invariant-loop-meta
@@ -14,8 +13,7 @@ invariant-loop-meta g l = record {
   is_finite : (goal.iterator-loop-meta g).is_finite l.meta-iterator;
   table : g.F.Files.table l.files ≡ g.F.Files.table l.fn.files;
   counted : IsNoLess (g.F.Files.failures l.fn.files) (g.F.Files.failures l.files);
-  suffices : (r : Result (Option State) ℕ)
+  suffices : (r : Result (Option State) Refused)
       → AreFilesLoaded l.must_exist l.options.ignore_io_errors (asks_of l.options (g.F.Files.table l.fn.files)) (into_iter_items l.meta-iterator) l.target r
       → AreFilesLoaded l.must_exist l.options.ignore_io_errors (asks_of l.options (g.F.Files.table l.fn.files)) (once [] l.fn.metas.items) None r;
-  paths : (path : List ℕ) → list_any (has_path path) (into_iter_items l.meta-iterator) ≡ true → list_any (has_path path) l.fn.metas.items ≡ true;
 }

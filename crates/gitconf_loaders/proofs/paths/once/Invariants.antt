@@ -1,6 +1,6 @@
 use Rattle.std.proofs.Common.{◌≡◌, ℕ, List, [], ◌++◌}
 use Rattle.std.specs.Vec.Iter.{into_iter_items}
-use Rattle.gitconf_loaders.specs.Causes.{Sees}
+use Rattle.gitconf_loaders.specs.Paths.{Sees}
 use Rattle.gitconf_loaders.specs.Paths as spec
 use Rattle.gitconf_loaders.proofs.paths.once.Given as goal
 

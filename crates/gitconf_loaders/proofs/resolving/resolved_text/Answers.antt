@@ -1,5 +1,5 @@
 use Rattle.std.proofs.Common.{None, Err, subst}
-use Rattle.gitconf_includes.specs.Errors.{includes_number}
+use Rattle.gitconf_includes.specs.Errors.{says}
 use Rattle.gitconf_includes.specs.Expansion.{Expands, Leaves, Reached}
 use Rattle.gitconf_includes.specs.Outcomes.{asks_of}
 use Rattle.gitconf_loaders.proofs.Made.{made, not_expanded, not_loaded}
@@ -13,10 +13,10 @@ pub returns-in-Ok-clause-made : goal.returns-in-Ok-clause-made
 returns-in-Ok-clause-made g c =
     let asks = asks_of c.args.options.now (g.F.Files.table c.args.files.now) in
     made asks c.args.text.items c.args.meta.value c.in_ok-store.store c.resolve-store.result.store c.in_ok-store.ensures.loaded
-    (subst (λ x. (r : Reached) × Expands asks.rules.max_depth asks None c.in_ok-store.store r × Leaves includes_number x c.resolve-store.result.store r) c.in-Ok.is c.resolve-store.ensures.expanded)
+    (subst (λ x. (r : Reached) × Expands asks.rules.max_depth asks None c.in_ok-store.store r × Leaves says x c.resolve-store.result.store r) c.in-Ok.is c.resolve-store.ensures.expanded)
 
 pub returns-in-Err-clause-made : goal.returns-in-Err-clause-made
 returns-in-Err-clause-made g c =
     let asks = asks_of c.args.options.now (g.F.Files.table c.args.files.now) in
     not_expanded asks c.args.text.items c.args.meta.value c.in_ok-store.store c.resolve-store.result.store c.in-Err.refused (Err c.from.result) c.in_ok-store.ensures.loaded
-    (subst (λ x. (r : Reached) × Expands asks.rules.max_depth asks None c.in_ok-store.store r × Leaves includes_number x c.resolve-store.result.store r) c.in-Err.is c.resolve-store.ensures.expanded) c.from.ensures
+    (subst (λ x. (r : Reached) × Expands asks.rules.max_depth asks None c.in_ok-store.store r × Leaves says x c.resolve-store.result.store r) c.in-Err.is c.resolve-store.ensures.expanded) c.from.ensures

@@ -1,5 +1,5 @@
 use Rattle.std.proofs.Common.{rules, ◌≡◌, ◌∷◌, length, ap, ◌∙◌}
-use Rattle.gitconf_table.proofs.SetWords.{first_within}
+use Rattle.gitconf_sections.proofs.SetWords.{first_within}
 use Rattle.gitconf_sections.specs.Section.{Section}
 use Rattle.gitconf_store.proofs.Headers.Renaming.{edited_length, header_step}
 use Rattle.gitconf_store.proofs.headings.set_headers.Goals as goal

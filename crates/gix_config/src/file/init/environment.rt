@@ -1,17 +1,16 @@
 //! Files that are made of the entries that variables of the environment set.
 ghost use Rattle.std.specs.Option.{option_map};
-ghost use Rattle.std.specs.Prelude.{◌≡◌, ℕ, Ok, unwrap_or, IfErr, IfOk, string_bytes};
+ghost use Rattle.std.specs.Prelude.{◌≡◌, ℕ, Ok, unwrap_or, IfOk, string_bytes};
 ghost use Rattle.gitconf_sources.specs.Key.{key_of, parsed_key};
 ghost use Rattle.gitconf_sources.specs.Metadata.{api_meta};
-ghost use Rattle.gitconf_sources.specs.Reports.{HasText, VariableReport};
-ghost use Rattle.gitconf_includes.specs.Outcomes.{asks_of, CountsFaults, IsCause};
-ghost use Rattle.gitconf_includes.specs.Errors.{includes_number};
-ghost use Rattle.gitconf_loaders.specs.Errors.{env_number};
+ghost use Rattle.gitconf_includes.specs.Outcomes.{asks_of, CountsFaults};
+ghost use Rattle.gitconf_includes.specs.Errors.{says};
+ghost use Rattle.gitconf_loaders.specs.Errors.{env_number, env_says};
 ghost use Rattle.gitconf_loaders.specs.Globals.{empty_file};
+ghost use Rattle.gitconf_loaders.specs.Refused.{include_refused};
 ghost use Rattle.gitconf_loaders.specs.Resolving.{MakesOf};
-ghost use Rattle.gitconf_loaders.specs.Paths.{CountsLoad, left_by, numbered};
-ghost use Rattle.gitconf_loaders.specs.Variables.{IsEntryCause, IsEntryRefused, value_report};
-ghost use Rattle.gix_config.specs.Environment.{AreEntriesPut, IsEntryPut, IsEnvCause, IsFirstRefused, IsFromEnv, IsOverrides, IsOverridesCause, IsValuePushed, IsValuePut, IsPutUnder};
+ghost use Rattle.gitconf_loaders.specs.Paths.{CountsLoad, left_by, telling};
+ghost use Rattle.gix_config.specs.Environment.{AreEntriesPut, IsEntryPut, IsFromEnv, IsOverrides, IsValuePushed, IsValuePut, IsPutUnder};
 ghost use Rattle.gix_config.specs.SectionEditors.{edited, lent, told};
 
 use crate::file::section_mut::SectionMut;
@@ -41,8 +40,7 @@ fn push_value(
     index: usize,
 ) -> Result<(), Error>
     ensures same_file { lent section.new ≡ lent section.old }
-    ensures pushed { IsValuePushed name.now (option_map string_bytes value) (edited section.old, told section.old) (left_by env_number result (edited section.new)) }
-    ensures cause { (report : VariableReport) → IfErr result (IsEntryCause index report (value_report (option_map string_bytes value))) }
+    ensures pushed { IsValuePushed index name.now (option_map string_bytes value) (edited section.old, told section.old) (left_by env_says result (edited section.new)) }
 {
     let Some(value) = value else {
         return Err(Error::IllformedUtf8 {
@@ -67,8 +65,7 @@ fn put_value(
     value: Option<String>,
     index: usize,
 ) -> Result<(), Error>
-    ensures put { IsValuePut (key_of key.entry) (option_map string_bytes value) file.old (left_by env_number result file.new) }
-    ensures cause { (report : VariableReport) → IfErr result (IsEntryCause index report (value_report (option_map string_bytes value))) }
+    ensures { IsValuePut index (key_of key.entry) (option_map string_bytes value) file.old (left_by env_says result file.new) }
 {
     match file.section_mut_or_create_new(key.section_name, key.subsection_name) {
         Ok(mut section) => push_value(&mut section, key.value_name, value, index),
@@ -82,8 +79,7 @@ fn put_value(
 ///
 /// 25 for a text that has no dot, and those of [`put_value`].
 fn put_under(file: &mut File, key: String, value: Option<String>, index: usize) -> Result<(), Error>
-    ensures put { IsPutUnder (parsed_key (string_bytes key)) (option_map string_bytes value) file.old (left_by env_number result file.new) }
-    ensures cause { IfErr result (IsEntryCause index (HasText (string_bytes key)) (value_report (option_map string_bytes value))) }
+    ensures { IsPutUnder index (string_bytes key) (parsed_key (string_bytes key)) (option_map string_bytes value) file.old (left_by env_says result file.new) }
 {
     match KeyRef::parse_unvalidated(key.as_bytes()) {
         Some(key) => put_value(file, key, value, index),
@@ -100,8 +96,7 @@ fn put_under(file: &mut File, key: String, value: Option<String>, index: usize) 
 ///
 /// 24 if the key isn't set, 22 if it isn't UTF-8, 26 if the value isn't set, and those of [`put_under`].
 fn put_entry<E: Env>(alloc: Global, env: &mut E, index: usize, file: &mut File) -> Result<(), Error>
-    ensures put { IsEntryPut (E.variables env.old) index file.old (left_by env_number result file.new) }
-    ensures cause { IfErr result (IsEntryRefused (E.variables env.old) index) }
+    ensures put { IsEntryPut (E.variables env.old) index file.old (left_by env_says result file.new) }
     ensures stays { E.variables env.new ≡ E.variables env.old }
 {
     let key = key_at(alloc, env, index)?;
@@ -120,8 +115,7 @@ fn put_entries<E: Env>(
     count: usize,
     file: &mut File,
 ) -> Result<(), Error>
-    ensures put { AreEntriesPut (E.variables env.old) count 0 file.old (left_by env_number result file.new) }
-    ensures cause { IfErr result (IsFirstRefused (E.variables env.old) count file.old) }
+    ensures put { AreEntriesPut (E.variables env.old) count 0 file.old (left_by env_says result file.new) }
     ensures stays { E.variables env.new ≡ E.variables env.old }
 {
     for index in 0..count {
@@ -152,8 +146,7 @@ pub(crate) fn expanded<F: Files>(
     options: &Options<'_>,
     file: File,
 ) -> Result<File, includes::Error>
-    ensures expanded { MakesOf includes_number (asks_of options.now (F.table files.old)) result (Ok file) }
-    ensures cause { IfErr result (IsCause options.now (F.table files.old)) }
+    ensures expanded { MakesOf (λ e. include_refused (says e)) (asks_of options.now (F.table files.old)) result (Ok file) }
     ensures table { F.table files.new ≡ F.table files.old }
     ensures counted { CountsFaults result (F.failures files.old) (F.failures files.new) }
 {
@@ -179,10 +172,9 @@ pub(crate) fn env_file<F: Files, E: Env>(
     env: &mut E,
     options: &Options<'_>,
 ) -> Result<Option<File>, Error>
-    ensures made { IsFromEnv (E.variables env.old) (asks_of options.now (F.table files.old)) (numbered env_number result) }
-    ensures cause { IfErr result (IsEnvCause (E.variables env.old) options.now (F.table files.old)) }
+    ensures made { IsFromEnv (E.variables env.old) (asks_of options.now (F.table files.old)) (telling env_says result) }
     ensures table { F.table files.new ≡ F.table files.old }
-    ensures counted { CountsLoad (numbered env_number result) (F.failures files.old) (F.failures files.new) }
+    ensures counted { CountsLoad (telling env_number result) (F.failures files.old) (F.failures files.new) }
     ensures stays { E.variables env.new ≡ E.variables env.old }
 {
     let count = count(env)?;
@@ -219,10 +211,9 @@ pub(crate) fn overrides<F: Files, E: Env>(
     env: &mut E,
     places: &Places,
 ) -> Result<File, Error>
-    ensures made { IsOverrides (E.variables env.old) places.now (F.table files.old) (numbered env_number result) }
-    ensures cause { IfErr result (IsOverridesCause (E.variables env.old) places.now (F.table files.old)) }
+    ensures made { IsOverrides (E.variables env.old) places.now (F.table files.old) (telling env_says result) }
     ensures table { F.table files.new ≡ F.table files.old }
-    ensures counted { CountsLoad (numbered env_number result) (F.failures files.old) (F.failures files.new) }
+    ensures counted { CountsLoad (telling env_number result) (F.failures files.old) (F.failures files.new) }
     ensures stays { E.variables env.new ≡ E.variables env.old }
 {
     let made = env_file(alloc, files, env, &home_options(places))?;
@@ -230,11 +221,11 @@ pub(crate) fn overrides<F: Files, E: Env>(
 }
 
 impl File {
-    ghost use Rattle.std.specs.Prelude.{◌≡◌, IfErr};
+    ghost use Rattle.std.specs.Prelude.{◌≡◌};
     ghost use Rattle.gitconf_includes.specs.Outcomes.{asks_of};
-    ghost use Rattle.gitconf_loaders.specs.Errors.{env_number};
-    ghost use Rattle.gitconf_loaders.specs.Paths.{CountsLoad, numbered};
-    ghost use Rattle.gix_config.specs.Environment.{IsEnvCause, IsFromEnv, IsOverrides, IsOverridesCause};
+    ghost use Rattle.gitconf_loaders.specs.Errors.{env_number, env_says};
+    ghost use Rattle.gitconf_loaders.specs.Paths.{CountsLoad, telling};
+    ghost use Rattle.gix_config.specs.Environment.{IsFromEnv, IsOverrides};
 
     /// The file of the entries that variables set, which comes from no path and from the source `Env`, fully trusted, at level 0; with what
     /// it includes by the options. `GIT_CONFIG_COUNT` says how many entries there are, and the key and the value of each are in
@@ -255,11 +246,9 @@ impl File {
         host: &mut Host,
     ) -> Result<Option<File>, Error>
         ensures made { IsFromEnv (⟦<Box<dyn Env> as Env>⟧.variables host.old.env)
-            (asks_of options.entry (⟦<Box<dyn Files> as Files>⟧.table host.old.files)) (numbered env_number result) }
-        ensures cause { IfErr result (IsEnvCause (⟦<Box<dyn Env> as Env>⟧.variables host.old.env) options.entry
-            (⟦<Box<dyn Files> as Files>⟧.table host.old.files)) }
+            (asks_of options.entry (⟦<Box<dyn Files> as Files>⟧.table host.old.files)) (telling env_says result) }
         ensures table { ⟦<Box<dyn Files> as Files>⟧.table host.new.files ≡ ⟦<Box<dyn Files> as Files>⟧.table host.old.files }
-        ensures counted { CountsLoad (numbered env_number result) (⟦<Box<dyn Files> as Files>⟧.failures host.old.files)
+        ensures counted { CountsLoad (telling env_number result) (⟦<Box<dyn Files> as Files>⟧.failures host.old.files)
             (⟦<Box<dyn Files> as Files>⟧.failures host.new.files) }
         ensures env { ⟦<Box<dyn Env> as Env>⟧.variables host.new.env ≡ ⟦<Box<dyn Env> as Env>⟧.variables host.old.env }
         ensures places { host.new.places ≡ host.old.places }
@@ -279,11 +268,9 @@ impl File {
     /// Those of [`File::from_env`].
     pub fn from_environment_overrides(alloc: Global, host: &mut Host) -> Result<File, Error>
         ensures made { IsOverrides (⟦<Box<dyn Env> as Env>⟧.variables host.old.env) host.old.places
-            (⟦<Box<dyn Files> as Files>⟧.table host.old.files) (numbered env_number result) }
-        ensures cause { IfErr result (IsOverridesCause (⟦<Box<dyn Env> as Env>⟧.variables host.old.env) host.old.places
-            (⟦<Box<dyn Files> as Files>⟧.table host.old.files)) }
+            (⟦<Box<dyn Files> as Files>⟧.table host.old.files) (telling env_says result) }
         ensures table { ⟦<Box<dyn Files> as Files>⟧.table host.new.files ≡ ⟦<Box<dyn Files> as Files>⟧.table host.old.files }
-        ensures counted { CountsLoad (numbered env_number result) (⟦<Box<dyn Files> as Files>⟧.failures host.old.files)
+        ensures counted { CountsLoad (telling env_number result) (⟦<Box<dyn Files> as Files>⟧.failures host.old.files)
             (⟦<Box<dyn Files> as Files>⟧.failures host.new.files) }
         ensures env { ⟦<Box<dyn Env> as Env>⟧.variables host.new.env ≡ ⟦<Box<dyn Env> as Env>⟧.variables host.old.env }
         ensures places { host.new.places ≡ host.old.places }

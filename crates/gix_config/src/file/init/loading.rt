@@ -10,12 +10,11 @@ use gitconf_sources::{Env, Files, Host};
 use std::alloc::Global;
 
 impl File {
-    ghost use Rattle.std.specs.Prelude.{◌≡◌, true, IfErr, string_bytes};
+    ghost use Rattle.std.specs.Prelude.{◌≡◌, true, string_bytes};
     ghost use Rattle.gitconf_includes.specs.Outcomes.{asks_of};
-    ghost use Rattle.gitconf_loaders.specs.Causes.{IsFileCause, IsLoadCause};
-    ghost use Rattle.gitconf_loaders.specs.Errors.{paths_number};
-    ghost use Rattle.gitconf_loaders.specs.Globals.{IsGlobal, IsGlobalCause};
-    ghost use Rattle.gitconf_loaders.specs.Paths.{CountsLoad, IsLoadedFrom, IsLoadOfPaths, numbered};
+    ghost use Rattle.gitconf_loaders.specs.Errors.{paths_number, paths_says};
+    ghost use Rattle.gitconf_loaders.specs.Globals.{IsGlobal};
+    ghost use Rattle.gitconf_loaders.specs.Paths.{CountsLoad, IsLoadedFrom, IsLoadOfPaths, telling};
 
     /// The file at a path, of that source, at level 0, with the trust that the host reports, which is asked first. No include is followed.
     /// The file is read and parsed once.
@@ -29,10 +28,9 @@ impl File {
         source: Source,
         host: &mut Host,
     ) -> Result<File, Error>
-        ensures loaded { IsLoadedFrom (⟦<Box<dyn Files> as Files>⟧.table host.old.files) (string_bytes path) source (numbered paths_number result) }
-        ensures cause { IfErr result (IsFileCause (⟦<Box<dyn Files> as Files>⟧.table host.old.files) (string_bytes path)) }
+        ensures loaded { IsLoadedFrom (⟦<Box<dyn Files> as Files>⟧.table host.old.files) (string_bytes path) source (telling paths_says result) }
         ensures table { ⟦<Box<dyn Files> as Files>⟧.table host.new.files ≡ ⟦<Box<dyn Files> as Files>⟧.table host.old.files }
-        ensures counted { CountsLoad (numbered paths_number result) (⟦<Box<dyn Files> as Files>⟧.failures host.old.files)
+        ensures counted { CountsLoad (telling paths_number result) (⟦<Box<dyn Files> as Files>⟧.failures host.old.files)
             (⟦<Box<dyn Files> as Files>⟧.failures host.new.files) }
         ensures env { host.new.env ≡ host.old.env }
         ensures places { host.new.places ≡ host.old.places }
@@ -58,10 +56,9 @@ impl File {
         host: &mut Host,
     ) -> Result<Option<File>, Error>
         ensures loaded { IsLoadOfPaths true options.entry.ignore_io_errors (asks_of options.entry (⟦<Box<dyn Files> as Files>⟧.table host.old.files))
-            metas.items (numbered paths_number result) }
-        ensures cause { IfErr result (IsLoadCause true options.entry (⟦<Box<dyn Files> as Files>⟧.table host.old.files) metas.items) }
+            metas.items (telling paths_says result) }
         ensures table { ⟦<Box<dyn Files> as Files>⟧.table host.new.files ≡ ⟦<Box<dyn Files> as Files>⟧.table host.old.files }
-        ensures counted { CountsLoad (numbered paths_number result) (⟦<Box<dyn Files> as Files>⟧.failures host.old.files)
+        ensures counted { CountsLoad (telling paths_number result) (⟦<Box<dyn Files> as Files>⟧.failures host.old.files)
             (⟦<Box<dyn Files> as Files>⟧.failures host.new.files) }
         ensures env { host.new.env ≡ host.old.env }
         ensures places { host.new.places ≡ host.old.places }
@@ -83,10 +80,9 @@ impl File {
         host: &mut Host,
     ) -> Result<Option<File>, Error>
         ensures loaded { IsLoadOfPaths err_on_non_existing_paths options.entry.ignore_io_errors
-            (asks_of options.entry (⟦<Box<dyn Files> as Files>⟧.table host.old.files)) metas.items (numbered paths_number result) }
-        ensures cause { IfErr result (IsLoadCause err_on_non_existing_paths options.entry (⟦<Box<dyn Files> as Files>⟧.table host.old.files) metas.items) }
+            (asks_of options.entry (⟦<Box<dyn Files> as Files>⟧.table host.old.files)) metas.items (telling paths_says result) }
         ensures table { ⟦<Box<dyn Files> as Files>⟧.table host.new.files ≡ ⟦<Box<dyn Files> as Files>⟧.table host.old.files }
-        ensures counted { CountsLoad (numbered paths_number result) (⟦<Box<dyn Files> as Files>⟧.failures host.old.files)
+        ensures counted { CountsLoad (telling paths_number result) (⟦<Box<dyn Files> as Files>⟧.failures host.old.files)
             (⟦<Box<dyn Files> as Files>⟧.failures host.new.files) }
         ensures env { host.new.env ≡ host.old.env }
         ensures places { host.new.places ≡ host.old.places }
@@ -116,10 +112,9 @@ impl File {
         files: &mut F,
     ) -> Result<Option<File>, Error>
         ensures loaded { IsLoadOfPaths true options.entry.ignore_io_errors (asks_of options.entry (F.table files.old)) metas.items
-            (numbered paths_number result) }
-        ensures cause { IfErr result (IsLoadCause true options.entry (F.table files.old) metas.items) }
+            (telling paths_says result) }
         ensures table { F.table files.new ≡ F.table files.old }
-        ensures counted { CountsLoad (numbered paths_number result) (F.failures files.old) (F.failures files.new) }
+        ensures counted { CountsLoad (telling paths_number result) (F.failures files.old) (F.failures files.new) }
     {
         match paths::from_paths(alloc, files, metas, true, &options) {
             Ok(Some(store)) => Ok(Some(File { store })),
@@ -137,11 +132,9 @@ impl File {
     /// Those of [`File::from_paths_metadata`].
     pub fn from_globals(alloc: Global, host: &mut Host) -> Result<File, Error>
         ensures loaded { IsGlobal (⟦<Box<dyn Env> as Env>⟧.variables host.old.env) host.old.places (⟦<Box<dyn Files> as Files>⟧.table host.old.files)
-            (numbered paths_number result) }
-        ensures cause { IfErr result (IsGlobalCause (⟦<Box<dyn Env> as Env>⟧.variables host.old.env) host.old.places
-            (⟦<Box<dyn Files> as Files>⟧.table host.old.files)) }
+            (telling paths_says result) }
         ensures table { ⟦<Box<dyn Files> as Files>⟧.table host.new.files ≡ ⟦<Box<dyn Files> as Files>⟧.table host.old.files }
-        ensures counted { CountsLoad (numbered paths_number result) (⟦<Box<dyn Files> as Files>⟧.failures host.old.files)
+        ensures counted { CountsLoad (telling paths_number result) (⟦<Box<dyn Files> as Files>⟧.failures host.old.files)
             (⟦<Box<dyn Files> as Files>⟧.failures host.new.files) }
         ensures env { ⟦<Box<dyn Env> as Env>⟧.variables host.new.env ≡ ⟦<Box<dyn Env> as Env>⟧.variables host.old.env }
         ensures places { host.new.places ≡ host.old.places }

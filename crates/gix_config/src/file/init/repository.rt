@@ -1,13 +1,13 @@
 //! The configuration of a repository.
-ghost use Rattle.std.specs.Prelude.{◌≡◌, ◌⊎◌, Err, IfErr, IfOk, string_bytes};
+ghost use Rattle.std.specs.Prelude.{◌≡◌, ◌⊎◌, Err, IfOk, string_bytes};
 ghost use Rattle.std.specs.Result.{result_map_both};
 ghost use Rattle.gitconf_includes.specs.Outcomes.{asks_of};
 ghost use Rattle.gitconf_includes.specs.Rules.{resolved, rules_of};
-ghost use Rattle.gitconf_loaders.specs.Causes.{IsFileCause};
-ghost use Rattle.gitconf_loaders.specs.Errors.{git_number, paths_number};
-ghost use Rattle.gitconf_loaders.specs.Paths.{CountsLoad, left_by, numbered};
+ghost use Rattle.gitconf_loaders.specs.Errors.{git_number, git_says, paths_number, paths_says};
+ghost use Rattle.gitconf_loaders.specs.Paths.{CountsLoad, left_by, telling};
+ghost use Rattle.gitconf_loaders.specs.Refused.{OutOfMemory};
 ghost use Rattle.gix_config.specs.Repository as spec;
-ghost use Rattle.gix_config.specs.Repository.{AreOverridesBehind, AreOwnAndOverridesBehind, IsExpandedBehind, IsGitCause, IsIncludeCause, IsJoined, IsOverridingCause, IsOwnBehind, IsReadCause, IsReadOf, IsRepository, IsRepositoryCause, IsWorktree, IsWorktreeBehind, parts_of, repository_rules, worktree_path};
+ghost use Rattle.gix_config.specs.Repository.{AreOverridesBehind, AreOwnAndOverridesBehind, IsExpandedBehind, IsJoined, IsOwnBehind, IsReadOf, IsRepository, IsWorktree, IsWorktreeBehind, parts_of, repository_rules};
 
 use crate::file::File;
 use crate::file::init::environment::{expanded, overrides};
@@ -78,10 +78,9 @@ fn worktree<F: Files>(
     folder: &str,
     local: &File,
 ) -> Result<Option<File>, from_paths::Error>
-    ensures loaded { (numbered paths_number result ≡ Err 27) ⊎ IsWorktree (F.table files.old) folder.now local.now (numbered paths_number result) }
-    ensures cause { IfErr result (IsFileCause (F.table files.old) (worktree_path folder.now)) }
+    ensures loaded { (telling paths_says result ≡ Err OutOfMemory) ⊎ IsWorktree (F.table files.old) folder.now local.now (telling paths_says result) }
     ensures table { F.table files.new ≡ F.table files.old }
-    ensures counted { CountsLoad (numbered paths_number result) (F.failures files.old) (F.failures files.new) }
+    ensures counted { CountsLoad (telling paths_number result) (F.failures files.old) (F.failures files.new) }
 {
     if !has_worktree(local)? {
         return Ok(None);
@@ -121,10 +120,9 @@ fn put_behind<F: Files>(
     target: &mut File,
     file: File,
 ) -> Result<(), Error>
-    ensures put { IsExpandedBehind (asks_of options.now (F.table files.old)) target.old file (left_by git_number result target.new) }
-    ensures cause { IfErr result (IsIncludeCause options.now (F.table files.old)) }
+    ensures put { IsExpandedBehind (asks_of options.now (F.table files.old)) target.old file (left_by git_says result target.new) }
     ensures table { F.table files.new ≡ F.table files.old }
-    ensures counted { CountsLoad (numbered git_number result) (F.failures files.old) (F.failures files.new) }
+    ensures counted { CountsLoad (telling git_number result) (F.failures files.old) (F.failures files.new) }
 {
     let file = expanded(alloc, files, options, file)?;
     Ok(target.append(file)?)
@@ -142,10 +140,9 @@ fn put_worktree<F: Files>(
     target: &mut File,
     worktree: Option<File>,
 ) -> Result<(), Error>
-    ensures put { IsWorktreeBehind (asks_of options.now (F.table files.old)) worktree target.old (left_by git_number result target.new) }
-    ensures cause { IfErr result (IsIncludeCause options.now (F.table files.old)) }
+    ensures put { IsWorktreeBehind (asks_of options.now (F.table files.old)) worktree target.old (left_by git_says result target.new) }
     ensures table { F.table files.new ≡ F.table files.old }
-    ensures counted { CountsLoad (numbered git_number result) (F.failures files.old) (F.failures files.new) }
+    ensures counted { CountsLoad (telling git_number result) (F.failures files.old) (F.failures files.new) }
 {
     match worktree {
         Some(worktree) => put_behind(alloc, files, options, target, worktree),
@@ -165,10 +162,9 @@ fn put_overrides<F: Files, E: Env>(
     places: &Places,
     target: &mut File,
 ) -> Result<(), Error>
-    ensures put { AreOverridesBehind (E.variables env.old) places.now (F.table files.old) target.old (left_by git_number result target.new) }
-    ensures cause { IfErr result (IsOverridingCause (E.variables env.old) places.now (F.table files.old)) }
+    ensures put { AreOverridesBehind (E.variables env.old) places.now (F.table files.old) target.old (left_by git_says result target.new) }
     ensures table { F.table files.new ≡ F.table files.old }
-    ensures counted { CountsLoad (numbered git_number result) (F.failures files.old) (F.failures files.new) }
+    ensures counted { CountsLoad (telling git_number result) (F.failures files.old) (F.failures files.new) }
     ensures stays { E.variables env.new ≡ E.variables env.old }
 {
     let file = overrides(alloc, files, env, places)?;
@@ -187,10 +183,9 @@ fn put_own<F: Files>(
     target: &mut File,
     own: Own,
 ) -> Result<(), Error>
-    ensures put { IsOwnBehind (asks_of options.now (F.table files.old)) own.local own.worktree target.old (left_by git_number result target.new) }
-    ensures cause { IfErr result (IsIncludeCause options.now (F.table files.old)) }
+    ensures put { IsOwnBehind (asks_of options.now (F.table files.old)) own.local own.worktree target.old (left_by git_says result target.new) }
     ensures table { F.table files.new ≡ F.table files.old }
-    ensures counted { CountsLoad (numbered git_number result) (F.failures files.old) (F.failures files.new) }
+    ensures counted { CountsLoad (telling git_number result) (F.failures files.old) (F.failures files.new) }
 {
     let Own { local, worktree } = own;
     put_behind(alloc, files, options, target, local)?;
@@ -212,10 +207,9 @@ fn put_own_and_overrides<F: Files, E: Env>(
     own: Own,
 ) -> Result<(), Error>
     ensures put { AreOwnAndOverridesBehind (E.variables env.old) places.now (F.table files.old) (asks_of options.now (F.table files.old))
-        own.local own.worktree target.old (left_by git_number result target.new) }
-    ensures cause { IfErr result (IsGitCause (E.variables env.old) options.now places.now (F.table files.old)) }
+        own.local own.worktree target.old (left_by git_says result target.new) }
     ensures table { F.table files.new ≡ F.table files.old }
-    ensures counted { CountsLoad (numbered git_number result) (F.failures files.old) (F.failures files.new) }
+    ensures counted { CountsLoad (telling git_number result) (F.failures files.old) (F.failures files.new) }
     ensures stays { E.variables env.new ≡ E.variables env.old }
 {
     put_own(alloc, files, options, target, own)?;
@@ -236,10 +230,9 @@ fn joined<F: Files, E: Env>(
     parts: Parts,
 ) -> Result<File, Error>
     ensures joined { IsJoined (E.variables env.old) places.now (F.table files.old) (asks_of options.now (F.table files.old)) (parts_of parts)
-        (numbered git_number result) }
-    ensures cause { IfErr result (IsGitCause (E.variables env.old) options.now places.now (F.table files.old)) }
+        (telling git_says result) }
     ensures table { F.table files.new ≡ F.table files.old }
-    ensures counted { CountsLoad (numbered git_number result) (F.failures files.old) (F.failures files.new) }
+    ensures counted { CountsLoad (telling git_number result) (F.failures files.old) (F.failures files.new) }
     ensures stays { E.variables env.new ≡ E.variables env.old }
 {
     let Parts { own, globals } = parts;
@@ -261,10 +254,9 @@ fn read<F: Files, E: Env>(
     path: String,
     folder: &str,
 ) -> Result<Parts, from_paths::Error>
-    ensures read { IsReadOf (E.variables env.old) places.now (F.table files.old) (string_bytes path) folder.now (result_map_both parts_of paths_number result) }
-    ensures cause { IfErr result (IsReadCause (E.variables env.old) places.now (F.table files.old) (string_bytes path) folder.now) }
+    ensures read { IsReadOf (E.variables env.old) places.now (F.table files.old) (string_bytes path) folder.now (result_map_both parts_of paths_says result) }
     ensures table { F.table files.new ≡ F.table files.old }
-    ensures counted { CountsLoad (numbered paths_number result) (F.failures files.old) (F.failures files.new) }
+    ensures counted { CountsLoad (telling paths_number result) (F.failures files.old) (F.failures files.new) }
     ensures stays { E.variables env.new ≡ E.variables env.old }
 {
     let local = File {
@@ -293,10 +285,9 @@ fn repository<F: Files, E: Env>(
     dir: &str,
     real: Result<&str, FileFault>,
 ) -> Result<File, Error>
-    ensures loaded { IsRepository (E.variables env.old) places.now (F.table files.old) dir.now (resolved real.entry) (numbered git_number result) }
-    ensures cause { IfErr result (IsRepositoryCause (E.variables env.old) places.now (F.table files.old) dir.now (resolved real.entry)) }
+    ensures loaded { IsRepository (E.variables env.old) places.now (F.table files.old) dir.now (resolved real.entry) (telling git_says result) }
     ensures table { F.table files.new ≡ F.table files.old }
-    ensures counted { CountsLoad (numbered git_number result) (F.failures files.old) (F.failures files.new) }
+    ensures counted { CountsLoad (telling git_number result) (F.failures files.old) (F.failures files.new) }
     ensures stays { E.variables env.new ≡ E.variables env.old }
 {
     let place = join(alloc, dir, "config")?;
@@ -308,11 +299,11 @@ fn repository<F: Files, E: Env>(
 }
 
 impl File {
-    ghost use Rattle.std.specs.Prelude.{◌≡◌, IfErr};
+    ghost use Rattle.std.specs.Prelude.{◌≡◌};
     ghost use Rattle.gitconf_includes.specs.Rules.{resolved};
-    ghost use Rattle.gitconf_loaders.specs.Errors.{git_number};
-    ghost use Rattle.gitconf_loaders.specs.Paths.{CountsLoad, numbered};
-    ghost use Rattle.gix_config.specs.Repository.{IsRepository, IsRepositoryCause};
+    ghost use Rattle.gitconf_loaders.specs.Errors.{git_number, git_says};
+    ghost use Rattle.gitconf_loaders.specs.Paths.{CountsLoad, telling};
+    ghost use Rattle.gix_config.specs.Repository.{IsRepository};
 
     /// The configuration of the repository whose git folder is `dir`, which is `real` with its symbolic links resolved: that of the machine
     /// and of the user ([`File::from_globals`]), of the repository (`config` in the folder), of its worktree (`config.worktree`, if
@@ -331,11 +322,9 @@ impl File {
         host: &mut Host,
     ) -> Result<File, Error>
         ensures loaded { IsRepository (⟦<Box<dyn Env> as Env>⟧.variables host.old.env) host.old.places
-            (⟦<Box<dyn Files> as Files>⟧.table host.old.files) dir.now (resolved real.entry) (numbered git_number result) }
-        ensures cause { IfErr result (IsRepositoryCause (⟦<Box<dyn Env> as Env>⟧.variables host.old.env) host.old.places
-            (⟦<Box<dyn Files> as Files>⟧.table host.old.files) dir.now (resolved real.entry)) }
+            (⟦<Box<dyn Files> as Files>⟧.table host.old.files) dir.now (resolved real.entry) (telling git_says result) }
         ensures table { ⟦<Box<dyn Files> as Files>⟧.table host.new.files ≡ ⟦<Box<dyn Files> as Files>⟧.table host.old.files }
-        ensures counted { CountsLoad (numbered git_number result) (⟦<Box<dyn Files> as Files>⟧.failures host.old.files)
+        ensures counted { CountsLoad (telling git_number result) (⟦<Box<dyn Files> as Files>⟧.failures host.old.files)
             (⟦<Box<dyn Files> as Files>⟧.failures host.new.files) }
         ensures env { ⟦<Box<dyn Env> as Env>⟧.variables host.new.env ≡ ⟦<Box<dyn Env> as Env>⟧.variables host.old.env }
         ensures places { host.new.places ≡ host.old.places }

@@ -1,49 +1,23 @@
-use Rattle.std.proofs.Common.{◌≡◌, ℕ, List, Option, Some, subst, false, ap, refl, ◌∙◌}
+use Rattle.std.proofs.Common.{◌≡◌, ℕ, List, Option, Some, subst, ap, refl, ◌∙◌}
 use denote.Param.Object.{read_made}
-use Rattle.std.specs.Prelude.{IfErr}
-use Rattle.std.proofs.lemmas.Result.{IfErr-weaker}
-use Rattle.gitconf_loaders.specs.Errors.{env_number}
-use Rattle.gitconf_loaders.specs.Paths.{numbered}
+use Rattle.gitconf_loaders.specs.Errors.{env_says}
+use Rattle.gitconf_loaders.specs.Paths.{telling}
 use Rattle.gitconf_includes.specs.Rules.{rules_of_includes}
-use Rattle.gix_config.specs.Environment.{IsEnvCause, IsFromEnv}
+use Rattle.gix_config.specs.Environment.{IsFromEnv}
 use Rattle.gitconf_sources.specs.InMemory.{variable_at}
 use Rattle.gitconf_sources.specs.Reports.{FileReport, VariableReport}
 use Rattle.gix_config_c.specs.HostLoads.{variables_told}
 use Rattle.gix_config_c.specs.Told.{told_at}
 use Rattle.gix_config_c.proofs.FaultLemmas.{right_of}
-use Rattle.gix_config_c.proofs.HostLemmas.{env_short}
 use Rattle.gix_config_c.proofs.env_loads.env_file.OwnLists.{at-1-1, at-2-1, own-1, own-2}
 use Rattle.gix_config_c.proofs.env_loads.env_file.Goals as goal
 
 -- what the host reports is what was told
-pub returns-clause-loaded : goal.returns-clause-loaded
-returns-clause-loaded c =
+pub returns : goal.returns
+returns c =
     let files : ◌≡◌ {A = Option (List ℕ → FileReport)} (right_of c.from_env.ensures.table) (Some (told_at c.in_ok-files.files.value)) = read_made own-1 (own-1.entry at-1-1) at-1-1 refl (Option (List ℕ → FileReport)) (λ j w. j.1.table w) _ _ _ c.into_dyn_box.ensures.1 in
     let table_is = files ∙ ap (λ v. Some (told_at v)) (c.in_ok-files.ensures ∙ c.in_ok-known.ensures) in
     let env : ◌≡◌ {A = Option (List ℕ → VariableReport)} (right_of c.from_env.ensures.env) (Some (variable_at c.in_ok-env.env.value)) = read_made own-2 (own-2.entry at-2-1) at-2-1 refl (Option (List ℕ → VariableReport)) (λ j w. j.1.variables w) _ _ _ c.into_dyn_box-2.ensures.1 in
     let variables_is = env ∙ ap (λ v. Some (variable_at v)) (c.in_ok-env.ensures ∙ c.in_ok-set.ensures) in
-    subst (λ (t : Option (List ℕ → FileReport)). IsFromEnv (variables_told c.args.told.now) (record { rules = record (rules_of_includes c.args.includes) { lossy = c.args.lossy }; table = t }) (numbered env_number c.from_env.result)) table_is
-    (subst (λ (v : Option (List ℕ → VariableReport)). IsFromEnv v (record { rules = record (rules_of_includes c.args.includes) { lossy = c.args.lossy }; table = (right_of c.from_env.ensures.table) }) (numbered env_number c.from_env.result)) variables_is c.from_env.ensures.made)
-
--- and so it is with the cause of a refusal
-pub returns-clause-cause : goal.returns-clause-cause
-returns-clause-cause c =
-    let files : ◌≡◌ {A = Option (List ℕ → FileReport)} (right_of c.from_env.ensures.table) (Some (told_at c.in_ok-files.files.value)) = read_made own-1 (own-1.entry at-1-1) at-1-1 refl (Option (List ℕ → FileReport)) (λ j w. j.1.table w) _ _ _ c.into_dyn_box.ensures.1 in
-    let table_is = files ∙ ap (λ v. Some (told_at v)) (c.in_ok-files.ensures ∙ c.in_ok-known.ensures) in
-    let env : ◌≡◌ {A = Option (List ℕ → VariableReport)} (right_of c.from_env.ensures.env) (Some (variable_at c.in_ok-env.env.value)) = read_made own-2 (own-2.entry at-2-1) at-2-1 refl (Option (List ℕ → VariableReport)) (λ j w. j.1.variables w) _ _ _ c.into_dyn_box-2.ensures.1 in
-    let variables_is = env ∙ ap (λ v. Some (variable_at v)) (c.in_ok-env.ensures ∙ c.in_ok-set.ensures) in
-    IfErr-weaker c.from_env.result _ _ (λ e cause. (record { includes = c.args.includes; lossy = c.args.lossy; ignore_io_errors = false }, refl, cause))
-    (subst (λ (t : Option (List ℕ → FileReport)). IfErr c.from_env.result (IsEnvCause (variables_told c.args.told.now) (record { includes = c.args.includes; lossy = c.args.lossy; ignore_io_errors = false }) t)) table_is
-    (subst (λ (v : Option (List ℕ → VariableReport)). IfErr c.from_env.result (IsEnvCause v (record { includes = c.args.includes; lossy = c.args.lossy; ignore_io_errors = false }) (right_of c.from_env.ensures.table))) variables_is c.from_env.ensures.cause))
-
-pub returns-in_err-known-clause-cause : goal.returns-in_err-known-clause-cause
-returns-in_err-known-clause-cause c = env_short c.args.told.now (record { includes = c.args.includes; lossy = c.args.lossy; ignore_io_errors = false }) c.from_residual.result c.from_residual.ensures.1
-
-pub returns-in_err-files-clause-cause : goal.returns-in_err-files-clause-cause
-returns-in_err-files-clause-cause c = env_short c.args.told.now (record { includes = c.args.includes; lossy = c.args.lossy; ignore_io_errors = false }) c.from_residual-in_err-files.result c.from_residual-in_err-files.ensures.1
-
-pub returns-in_err-set-clause-cause : goal.returns-in_err-set-clause-cause
-returns-in_err-set-clause-cause c = env_short c.args.told.now (record { includes = c.args.includes; lossy = c.args.lossy; ignore_io_errors = false }) c.from_residual-in_err-set.result c.from_residual-in_err-set.ensures.1
-
-pub returns-in_err-env-clause-cause : goal.returns-in_err-env-clause-cause
-returns-in_err-env-clause-cause c = env_short c.args.told.now (record { includes = c.args.includes; lossy = c.args.lossy; ignore_io_errors = false }) c.from_residual-in_err-env.result c.from_residual-in_err-env.ensures.1
+    subst (λ (t : Option (List ℕ → FileReport)). IsFromEnv (variables_told c.args.told.now) (record { rules = record (rules_of_includes c.args.includes) { lossy = c.args.lossy }; table = t }) (telling env_says c.from_env.result)) table_is
+    (subst (λ (v : Option (List ℕ → VariableReport)). IsFromEnv v (record { rules = record (rules_of_includes c.args.includes) { lossy = c.args.lossy }; table = (right_of c.from_env.ensures.table) }) (telling env_says c.from_env.result)) variables_is c.from_env.ensures.made)

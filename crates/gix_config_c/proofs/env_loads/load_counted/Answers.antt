@@ -15,8 +15,7 @@ returns-in-Ok-Some-clause-answer c = λ short.
     of_rules _ _ _ c.in-Some.ensures (
       Ok (Some c.in-Ok-Some.made),
       subst (λ (o : Option State). IsFromEnv (variables_told c.args.told.now) (asks_by c.args.told.now.files (record (rules_of_includes c.in-Some.options) { lossy = c.args.includes.now.lossy })) (Ok o))
-          made c.in-Ok-Some.ensures.loaded,
-      tt,
+          made c.in-Ok-Some.ensures,
       put_tells _ _ _ c.args.asked.now c.args.asked.now c.put_list.ensures.number c.put_list.ensures.done (refl, refl, refl) short,
     )
 
@@ -27,11 +26,10 @@ returns-in-Ok-None-clause-answer c = λ short.
     of_rules _ _ _ c.in-Some.ensures (
       Ok None,
       subst (λ (o : Option State). IsFromEnv (variables_told c.args.told.now) (asks_by c.args.told.now.files (record (rules_of_includes c.in-Some.options) { lossy = c.args.includes.now.lossy })) (Ok o))
-          none c.in-Ok-None.ensures.loaded,
-      tt,
+          none c.in-Ok-None.ensures,
       (refl, (refl, refl, refl)),
     )
 
 -- the refusal
 pub returns-in-Err-clause-answer : goal.returns-in-Err-clause-answer
-returns-in-Err-clause-answer c = λ short. of_rules _ _ _ c.in-Some.ensures (Err c.in-Err.refusal, c.in-Err.ensures.loaded, c.in-Err.ensures.cause, c.refused_env.ensures.answer short)
+returns-in-Err-clause-answer c = λ short. of_rules _ _ _ c.in-Some.ensures (Err c.in-Err.refusal, c.in-Err.ensures, c.refused_env.ensures.answer short)

@@ -8,7 +8,6 @@ use Rattle.gix_config_c.proofs.global_loads.put_known.Goals as goal
 pub returns-in-Err-clause-answer : goal.returns-in-Err-clause-answer
 returns-in-Err-clause-answer c = λ short. (
   Err c.in-Err.refusal,
-  c.in-Err.ensures.loaded,
-  c.in-Err.ensures.cause,
+  c.in-Err.ensures,
   answered_for _ (load_path c.in-Err.refusal) (paths_number c.in-Err.refusal) _ _ _ (c.refused_load.ensures.answer short),
 )

@@ -19,7 +19,6 @@ returns-in-Err-clause-answer c = of_rules _ _ _ c.in-Some.ensures (record {
         | inr left ↦ left
       ],
       answered,
-      c.in-Err.ensures.faulty,
     ),
   );
 })

@@ -1,9 +1,8 @@
-use Rattle.std.proofs.Common.{◌≡◌, ℕ, List, Option, Some, subst, ap, refl, ◌∙◌}
+use Rattle.std.proofs.Common.{◌≡◌, ℕ, List, Option, Some, Ok, subst, ap, refl, ◌∙◌}
 use denote.Param.Object.{read_made}
-use Rattle.std.specs.Prelude.{IfErr}
-use Rattle.gitconf_loaders.specs.Errors.{git_number}
-use Rattle.gitconf_loaders.specs.Paths.{numbered}
-use Rattle.gix_config.specs.Repository.{IsRepository, IsRepositoryCause}
+use Rattle.gitconf_loaders.specs.Errors.{git_says}
+use Rattle.gitconf_loaders.specs.Paths.{telling}
+use Rattle.gix_config.specs.Repository.{IsRepository}
 use Rattle.gitconf_sources.specs.InMemory.{variable_at}
 use Rattle.gitconf_sources.specs.Reports.{FileReport, VariableReport}
 use Rattle.gix_config_c.specs.HostLoads.{variables_told}
@@ -13,21 +12,11 @@ use Rattle.gix_config_c.proofs.repository_loads.repository_file.OwnLists.{at-1-1
 use Rattle.gix_config_c.proofs.repository_loads.repository_file.Goals as goal
 
 -- what the host reports is what was told
-pub returns-clause-loaded : goal.returns-clause-loaded
-returns-clause-loaded c =
+pub returns : goal.returns
+returns c =
     let files : ◌≡◌ {A = Option (List ℕ → FileReport)} (right_of c.from_git_dir.ensures.table) (Some (told_at c.in_ok-files.files.value)) = read_made own-1 (own-1.entry at-1-1) at-1-1 refl (Option (List ℕ → FileReport)) (λ j w. j.1.table w) _ _ _ c.into_dyn_box.ensures.1 in
     let table_is = files ∙ ap (λ v. Some (told_at v)) (c.in_ok-files.ensures ∙ c.in_ok-known.ensures) in
     let env : ◌≡◌ {A = Option (List ℕ → VariableReport)} (right_of c.from_git_dir.ensures.env) (Some (variable_at c.in_ok-env.env.value)) = read_made own-2 (own-2.entry at-2-1) at-2-1 refl (Option (List ℕ → VariableReport)) (λ j w. j.1.variables w) _ _ _ c.into_dyn_box-2.ensures.1 in
     let variables_is = env ∙ ap (λ v. Some (variable_at v)) (c.in_ok-env.ensures ∙ c.in_ok-set.ensures) in
-    subst (λ (t : Option (List ℕ → FileReport)). IsRepository (variables_told c.args.told.now) c.args.places t c.args.texts.now.folder.now (Some c.args.texts.now.real.now) (numbered git_number c.from_git_dir.result)) table_is
-    (subst (λ (v : Option (List ℕ → VariableReport)). IsRepository v c.args.places (right_of c.from_git_dir.ensures.table) c.args.texts.now.folder.now (Some c.args.texts.now.real.now) (numbered git_number c.from_git_dir.result)) variables_is c.from_git_dir.ensures.loaded)
-
--- and so it is with the cause of a refusal
-pub returns-clause-cause : goal.returns-clause-cause
-returns-clause-cause c =
-    let files : ◌≡◌ {A = Option (List ℕ → FileReport)} (right_of c.from_git_dir.ensures.table) (Some (told_at c.in_ok-files.files.value)) = read_made own-1 (own-1.entry at-1-1) at-1-1 refl (Option (List ℕ → FileReport)) (λ j w. j.1.table w) _ _ _ c.into_dyn_box.ensures.1 in
-    let table_is = files ∙ ap (λ v. Some (told_at v)) (c.in_ok-files.ensures ∙ c.in_ok-known.ensures) in
-    let env : ◌≡◌ {A = Option (List ℕ → VariableReport)} (right_of c.from_git_dir.ensures.env) (Some (variable_at c.in_ok-env.env.value)) = read_made own-2 (own-2.entry at-2-1) at-2-1 refl (Option (List ℕ → VariableReport)) (λ j w. j.1.variables w) _ _ _ c.into_dyn_box-2.ensures.1 in
-    let variables_is = env ∙ ap (λ v. Some (variable_at v)) (c.in_ok-env.ensures ∙ c.in_ok-set.ensures) in
-    subst (λ (t : Option (List ℕ → FileReport)). IfErr c.from_git_dir.result (IsRepositoryCause (variables_told c.args.told.now) c.args.places t c.args.texts.now.folder.now (Some c.args.texts.now.real.now))) table_is
-    (subst (λ (v : Option (List ℕ → VariableReport)). IfErr c.from_git_dir.result (IsRepositoryCause v c.args.places (right_of c.from_git_dir.ensures.table) c.args.texts.now.folder.now (Some c.args.texts.now.real.now))) variables_is c.from_git_dir.ensures.cause)
+    subst (λ (t : Option (List ℕ → FileReport)). IsRepository (variables_told c.args.told.now) c.args.places t c.args.texts.now.folder.now (Ok c.args.texts.now.real.now) (telling git_says c.from_git_dir.result)) table_is
+    (subst (λ (v : Option (List ℕ → VariableReport)). IsRepository v c.args.places (right_of c.from_git_dir.ensures.table) c.args.texts.now.folder.now (Ok c.args.texts.now.real.now) (telling git_says c.from_git_dir.result)) variables_is c.from_git_dir.ensures.loaded)

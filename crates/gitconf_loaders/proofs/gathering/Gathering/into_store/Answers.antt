@@ -1,5 +1,5 @@
 use Rattle.std.proofs.Common.{◌-◌, length, sym, subst, ◌∙◌}
-use Rattle.gitconf_table.specs.Runs.{woven, AreRuns}
+use Rattle.gitconf_sections.specs.Runs.{woven, AreRuns}
 use Rattle.gitconf_state.specs.Including.{whole, with_sections}
 use Rattle.gitconf_loaders.specs.Gathering.{Gathered}
 use Rattle.gitconf_loaders.proofs.GatheredLists.{runs_later, whole_woven}

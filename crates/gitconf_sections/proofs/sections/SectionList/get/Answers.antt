@@ -1,5 +1,5 @@
 use Rattle.std.proofs.Common.{sym, ◌∙◌}
-use Rattle.gitconf_table.proofs.SectionLemmas.{absent_section, section_of-place}
+use Rattle.gitconf_sections.proofs.SectionLemmas.{absent_section, section_of-place}
 use Rattle.gitconf_sections.proofs.sections.SectionList.get.Goals as goal
 
 pub returns-in_err-at-clause-section : goal.returns-in_err-at-clause-section

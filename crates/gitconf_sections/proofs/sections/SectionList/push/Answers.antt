@@ -1,19 +1,33 @@
-use Rattle.std.proofs.Common.{length, sym, subst, arith}
+use Rattle.std.proofs.Common.{rules, ◌≡◌, ◌+◌, [], length, ap, sym, subst, ◌∙◌, append-nil, arith}
 use Rattle.std.specs.Option.{option_copied}
-use Rattle.gitconf_text.specs.Sections.{Sections, entry_of}
-use Rattle.gitconf_sections.specs.declared.body.Body.TheVariants.{Own}
-use Rattle.gitconf_sections.specs.declared.row.Row.{Row}
-use Rattle.gitconf_sections.specs.Section.{AreListed}
-use Rattle.gitconf_sections.proofs.Adding.{listed_last}
-use Rattle.gitconf_sections.proofs.Changing.{either}
+use Rattle.gitconf_text.specs.Sections.{no_number}
+use Rattle.gitconf_sections.specs.Section.{StandsWithin, body_items, made, read, seen_as}
+use Rattle.gitconf_sections.proofs.Adding.{last_kept, row_last}
 use Rattle.gitconf_sections.proofs.sections.SectionList.push.Goals as goal
 
-pub invariant_of-self : goal.invariant_of-self
-invariant_of-self c =
-    let n = length c.self.inside.list.items in
-    let table = c.self.inside.table in
-    let row : Row = record { header = c.args.header; meta = c.args.meta; body = Own c.in_ok-own.own; held = c.none.result } in
-    either c.push.result
-    (λ is. subst (λ (t : Sections Row). AreListed 0 n t.entries) (sym is)
-    (listed_last 0 n n table.entries (entry_of table.next c.args.name.now (option_copied c.args.subsection) row) (omega arith) (omega arith) c.self.invariant tt))
-    (λ is. subst (λ (t : Sections Row). AreListed 0 n t.entries) (sym is) c.self.invariant) c.push.ensures.ok c.push.ensures.err
+pub invariant_of-self-2 : goal.invariant_of-self-2
+invariant_of-self-2 c =
+    let old = c.self.inside in
+    let list = old.list.items in
+    let name = c.args.name.now in
+    let s = option_copied c.args.subsection in
+    let own : c.in_ok-own.own.value.items ≡ c.args.items.items = search rules in
+    let row = c.unnamed-row.ensures in
+    let put = c.in_ok-push_row.ensures in
+    let shown : read list c.unnamed-row.result ≡ made c.args.header c.args.meta c.args.items.items = λ i. seen_as (row.header i) (row.meta i) ((ap (body_items list) row.body ∙ own) i) (row.held i) in
+    let stands = subst (StandsWithin (length list) (length list)) (sym row.body) tt in
+    let left : c.numbers_left.result + old.next ≡ no_number = rw (← c.self.view_is) at c.numbers_left.ensures in
+    last_kept c.self.invariant c.push_row.new.letters.items name s c.in_ok-push_row.field-0 put.put list [] (sym (append-nil list)) c.unnamed-row.result (made c.args.header c.args.meta c.args.items.items) c.push_row.new.rows.items row.id put.row shown
+    stands (omega (arith, left, c.if-numbers_left-eq0.false)) c.push_row.new.places.items c.push_row.new.names.words c.push_row.new.full.words put.place put.word put.full_word
+
+pub returns-clause-ok : goal.returns-clause-ok
+returns-clause-ok c =
+    let old = c.self.inside in
+    let list = old.list.items in
+    let name = c.args.name.now in
+    let s = option_copied c.args.subsection in
+    let own : c.in_ok-own.own.value.items ≡ c.args.items.items = search rules in
+    let row = c.unnamed-row.ensures in
+    let put = c.in_ok-push_row.ensures in
+    let shown : read list c.unnamed-row.result ≡ made c.args.header c.args.meta c.args.items.items = λ i. seen_as (row.header i) (row.meta i) ((ap (body_items list) row.body ∙ own) i) (row.held i) in
+    rw (← c.self.view_is) (row_last c.self.invariant c.push_row.new.letters.items name s c.in_ok-push_row.field-0 put.put list [] (sym (append-nil list)) c.unnamed-row.result (made c.args.header c.args.meta c.args.items.items) c.push_row.new.rows.items row.id put.row shown)

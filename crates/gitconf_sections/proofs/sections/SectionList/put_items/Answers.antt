@@ -1,16 +1,20 @@
-use Rattle.std.proofs.Common.{length, refl}
-use Rattle.gitconf_sections.proofs.Changing.{kept_row}
+use Rattle.std.proofs.Common.{refl}
 use Rattle.gitconf_sections.specs.declared.body.Body.TheVariants.{Own}
-use Rattle.gitconf_sections.proofs.Listing.{listed_changed}
 use Rattle.gitconf_sections.specs.Section.{with_items}
+use Rattle.gitconf_sections.proofs.Changing.{row_edited, row_kept, row_within, same_list}
 use Rattle.gitconf_sections.proofs.sections.SectionList.put_items.Goals as goal
 
 pub invariant_of-self : goal.invariant_of-self
 invariant_of-self c =
-    let r = c.at_mut-row.result.now in
-    listed_changed 0 (length c.self.inside.list.items) c.self.inside.table.entries c.args.position r (record r { body = Own c.args.items }) c.self.invariant c.at_mut-row.ensures.value tt
+    let old = c.self.inside in
+    let r = c.index_mut-row.result.now in
+    let within = row_within old.letters.items old.list.items old.rows.items c.args.position (rw (← c.self.view_is) at c.requires) in
+    row_kept c.self.invariant old.list.items c.args.position r (record r { body = Own c.args.items }) within c.index_mut-row.ensures.value refl refl (same_list old.list.items r.body) tt
 
 pub returns : goal.returns
 returns c =
-    let r = c.at_mut-row.result.now in
-    rw (← c.self.view_is) (kept_row c.self.inside.list.items c.self.inside.table c.args.position r (record r { body = Own c.args.items }) (with_items c.args.items.value.items) c.at_mut-row.ensures.value refl)
+    let old = c.self.inside in
+    let r = c.index_mut-row.result.now in
+    let within = row_within old.letters.items old.list.items old.rows.items c.args.position (rw (← c.self.view_is) at c.requires) in
+    rw (← c.self.view_is)
+    (row_edited c.self.invariant old.list.items c.args.position r (record r { body = Own c.args.items }) within c.index_mut-row.ensures.value refl refl (same_list old.list.items r.body) (with_items c.args.items.value.items) refl)

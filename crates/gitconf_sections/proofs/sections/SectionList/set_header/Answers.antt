@@ -1,14 +1,19 @@
-use Rattle.std.proofs.Common.{length, refl}
-use Rattle.gitconf_sections.proofs.Changing.{kept_row}
-use Rattle.gitconf_sections.proofs.Listing.{listed_kept}
+use Rattle.std.proofs.Common.{refl}
+use Rattle.gitconf_sections.proofs.Changing.{row_edited, row_kept, row_within, same_list}
+use Rattle.gitconf_sections.proofs.Listing.{needs_itself}
 use Rattle.gitconf_sections.proofs.sections.SectionList.set_header.Goals as goal
 
 pub invariant_of-self : goal.invariant_of-self
 invariant_of-self c =
-    let r = c.at_mut-row.result.now in
-    listed_kept 0 (length c.self.inside.list.items) c.self.inside.table.entries c.args.position r (record r { header = c.args.header }) c.self.invariant c.at_mut-row.ensures.value refl
+    let old = c.self.inside in
+    let r = c.index_mut-row.result.now in
+    let within = row_within old.letters.items old.list.items old.rows.items c.args.position (rw (← c.self.view_is) at c.requires) in
+    row_kept c.self.invariant old.list.items c.args.position r (record r { header = c.args.header }) within c.index_mut-row.ensures.value refl refl (same_list old.list.items r.body) (needs_itself r.body)
 
 pub returns : goal.returns
 returns c =
-    let r = c.at_mut-row.result.now in
-    rw (← c.self.view_is) (kept_row c.self.inside.list.items c.self.inside.table c.args.position r (record r { header = c.args.header }) (λ s. record s { header = c.args.header }) c.at_mut-row.ensures.value refl)
+    let old = c.self.inside in
+    let r = c.index_mut-row.result.now in
+    let within = row_within old.letters.items old.list.items old.rows.items c.args.position (rw (← c.self.view_is) at c.requires) in
+    rw (← c.self.view_is)
+    (row_edited c.self.invariant old.list.items c.args.position r (record r { header = c.args.header }) within c.index_mut-row.ensures.value refl refl (same_list old.list.items r.body) (λ s. record s { header = c.args.header }) refl)

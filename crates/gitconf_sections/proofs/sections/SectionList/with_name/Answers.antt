@@ -1,17 +1,15 @@
-use Rattle.std.proofs.Common.{◌∙◌, map, refl, ap, sym}
-use Rattle.gitconf_sections.specs.Section.{read}
-use Rattle.std.specs.List.{filter}
+use Rattle.std.proofs.Common.{ap, map}
 use Rattle.gitconf_text.specs.Sections.{has_name}
-use Rattle.gitconf_sections.specs.Walks.{read_pair}
-use Rattle.gitconf_sections.proofs.Mapped.{filter_mapped, pairs_mapped}
+use Rattle.gitconf_sections.specs.Tables.{word_of_name}
+use Rattle.gitconf_sections.specs.Word.{name_word}
+use Rattle.gitconf_sections.proofs.TableLemmas.{found, words_named}
 use Rattle.gitconf_sections.proofs.sections.SectionList.with_name.Goals as goal
 
 pub returns : goal.returns
 returns c =
-    let list = c.self.inside.list.items in
-    let es = c.self.inside.table.entries in
+    let old = c.self.inside in
+    let name = c.args.name.now in
     record {
-      left = rw (← c.self.view_is) (ap (map (read_pair list)) c.with_name.ensures.left
-          ∙ pairs_mapped (read list) (filter (has_name c.args.name.now) es)
-          ∙ ap (map (λ e. (e.number, e.section))) (sym (filter_mapped (read list) (has_name c.args.name.now) (has_name c.args.name.now) (λ e. refl) es)));
+      left = rw (← c.self.view_is, c.deref.ensures.value, c.deref-2.ensures.value, c.places_of_name.ensures)
+          (ap (map (λ e. (e.number, e.section))) (found (has_name name) (word_of_name old.seed) (name_word old.seed name) (words_named old.seed name) old.letters.items old.list.items old.rows.items old.names.words c.self.invariant.table.names));
     }

@@ -1,8 +1,8 @@
 use Rattle.std.proofs.Common.{rules, ◌≡◌, ◌<◌, Some, None, refl, ap, sym, subst, inl, ◌∙◌, length}
 use Rattle.gitconf_text.specs.Sections.{place_of}
-use Rattle.gitconf_table.proofs.SectionLemmas.{number_at-place}
+use Rattle.gitconf_sections.proofs.SectionLemmas.{number_at-place}
 use Rattle.gitconf_body.proofs.Buffers.{same_extended}
-use Rattle.gitconf_table.proofs.SectionLemmas.{section_edited}
+use Rattle.gitconf_sections.proofs.SectionLemmas.{section_edited}
 use Rattle.gitconf_sections.specs.Section.{Section, with_items}
 use Rattle.gitconf_sections.proofs.Edits.{there_is}
 use Rattle.gitconf_sections.specs.LeavingOut.{without_all}

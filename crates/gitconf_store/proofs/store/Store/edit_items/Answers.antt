@@ -1,7 +1,7 @@
 use Rattle.std.proofs.Common.{rules, ◌≡◌, ◌<◌, Some, None, Ok, sym, ap, subst, ◌∙◌, length}
 use Rattle.std.specs.Prelude.{slice_get}
 use Rattle.gitconf_text.specs.Sections.{place_of}
-use Rattle.gitconf_table.proofs.SectionLemmas.{number_at-place}
+use Rattle.gitconf_sections.proofs.SectionLemmas.{number_at-place}
 use Rattle.gitconf_state.specs.Edit.{with_used}
 use Rattle.gitconf_state.specs.Edits.{change_items, numbered}
 use Rattle.gitconf_state.specs.State.{with_sections, SectionState, State}

@@ -3,7 +3,7 @@ use Rattle.std.specs.Prelude.{IfOk, OnOk}
 use Rattle.std.specs.List.{list_all, list_any}
 use Rattle.std.specs.Option.{option_map}
 use Rattle.gitconf_text.specs.Sections.{place_of}
-use Rattle.gitconf_table.proofs.SectionLemmas.{number_at-place, section_edited}
+use Rattle.gitconf_sections.proofs.SectionLemmas.{number_at-place, section_edited}
 use Rattle.gitconf_state.specs.Editors.{popped, popped_entry}
 use Rattle.gitconf_state.specs.Edits.{apply, items_of_numbered, Entry, Pop}
 use Rattle.gitconf_state.specs.State.{is_item}

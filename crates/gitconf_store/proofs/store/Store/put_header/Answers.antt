@@ -2,7 +2,7 @@ use Rattle.std.proofs.Common.{rules, ◌≡◌, ◌<◌, length, sym, ap, subst,
 use Rattle.std.specs.List.{AllByRecursion}
 use Rattle.std.specs.Option.{option_copied}
 use Rattle.gitconf_items.specs.Events.{header_of}
-use Rattle.gitconf_table.specs.Renames.{with_names_at}
+use Rattle.gitconf_sections.specs.Renames.{with_names_at}
 use Rattle.gitconf_state.specs.Edit.{made_header, with_used}
 use Rattle.gitconf_views.specs.Store.{state_of, StoreFits}
 use Rattle.gitconf_store.specs.Renamings.{with_renamed}

@@ -3,7 +3,7 @@ use Rattle.std.specs.Option.{option_copied}
 use Rattle.std.proofs.lemmas.List.{length-map}
 use Rattle.gitconf_text.specs.Names.{is_made_name, is_valid_or_none}
 use Rattle.gitconf_text.specs.Sections.{place_of}
-use Rattle.gitconf_table.proofs.SectionLemmas.{number_at-place}
+use Rattle.gitconf_sections.proofs.SectionLemmas.{number_at-place}
 use Rattle.gitconf_state.specs.Edit.{header_bytes, with_used}
 use Rattle.gitconf_state.specs.Edits.{Rename, apply, numbered, renamed}
 use Rattle.gitconf_state.specs.State.{State}

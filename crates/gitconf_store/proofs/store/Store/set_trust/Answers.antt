@@ -1,10 +1,10 @@
 use Rattle.std.proofs.Common.{rules, ◌≡◌, Some, None, refl, ap, sym, subst, ◌∙◌}
 use Rattle.gitconf_sources.specs.Metadata.{Meta}
 use Rattle.gitconf_text.specs.Sections.{place_of}
-use Rattle.gitconf_table.proofs.SectionLemmas.{number_at-place}
+use Rattle.gitconf_sections.proofs.SectionLemmas.{number_at-place}
 use Rattle.gitconf_state.specs.Edits.{with_trust}
 use Rattle.gitconf_text.specs.Sections.{with_section}
-use Rattle.gitconf_table.proofs.SectionLemmas.{section_edited}
+use Rattle.gitconf_sections.proofs.SectionLemmas.{section_edited}
 use Rattle.gitconf_sections.specs.Section.{Section, viewed}
 use Rattle.gitconf_views.specs.Store.{state_of, StoreFits}
 use Rattle.gitconf_store.proofs.Headers.Renaming.{is_numbered, unnumbered_stays}

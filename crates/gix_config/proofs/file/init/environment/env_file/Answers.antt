@@ -1,38 +1,24 @@
 use Rattle.std.proofs.Common.{rules, ◌≡◌, Ok, Err, refl, subst}
 use Rattle.gitconf_includes.specs.Outcomes.{asks_of}
-use Rattle.gitconf_loaders.specs.Errors.{env_number}
+use Rattle.gitconf_loaders.specs.Errors.{env_says}
 use Rattle.gitconf_loaders.specs.Globals.{empty_file}
-use Rattle.gix_config.specs.Environment.{AreEntriesPut, env_meta, IsFirstRefused}
-use Rattle.gix_config.proofs.Entries.{count_cause, entries_count, entries_made, entries_refused, entry_cause, includes_count, includes_refused}
+use Rattle.gix_config.specs.Environment.{AreEntriesPut, env_meta}
+use Rattle.gix_config.proofs.Entries.{count_count, entries_count, entries_made, entries_refused, includes_count, includes_refused}
 use Rattle.gix_config.proofs.file.init.environment.env_file.Goals as goal
-
-pub returns-in_err-count-clause-cause : goal.returns-in_err-count-clause-cause
-returns-in_err-count-clause-cause g c =
-    count_cause (g.E.Env.variables c.args.env.now) c.args.options.now (g.F.Files.table c.args.files.now) c.in_err-count.field-0.0 c.from_residual.result c.in_err-count.ensures.cause c.from_residual.ensures.1
 
 pub returns-in_err-put_entries-clause-made : goal.returns-in_err-put_entries-clause-made
 returns-in_err-put_entries-clause-made g c =
     let variables = g.E.Env.variables c.args.env.now in
     let asks = asks_of c.args.options.now (g.F.Files.table c.args.files.now) in
     let first : c.in_ok-file.file ≡ empty_file env_meta = search rules in
-    let put = subst (λ f. AreEntriesPut variables c.in_ok-count.count 0 f (Err (env_number c.in_err-put_entries.field-0.0))) first
-    (subst (λ v. AreEntriesPut v c.in_ok-count.count 0 c.in_ok-file.file (Err (env_number c.in_err-put_entries.field-0.0))) c.count.ensures.stays c.in_err-put_entries.ensures.put) in
+    let put = subst (λ f. AreEntriesPut variables c.in_ok-count.count 0 f (Err (env_says c.in_err-put_entries.field-0.0))) first
+    (subst (λ v. AreEntriesPut v c.in_ok-count.count 0 c.in_ok-file.file (Err (env_says c.in_err-put_entries.field-0.0))) c.count.ensures.stays c.in_err-put_entries.ensures.put) in
     entries_refused variables asks c.in_ok-count.count c.in_err-put_entries.field-0.0 c.from_residual-in_err-put_entries.result c.if-count-eq0.false c.in_ok-count.ensures.count put c.from_residual-in_err-put_entries.ensures.1
-
-pub returns-in_err-put_entries-clause-cause : goal.returns-in_err-put_entries-clause-cause
-returns-in_err-put_entries-clause-cause g c =
-    let variables = g.E.Env.variables c.args.env.now in
-    let e = c.in_err-put_entries.field-0.0 in
-    let first : c.in_ok-file.file ≡ empty_file env_meta = search rules in
-    let cause = subst (λ f. IsFirstRefused variables c.in_ok-count.count f e) first
-    (subst (λ v. IsFirstRefused v c.in_ok-count.count c.in_ok-file.file e) c.count.ensures.stays c.in_err-put_entries.ensures.cause) in
-    entry_cause variables c.args.options.now (g.F.Files.table c.args.files.now) c.in_ok-count.count e c.from_residual-in_err-put_entries.result c.in_ok-count.ensures.count cause
-    c.from_residual-in_err-put_entries.ensures.1
 
 pub returns-in_err-put_entries-clause-counted : goal.returns-in_err-put_entries-clause-counted
 returns-in_err-put_entries-clause-counted g c =
     entries_count (g.E.Env.variables c.count.new.env) c.in_ok-count.count c.in_ok-file.file c.in_err-put_entries.field-0.0 c.from_residual-in_err-put_entries.result (g.F.Files.failures c.args.files.now) (g.F.Files.failures c.args.files.now)
-    c.from_residual-in_err-put_entries.ensures.1 c.in_err-put_entries.ensures.cause refl
+    c.from_residual-in_err-put_entries.ensures.1 c.in_err-put_entries.ensures.put refl
 
 pub returns-in_err-expanded-clause-made : goal.returns-in_err-expanded-clause-made
 returns-in_err-expanded-clause-made g c =
@@ -56,3 +42,8 @@ returns-clause-made g c =
     let put = subst (λ f. AreEntriesPut variables c.in_ok-count.count 0 f (Ok c.put_entries.new.file)) first
     (subst (λ v. AreEntriesPut v c.in_ok-count.count 0 c.in_ok-file.file (Ok c.put_entries.new.file)) c.count.ensures.stays c.in_ok-put_entries.ensures.put) in
     entries_made variables asks c.in_ok-count.count c.put_entries.new.file c.in_ok-expanded.field-0 c.if-count-eq0.false c.in_ok-count.ensures.count put c.in_ok-expanded.ensures.expanded
+
+pub returns-in_err-count-clause-counted : goal.returns-in_err-count-clause-counted
+returns-in_err-count-clause-counted g c =
+    count_count (g.E.Env.variables c.args.env.now) c.in_err-count.field-0.0 c.from_residual.result (g.F.Files.failures c.args.files.now) (g.F.Files.failures c.args.files.now)
+    c.from_residual.ensures.1 c.in_err-count.ensures.count refl

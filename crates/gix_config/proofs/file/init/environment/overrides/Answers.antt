@@ -1,6 +1,6 @@
 use Rattle.std.proofs.Common.{Ok, Err, subst}
 use Rattle.gitconf_includes.specs.Rules.{Rules}
-use Rattle.gitconf_loaders.specs.Errors.{env_number}
+use Rattle.gitconf_loaders.specs.Errors.{env_says}
 use Rattle.gix_config.specs.Environment.{IsFromEnv}
 use Rattle.gix_config.proofs.Entries.{not_overridden, overridden}
 use Rattle.gix_config.proofs.file.init.environment.overrides.Goals as goal
@@ -16,5 +16,5 @@ pub returns-in_err-made-clause-made : goal.returns-in_err-made-clause-made
 returns-in_err-made-clause-made g c =
     let variables = g.E.Env.variables c.args.env.now in
     let table = g.F.Files.table c.args.files.now in
-    let made = subst (λ (r : Rules). IsFromEnv variables (record { rules = r; table = table }) (Err (env_number c.in_err-made.field-0.0))) c.home_options.ensures.rules c.in_err-made.ensures.made in
+    let made = subst (λ (r : Rules). IsFromEnv variables (record { rules = r; table = table }) (Err (env_says c.in_err-made.field-0.0))) c.home_options.ensures.rules c.in_err-made.ensures.made in
     not_overridden variables c.args.places.now table c.in_err-made.field-0.0 c.from_residual.result made c.from_residual.ensures.1

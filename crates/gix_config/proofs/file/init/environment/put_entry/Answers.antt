@@ -1,10 +1,9 @@
 use Rattle.std.proofs.Common.{Ok, Err, subst, string_bytes}
 use Rattle.std.specs.Option.{option_map}
-use Rattle.std.proofs.lemmas.Result.{IfErr-weaker}
-use Rattle.gitconf_loaders.specs.Errors.{env_number}
+use Rattle.gitconf_loaders.specs.Errors.{env_says}
 use Rattle.gitconf_loaders.specs.Paths.{left_by}
-use Rattle.gitconf_loaders.specs.Variables.{IsEntryRefused, IsValueAt}
-use Rattle.gix_config.proofs.Entries.{asked_refused, entry_put, handed_on, key_refused, value_refused}
+use Rattle.gitconf_loaders.specs.Variables.{IsValueAt}
+use Rattle.gix_config.proofs.Entries.{entry_put, key_refused, value_refused}
 use Rattle.gix_config.proofs.file.init.environment.put_entry.Goals as goal
 
 pub returns-in_err-key-clause-put : goal.returns-in_err-key-clause-put
@@ -14,25 +13,9 @@ returns-in_err-key-clause-put g c =
 pub returns-in_err-value-clause-put : goal.returns-in_err-value-clause-put
 returns-in_err-value-clause-put g c =
     value_refused (g.E.Env.variables c.args.env.now) c.args.index (string_bytes c.in_ok-key.key) c.args.file.now c.args.file.now c.in_err-value.field-0.0 c.from_residual-in_err-value.result c.in_ok-key.ensures.key
-    (subst (λ v. IsValueAt v c.args.index (Err (env_number c.in_err-value.field-0.0))) c.key_at.ensures.stays c.in_err-value.ensures.value) c.from_residual-in_err-value.ensures.1
-
-pub returns-in_err-key-clause-cause : goal.returns-in_err-key-clause-cause
-returns-in_err-key-clause-cause g c =
-    handed_on (IsEntryRefused (g.E.Env.variables c.args.env.now) c.args.index) c.in_err-key.field-0.0 c.from_residual.result c.in_err-key.ensures.cause c.from_residual.ensures.1
-
-pub returns-in_err-value-clause-cause : goal.returns-in_err-value-clause-cause
-returns-in_err-value-clause-cause g c =
-    handed_on (IsEntryRefused (g.E.Env.variables c.args.env.now) c.args.index) c.in_err-value.field-0.0 c.from_residual-in_err-value.result
-    (subst (λ v. IsEntryRefused v c.args.index c.in_err-value.field-0.0) c.key_at.ensures.stays c.in_err-value.ensures.cause) c.from_residual-in_err-value.ensures.1
-
-pub returns-clause-cause : goal.returns-clause-cause
-returns-clause-cause g c =
-    let variables = g.E.Env.variables c.args.env.now in
-    let value = option_map string_bytes c.in_ok-value.value in
-    let given = subst (λ v. IsValueAt v c.args.index (Ok value)) c.key_at.ensures.stays c.in_ok-value.ensures.value in
-    IfErr-weaker c.put_under.result _ _ (λ e cause. asked_refused variables c.args.index (string_bytes c.in_ok-key.key) value e c.in_ok-key.ensures.key given cause) c.put_under.ensures.cause
+    (subst (λ v. IsValueAt v c.args.index (Err (env_says c.in_err-value.field-0.0))) c.key_at.ensures.stays c.in_err-value.ensures.value) c.from_residual-in_err-value.ensures.1
 
 pub returns-clause-put : goal.returns-clause-put
 returns-clause-put g c =
-    entry_put (g.E.Env.variables c.args.env.now) c.args.index (string_bytes c.in_ok-key.key) (option_map string_bytes c.in_ok-value.value) c.args.file.now (left_by env_number c.put_under.result c.put_under.new.file)
-    c.in_ok-key.ensures.key (subst (λ v. IsValueAt v c.args.index (Ok (option_map string_bytes c.in_ok-value.value))) c.key_at.ensures.stays c.in_ok-value.ensures.value) c.put_under.ensures.put
+    entry_put (g.E.Env.variables c.args.env.now) c.args.index (string_bytes c.in_ok-key.key) (option_map string_bytes c.in_ok-value.value) c.args.file.now (left_by env_says c.put_under.result c.put_under.new.file)
+    c.in_ok-key.ensures.key (subst (λ v. IsValueAt v c.args.index (Ok (option_map string_bytes c.in_ok-value.value))) c.key_at.ensures.stays c.in_ok-value.ensures.value) c.put_under.ensures

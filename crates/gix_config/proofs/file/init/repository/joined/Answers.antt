@@ -3,9 +3,9 @@ use Rattle.gitconf_state.specs.State.{State}
 use Rattle.gitconf_includes.specs.Outcomes.{asks_of}
 use Rattle.gitconf_includes.specs.Errors.{includes_number}
 use Rattle.gitconf_loaders.proofs.Counts.{fault_load, same}
-use Rattle.gitconf_loaders.specs.Errors.{git_number, git_of_includes}
-use Rattle.gix_config.specs.Repository.{IsGitCause, AreOwnAndOverridesBehind, parts_of}
-use Rattle.gix_config.proofs.Repositories.{all_joined, expansion_cause, first_not_expanded, git_count, handed_cause, of_includes, own_not_put}
+use Rattle.gitconf_loaders.specs.Errors.{git_number, git_of_includes, git_says}
+use Rattle.gix_config.specs.Repository.{AreOwnAndOverridesBehind, parts_of}
+use Rattle.gix_config.proofs.Repositories.{all_joined, first_not_expanded, git_count, includes_numbers, own_not_put}
 use Rattle.gix_config.proofs.file.init.repository.joined.Goals as goal
 
 pub returns-in_err-all-clause-joined : goal.returns-in_err-all-clause-joined
@@ -14,16 +14,12 @@ returns-in_err-all-clause-joined g c =
     first_not_expanded (g.E.Env.variables c.args.env.now) c.args.places.now table (asks_of c.args.options.now table) (parts_of c.args.parts) c.in_err-all.field-0.0 c.from_residual.result
     c.in_err-all.ensures.expanded c.from_residual.ensures.1
 
-pub returns-in_err-all-clause-cause : goal.returns-in_err-all-clause-cause
-returns-in_err-all-clause-cause g c =
-    expansion_cause (g.E.Env.variables c.args.env.now) c.args.options.now c.args.places.now (g.F.Files.table c.args.files.now) c.in_err-all.field-0.0 c.from_residual.result c.in_err-all.ensures.cause c.from_residual.ensures.1
-
 pub returns-in_err-all-clause-counted : goal.returns-in_err-all-clause-counted
 returns-in_err-all-clause-counted g c =
     let e = c.in_err-all.field-0.0 in
     let old = g.F.Files.failures c.args.files.now in
     let new = g.F.Files.failures c.expanded.new.files in
-    git_count State State (includes_number e) (git_of_includes e) c.from_residual.result old old new c.from_residual.ensures.1 (of_includes e) (same old old refl)
+    git_count State State (includes_number e) (git_of_includes e) c.from_residual.result old old new c.from_residual.ensures.1 (includes_numbers e) (same old old refl)
     (fault_load State (includes_number e) old new c.in_err-all.ensures.counted)
 
 pub returns-in_err-put_own_and_overrides-clause-joined : goal.returns-in_err-put_own_and_overrides-clause-joined
@@ -32,14 +28,8 @@ returns-in_err-put_own_and_overrides-clause-joined g c =
     let variables = g.E.Env.variables c.args.env.now in
     let e = c.in_err-put_own_and_overrides.field-0.0 in
     own_not_put variables c.args.places.now table (asks_of c.args.options.now table) (parts_of c.args.parts) c.in_ok-all.all e c.from_residual-in_err-put_own_and_overrides.result c.in_ok-all.ensures.expanded
-    (subst (λ t. AreOwnAndOverridesBehind variables c.args.places.now t (asks_of c.args.options.now t) c.args.parts.own.local c.args.parts.own.worktree c.in_ok-all.all (Err (git_number e))) c.expanded.ensures.table c.in_err-put_own_and_overrides.ensures.put)
+    (subst (λ t. AreOwnAndOverridesBehind variables c.args.places.now t (asks_of c.args.options.now t) c.args.parts.own.local c.args.parts.own.worktree c.in_ok-all.all (Err (git_says e))) c.expanded.ensures.table c.in_err-put_own_and_overrides.ensures.put)
     c.from_residual-in_err-put_own_and_overrides.ensures.1
-
-pub returns-in_err-put_own_and_overrides-clause-cause : goal.returns-in_err-put_own_and_overrides-clause-cause
-returns-in_err-put_own_and_overrides-clause-cause g c =
-    let variables = g.E.Env.variables c.args.env.now in
-    handed_cause variables c.args.options.now c.args.places.now (g.F.Files.table c.args.files.now) c.in_err-put_own_and_overrides.field-0.0 c.from_residual-in_err-put_own_and_overrides.result
-    (subst (λ t. IsGitCause variables c.args.options.now c.args.places.now t c.in_err-put_own_and_overrides.field-0.0) c.expanded.ensures.table c.in_err-put_own_and_overrides.ensures.cause) c.from_residual-in_err-put_own_and_overrides.ensures.1
 
 pub returns-in_err-put_own_and_overrides-clause-counted : goal.returns-in_err-put_own_and_overrides-clause-counted
 returns-in_err-put_own_and_overrides-clause-counted g c =

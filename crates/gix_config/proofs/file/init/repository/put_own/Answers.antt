@@ -1,8 +1,8 @@
 use Rattle.std.proofs.Common.{Ok, subst}
 use Rattle.gitconf_includes.specs.Outcomes.{asks_of}
 use Rattle.gitconf_loaders.proofs.Counts.{later}
-use Rattle.gitconf_loaders.specs.Paths.{left_by, numbered}
-use Rattle.gitconf_loaders.specs.Errors.{git_number}
+use Rattle.gitconf_loaders.specs.Paths.{left_by, telling}
+use Rattle.gitconf_loaders.specs.Errors.{git_number, git_says}
 use Rattle.gix_config.specs.Repository.{IsExpandedBehind, IsWorktreeBehind}
 use Rattle.gix_config.proofs.Repositories.{then_stopped}
 use Rattle.gix_config.proofs.file.init.repository.put_own.Goals as goal
@@ -18,10 +18,10 @@ returns-clause-put g c =
     let both = c.put_behind.new.target in (
       Ok both,
       c.in_ok-put_behind.ensures.put,
-      subst (λ t. IsWorktreeBehind (asks_of c.args.options.now t) c.args.own.worktree both (left_by git_number c.put_worktree.result c.put_worktree.new.target)) c.put_behind.ensures.table c.put_worktree.ensures.put,
+      subst (λ t. IsWorktreeBehind (asks_of c.args.options.now t) c.args.own.worktree both (left_by git_says c.put_worktree.result c.put_worktree.new.target)) c.put_behind.ensures.table c.put_worktree.ensures.put,
     )
 
 pub returns-clause-counted : goal.returns-clause-counted
 returns-clause-counted g c =
-    later Unit (numbered git_number c.put_worktree.result) (g.F.Files.failures c.args.files.now) (g.F.Files.failures c.put_behind.new.files) (g.F.Files.failures c.put_worktree.new.files)
+    later Unit (telling git_number c.put_worktree.result) (g.F.Files.failures c.args.files.now) (g.F.Files.failures c.put_behind.new.files) (g.F.Files.failures c.put_worktree.new.files)
     c.in_ok-put_behind.ensures.counted c.put_worktree.ensures.counted

@@ -1,11 +1,10 @@
 use Rattle.std.proofs.Common.{Ok, subst}
-use Rattle.std.specs.Prelude.{IfErr}
 use Rattle.gitconf_includes.specs.Outcomes.{asks_of}
 use Rattle.gitconf_loaders.proofs.Counts.{later}
-use Rattle.gitconf_loaders.specs.Paths.{left_by, numbered}
-use Rattle.gitconf_loaders.specs.Errors.{git_number}
-use Rattle.gix_config.specs.Repository.{AreOverridesBehind, IsOverridingCause, IsOwnBehind}
-use Rattle.gix_config.proofs.Repositories.{include_cause, last_cause, then_stopped}
+use Rattle.gitconf_loaders.specs.Paths.{left_by, telling}
+use Rattle.gitconf_loaders.specs.Errors.{git_number, git_says}
+use Rattle.gix_config.specs.Repository.{AreOverridesBehind, IsOwnBehind}
+use Rattle.gix_config.proofs.Repositories.{then_stopped}
 use Rattle.gix_config.proofs.file.init.repository.put_own_and_overrides.Goals as goal
 
 pub returns-in_err-put_own-clause-put : goal.returns-in_err-put_own-clause-put
@@ -14,25 +13,15 @@ returns-in_err-put_own-clause-put g c =
     then_stopped (IsOwnBehind (asks_of c.args.options.now table) c.args.own.local c.args.own.worktree c.args.target.now) (AreOverridesBehind (g.E.Env.variables c.args.env.now) c.args.places.now table)
     c.in_err-put_own.field-0.0 c.from_residual.result c.put_own.new.target c.in_err-put_own.ensures.put c.from_residual.ensures.1
 
-pub returns-in_err-put_own-clause-cause : goal.returns-in_err-put_own-clause-cause
-returns-in_err-put_own-clause-cause g c =
-    include_cause (g.E.Env.variables c.args.env.now) c.args.options.now c.args.places.now (g.F.Files.table c.args.files.now) c.in_err-put_own.field-0.0 c.from_residual.result c.in_err-put_own.ensures.cause
-    c.from_residual.ensures.1
-
 pub returns-clause-put : goal.returns-clause-put
 returns-clause-put g c =
     let own = c.put_own.new.target in (
       Ok own,
       c.in_ok-put_own.ensures.put,
-      subst (λ t. AreOverridesBehind (g.E.Env.variables c.args.env.now) c.args.places.now t own (left_by git_number c.put_overrides.result c.put_overrides.new.target)) c.put_own.ensures.table c.put_overrides.ensures.put,
+      subst (λ t. AreOverridesBehind (g.E.Env.variables c.args.env.now) c.args.places.now t own (left_by git_says c.put_overrides.result c.put_overrides.new.target)) c.put_own.ensures.table c.put_overrides.ensures.put,
     )
-
-pub returns-clause-cause : goal.returns-clause-cause
-returns-clause-cause g c =
-    last_cause (g.E.Env.variables c.args.env.now) c.args.options.now c.args.places.now (g.F.Files.table c.args.files.now) c.put_overrides.result
-    (subst (λ t. IfErr c.put_overrides.result (IsOverridingCause (g.E.Env.variables c.args.env.now) c.args.places.now t)) c.put_own.ensures.table c.put_overrides.ensures.cause)
 
 pub returns-clause-counted : goal.returns-clause-counted
 returns-clause-counted g c =
-    later Unit (numbered git_number c.put_overrides.result) (g.F.Files.failures c.args.files.now) (g.F.Files.failures c.put_own.new.files) (g.F.Files.failures c.put_overrides.new.files)
+    later Unit (telling git_number c.put_overrides.result) (g.F.Files.failures c.args.files.now) (g.F.Files.failures c.put_own.new.files) (g.F.Files.failures c.put_overrides.new.files)
     c.in_ok-put_own.ensures.counted c.put_overrides.ensures.counted

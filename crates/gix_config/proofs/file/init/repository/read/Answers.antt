@@ -1,18 +1,18 @@
 use Rattle.std.proofs.Common.{◌≡◌, ◌⊎◌, ℕ, Ok, Err, Option, Result, ◌∙◌, subst, string_bytes}
 use Rattle.gitconf_state.specs.State.{State}
-use Rattle.gitconf_loaders.specs.Causes.{IsFileCause}
-use Rattle.gitconf_loaders.specs.Errors.{paths_number}
-use Rattle.gitconf_loaders.specs.Globals.{IsGlobal, IsGlobalCause}
+use Rattle.gitconf_loaders.specs.Errors.{paths_says}
+use Rattle.gitconf_loaders.specs.Globals.{IsGlobal}
+use Rattle.gitconf_loaders.specs.Refused.{OutOfMemory, Refused}
 use Rattle.gitconf_loaders.proofs.Counts.{none_less}
-use Rattle.gix_config.specs.Repository.{IsWorktree, worktree_path}
-use Rattle.gix_config.proofs.Repositories.{all_read, global_cause, globals_refused, handed_count, local_cause, worktree_cause, worktree_not_read}
+use Rattle.gix_config.specs.Repository.{IsWorktree}
+use Rattle.gix_config.proofs.Repositories.{all_read, globals_refused, handed_count, worktree_not_read}
 use Rattle.gix_config.proofs.file.init.repository.read.Goals as goal
 
 pub returns-in_err-worktree-clause-read : goal.returns-in_err-worktree-clause-read
 returns-in_err-worktree-clause-read g c =
     let table = g.F.Files.table c.args.files.now in
     worktree_not_read (g.E.Env.variables c.args.env.now) c.args.places.now table (string_bytes c.args.path) c.args.folder.now c.in_ok-from_path.field-0 c.in_err-worktree.field-0.0 c.from_residual-in_err-worktree.result
-    c.in_ok-from_path.ensures.loaded (subst (λ t. (◌≡◌ {A = Result (Option State) ℕ} (Err (paths_number c.in_err-worktree.field-0.0)) (Err 27)) ⊎ IsWorktree t c.args.folder.now c.in_ok-from_path.field-0 (Err (paths_number c.in_err-worktree.field-0.0))) c.from_path.ensures.table c.in_err-worktree.ensures.loaded)
+    c.in_ok-from_path.ensures.loaded (subst (λ t. (◌≡◌ {A = Result (Option State) Refused} (Err (paths_says c.in_err-worktree.field-0.0)) (Err OutOfMemory)) ⊎ IsWorktree t c.args.folder.now c.in_ok-from_path.field-0 (Err (paths_says c.in_err-worktree.field-0.0))) c.from_path.ensures.table c.in_err-worktree.ensures.loaded)
     c.from_residual-in_err-worktree.ensures.1
 
 pub returns-in_err-worktree-clause-counted : goal.returns-in_err-worktree-clause-counted
@@ -25,25 +25,8 @@ returns-in_err-from_globals-clause-read g c =
     let table = g.F.Files.table c.args.files.now in
     let same = c.worktree.ensures.table ∙ c.from_path.ensures.table in
     globals_refused (g.E.Env.variables c.args.env.now) c.args.places.now table (string_bytes c.args.path) c.args.folder.now c.in_ok-from_path.field-0 c.in_ok-worktree.worktree c.in_err-from_globals.field-0.0 c.from_residual-in_err-from_globals.result
-    c.in_ok-from_path.ensures.loaded (subst (λ t. (◌≡◌ {A = Result (Option State) ℕ} (Ok c.in_ok-worktree.worktree) (Err 27)) ⊎ IsWorktree t c.args.folder.now c.in_ok-from_path.field-0 (Ok c.in_ok-worktree.worktree)) c.from_path.ensures.table c.in_ok-worktree.ensures.loaded)
-    (subst (λ t. IsGlobal (g.E.Env.variables c.args.env.now) c.args.places.now t (Err (paths_number c.in_err-from_globals.field-0.0))) same c.in_err-from_globals.ensures.loaded) c.from_residual-in_err-from_globals.ensures.1
-
-pub returns-in_err-from_globals-clause-cause : goal.returns-in_err-from_globals-clause-cause
-returns-in_err-from_globals-clause-cause g c =
-    let table = g.F.Files.table c.args.files.now in
-    let same = c.worktree.ensures.table ∙ c.from_path.ensures.table in
-    global_cause (g.E.Env.variables c.args.env.now) c.args.places.now table (string_bytes c.args.path) c.args.folder.now c.in_err-from_globals.field-0.0 c.from_residual-in_err-from_globals.result
-    (subst (λ t. IsGlobalCause (g.E.Env.variables c.args.env.now) c.args.places.now t c.in_err-from_globals.field-0.0) same c.in_err-from_globals.ensures.cause) c.from_residual-in_err-from_globals.ensures.1
-
-pub returns-in_err-from_path-clause-cause : goal.returns-in_err-from_path-clause-cause
-returns-in_err-from_path-clause-cause g c =
-    local_cause (g.E.Env.variables c.args.env.now) c.args.places.now (g.F.Files.table c.args.files.now) (string_bytes c.args.path) c.args.folder.now c.in_err-from_path.field-0.0 c.from_residual.result
-    c.in_err-from_path.ensures.cause c.from_residual.ensures.1
-
-pub returns-in_err-worktree-clause-cause : goal.returns-in_err-worktree-clause-cause
-returns-in_err-worktree-clause-cause g c =
-    worktree_cause (g.E.Env.variables c.args.env.now) c.args.places.now (g.F.Files.table c.args.files.now) (string_bytes c.args.path) c.args.folder.now c.in_err-worktree.field-0.0 c.from_residual-in_err-worktree.result
-    (subst (λ t. IsFileCause t (worktree_path c.args.folder.now) c.in_err-worktree.field-0.0) c.from_path.ensures.table c.in_err-worktree.ensures.cause) c.from_residual-in_err-worktree.ensures.1
+    c.in_ok-from_path.ensures.loaded (subst (λ t. (◌≡◌ {A = Result (Option State) Refused} (Ok c.in_ok-worktree.worktree) (Err OutOfMemory)) ⊎ IsWorktree t c.args.folder.now c.in_ok-from_path.field-0 (Ok c.in_ok-worktree.worktree)) c.from_path.ensures.table c.in_ok-worktree.ensures.loaded)
+    (subst (λ t. IsGlobal (g.E.Env.variables c.args.env.now) c.args.places.now t (Err (paths_says c.in_err-from_globals.field-0.0))) same c.in_err-from_globals.ensures.loaded) c.from_residual-in_err-from_globals.ensures.1
 
 pub returns-in_err-from_globals-clause-counted : goal.returns-in_err-from_globals-clause-counted
 returns-in_err-from_globals-clause-counted g c =
@@ -56,7 +39,7 @@ returns-clause-read g c =
     let table = g.F.Files.table c.args.files.now in
     let same = c.worktree.ensures.table ∙ c.from_path.ensures.table in
     all_read (g.E.Env.variables c.args.env.now) c.args.places.now table (string_bytes c.args.path) c.args.folder.now c.in_ok-from_path.field-0 c.in_ok-worktree.worktree c.in_ok-from_globals.field-0
-    c.in_ok-from_path.ensures.loaded (subst (λ t. (◌≡◌ {A = Result (Option State) ℕ} (Ok c.in_ok-worktree.worktree) (Err 27)) ⊎ IsWorktree t c.args.folder.now c.in_ok-from_path.field-0 (Ok c.in_ok-worktree.worktree)) c.from_path.ensures.table c.in_ok-worktree.ensures.loaded)
+    c.in_ok-from_path.ensures.loaded (subst (λ t. (◌≡◌ {A = Result (Option State) Refused} (Ok c.in_ok-worktree.worktree) (Err OutOfMemory)) ⊎ IsWorktree t c.args.folder.now c.in_ok-from_path.field-0 (Ok c.in_ok-worktree.worktree)) c.from_path.ensures.table c.in_ok-worktree.ensures.loaded)
     (subst (λ t. IsGlobal (g.E.Env.variables c.args.env.now) c.args.places.now t (Ok c.in_ok-from_globals.field-0)) same c.in_ok-from_globals.ensures.loaded)
 
 pub returns-clause-counted : goal.returns-clause-counted

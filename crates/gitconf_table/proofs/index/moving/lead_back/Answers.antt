@@ -1,6 +1,0 @@
-use Rattle.std.proofs.Common.{refl}
-use Rattle.gitconf_table.proofs.LinkLemmas.{words_set}
-use Rattle.gitconf_table.proofs.index.moving.lead_back.Goals as goal
-
-pub returns-then-at-links-clause-words : goal.returns-then-at-links-clause-words
-returns-then-at-links-clause-words c = words_set c.args.links.now _ _ refl

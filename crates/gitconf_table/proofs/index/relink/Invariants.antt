@@ -1,6 +1,0 @@
-use Rattle.std.proofs.Common.{◌≡◌, ℕ, ◌<◌}
-use Rattle.gitconf_table.specs.Links.{ends_of, no_place}
-use Rattle.gitconf_table.proofs.index.relink.Given as goal
-
-abbrev pub invariant-loop-bucket : goal.invariant-loop-bucket
-invariant-loop-bucket l = (k : ℕ) → k < l.bucket-index → ends_of l.buckets k ≡ record { first = no_place; behind = 0 }

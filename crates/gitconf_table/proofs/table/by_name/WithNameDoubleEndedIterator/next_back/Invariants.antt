@@ -1,9 +1,0 @@
-use Rattle.std.proofs.Common.{◌≡◌, length}
-use Rattle.gitconf_table.specs.SectionIters.{with_name_left}
-use Rattle.gitconf_table.proofs.table.by_name.WithNameDoubleEndedIterator.next_back.Given as goal
-
-abbrev pub invariant-loop-at : goal.invariant-loop-at
-invariant-loop-at g l = with_name_left l.self ≡ with_name_left l.initial.self
-
-abbrev pub decreases-loop-at : goal.decreases-loop-at
-decreases-loop-at g l = length l.self.places

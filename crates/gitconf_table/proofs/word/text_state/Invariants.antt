@@ -1,6 +1,0 @@
-use Rattle.std.proofs.Common.{◌≡◌, drop}
-use Rattle.gitconf_table.specs.Word.{mixed_all}
-use Rattle.gitconf_table.proofs.word.text_state.Given as goal
-
-abbrev pub invariant-loop-eight : goal.invariant-loop-eight
-invariant-loop-eight l = mixed_all l.state (drop l.eight-index l.eights) ≡ mixed_all l.fn.from l.eights
