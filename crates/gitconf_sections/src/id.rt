@@ -21,6 +21,15 @@ impl Model for SectionId {
     ghost inverse = { λ n. record { number = n } };
 }
 
+impl SectionId {
+    /// The number itself, as hosts in other languages tell it. Numbers count up from 0 in the order in which sections were added.
+    pub fn number(self) -> usize
+        ensures { result ≡ self }
+    {
+        self.number
+    }
+}
+
 impl Default for SectionId {
     ghost is_default = { λ id. id ≡ no_number };
 

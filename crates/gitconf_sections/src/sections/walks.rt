@@ -17,7 +17,7 @@ use crate::row::{Row, Section, read};
 use crate::sections::SectionList;
 use crate::word::{full_state, name_state, word_of};
 use gitconf_items::items::Item;
-use gitconf_text::parse::section::bytes::is_same_name;
+use gitconf_text::parse::section::bytes::{is_same_name, is_same_text};
 
 impl SectionList {
     /// The sections in file order, each under its number.
@@ -115,7 +115,7 @@ fn same_subsection(ours: Option<&[u8]>, asked: Option<&[u8]>) -> bool
 {
     match (ours, asked) {
         (None, None) => true,
-        (Some(ours), Some(asked)) => ours == asked,
+        (Some(ours), Some(asked)) => is_same_text(ours, asked),
         _ => false,
     }
 }
