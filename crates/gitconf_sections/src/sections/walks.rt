@@ -17,7 +17,7 @@ use crate::row::{Row, Section, read};
 use crate::sections::SectionList;
 use crate::word::{full_state, name_state, word_of};
 use gitconf_items::items::Item;
-use gitconf_text::parse::section::bytes::{is_same_name, is_same_text};
+use gitconf_text::parse::section::bytes::is_same_name;
 
 impl SectionList {
     /// The sections in file order, each under its number.
@@ -34,6 +34,7 @@ impl SectionList {
     /// The sections of this name, without ASCII case, and exactly this subsection, in file order, each under its number. Takes no
     /// memory, and constant time except for the bytes of the names; each step takes the time of the sections that share a bucket, one
     /// or two on average besides those that are asked for.
+    #[inline(always)]
     pub fn named<'a, 'n, 's>(
         &'a self,
         name: &'n str,
@@ -95,6 +96,7 @@ fn row_at(rows: &[Row], at: usize) -> Option<&Row>
 }
 
 // Whether the names of a row are the name, without ASCII case, and exactly the subsection.
+#[inline(always)]
 fn is_named(letters: &[u8], names: Names, name: &str, subsection: Option<&[u8]>) -> bool
     ensures { result ≡ is_same_name name.now (part_of letters.now (name_part names))
         && option_eq bytes_eq (option_map (part_of letters.now) (subsection_part names)) (option_copied subsection.entry) }
@@ -115,7 +117,7 @@ fn same_subsection(ours: Option<&[u8]>, asked: Option<&[u8]>) -> bool
 {
     match (ours, asked) {
         (None, None) => true,
-        (Some(ours), Some(asked)) => is_same_text(ours, asked),
+        (Some(ours), Some(asked)) => ours == asked,
         _ => false,
     }
 }

@@ -2,7 +2,6 @@
 //!
 //! They are for the crates above this one, whose calls take names that are not checked yet. None takes memory.
 ghost use Rattle.std.specs.Prelude.{◌≡◌, IsTrue, fold as fold_from, string_bytes};
-ghost use Rattle.std.specs.Str.{bytes_eq};
 ghost use Rattle.gitconf_text.specs.Names as spec;
 
 use std::cmp::Ordering;
@@ -54,37 +53,8 @@ pub(super) fn into_text(bytes: Vec<u8>) -> String
 pub fn is_same_name(a: &[u8], b: &[u8]) -> bool
     ensures { result ≡ spec.is_same_name a.now b.now }
 {
-    if a.len() != b.len() {
-        return false;
-    }
-    let (mut left, mut right) = (a, b);
-    while let (Some((x, more)), Some((y, others))) = (left.split_first(), right.split_first()) {
-        // Most names are spelled alike.
-        if x != y && !x.eq_ignore_ascii_case(y) {
-            return false;
-        }
-        left = more;
-        right = others;
-    }
-    true
-}
-
-/// Equality of the bytes. On the few bytes that a name has, this is faster than `==`, which looks at 8 at a time or more.
-pub fn is_same_text(a: &[u8], b: &[u8]) -> bool
-    ensures { result ≡ bytes_eq a.now b.now }
-{
-    if a.len() != b.len() {
-        return false;
-    }
-    let (mut left, mut right) = (a, b);
-    while let (Some((x, more)), Some((y, others))) = (left.split_first(), right.split_first()) {
-        if x != y {
-            return false;
-        }
-        left = more;
-        right = others;
-    }
-    true
+    // Most names are spelled alike, and plain equality looks at many bytes at a time.
+    a == b || a.eq_ignore_ascii_case(b)
 }
 
 /// The order without ASCII case.
