@@ -1,6 +1,7 @@
 """The reference for Rattle: a page for each module of gix_config that a user can name."""
 import re
 from html import escape
+from textwrap import dedent
 
 from calls import implemented, public_items
 from html_page import comment, inline, page, place
@@ -8,6 +9,10 @@ from rattle_source import Source
 from sources import Crates
 
 LIBRARY = "gix_config"
+# The functions of the guide's program, which the gate compiles and runs; and what names a call in them, with the label that it has here.
+FUNCTION = re.compile(r"^fn \w+.*? \{\n(.*?)^\}\n", re.MULTILINE | re.DOTALL)
+CALLED = {r"\bfile\.(\w+)\(": "File.{}", r"\bFile::(\w+)\(": "File.{}", r"\borigin\.(\w+)\(": "SectionMut.{}", r"\bsection\.(\w+)\(": "SectionRef.{}",
+          r"\bpath\.(interpolate)\(": "Path.{}", r"(?<!\.)\b(normalize)\(": "{}", r"\bMemFiles::(\w+)\(": "MemFiles.{}", r"\bfiles\.(insert)\(": "MemFiles.{}"}
 
 
 class Library:
@@ -22,6 +27,7 @@ class Library:
         for item, path in sorted(self.items.items(), key=lambda one: one[1]):
             self.modules.setdefault(path[:-1], []).append((path[-1], item))
         self.calls = {item: [*self.blocks_of(item)] for item in self.items}
+        self.examples = examples_of(self.top / "docs/guide/main.txt")
 
     def source(self, file):
         if file not in self.sources:
@@ -64,6 +70,16 @@ class Library:
         return None
 
 
+def examples_of(guide):
+    """By the label of a call, the shortest function of the guide's program that makes it."""
+    found = {}
+    for body in FUNCTION.findall(guide.read_text(encoding="utf-8")):
+        for form, label in CALLED.items():
+            for name in re.findall(form, body):
+                found[label.format(name)] = min(dedent(body), found.get(label.format(name), dedent(body)), key=len)
+    return found
+
+
 def file_name(module):
     return f"{'.'.join(module) or 'index'}.html"
 
@@ -81,6 +97,8 @@ def call_lines(library, source, call, label, here):
     yield f'<h3 id="{place(label)}"><code>{escape(label.replace(".", "::"))}</code></h3>'
     yield f"<pre>{escape(call.head())}</pre>"
     yield comment(call.docs, lambda name: library.link_of(name, here))
+    if label in library.examples:
+        yield f"<details><summary>Example</summary>\n<pre>{escape(library.examples[label])}</pre>\n</details>"
     yield contract(source, call)
 
 
@@ -137,6 +155,10 @@ def about_of(library, module):
 def results(crates_folder, made):
     """Whether each public item and call has its place and a comment."""
     library = Library(crates_folder)
+    labels = {f"{path[-1]}.{call.name}" for item, path in library.items.items() for _, calls in library.calls[item] for call in calls}
+    labels |= {path[-1] for path in library.items.values()}
+    for label in sorted(library.examples):
+        yield label in labels, f"the guide has an example of {label}, which isn't public"
     for item, path in library.items.items():
         text = made[f"rattle/{file_name(path[:-1])}"]
         label = "::".join(path)
