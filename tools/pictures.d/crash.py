@@ -1,0 +1,55 @@
+"""What a crash leaves at each moment of an edit in place: by the changes that an edit makes, in their order, as Edit.antt of
+gixcfg_replacing lists them (that an edit which is done has made just these is proved)."""
+import re
+
+import svg
+
+LEFT, STEP, WIDTH = 20, 26, 900
+COLUMNS = (20, 330, 470, 640)
+WORDS = {
+    "Making draft": "the temporary file is made",
+    "Sharing file draft": "it gets the rights of the file",
+    "Writing draft text": "the new text is written to it",
+    "Syncing draft": "it is synced",
+    "Making lock": "the lock is made",
+    "Renaming draft file": "the temporary file is renamed over the file",
+    "Removing lock": "the lock is removed",
+    "SyncingNames": "the directory is synced",
+}
+
+
+def changes(definitions):
+    """The changes of an edit, the first one first."""
+    lists = {name: body for name, body in re.findall(r"^(editing|swapping|filling) [^:=]*= (.*)$", definitions, re.MULTILINE)}
+
+    def listed(name):
+        body = lists[name].replace("(swapping file draft lock ++ filling file draft text ++ Making draft ∷ [])", "swapping ∷ filling ∷ Making draft")
+        for part in body.replace(" ∷ []", "").split(" ∷ "):
+            yield from listed(part) if part in lists else [part]
+
+    return [*reversed([*listed("editing")])]
+
+
+def moments(made):
+    """Of each moment what happened, what readers find at FILE, what a crash leaves there, and what may be left beside it."""
+    yield "before the edit", "old", "old", ""
+    for at, change in enumerate(made):
+        done = made[:at + 1]
+        is_renamed, are_down = "Renaming draft file" in done, done[-1] == "SyncingNames"
+        found = "new" if is_renamed else "old"
+        beside = [] if is_renamed and are_down else ["the temporary file" + ("" if "Syncing draft" in done else ", with any text")]
+        beside += ["the lock"] if "Making lock" in done and not are_down else []
+        yield WORDS[change], found, found if are_down or not is_renamed else "old or new", ", ".join(beside)
+
+
+def picture(definitions):
+    rows = [*moments(changes(definitions))]
+    lines = [svg.words(x, 24, head, "small") for x, head in zip(COLUMNS, ("moment", "readers find", "a loss of power leaves", "and may leave beside it"))]
+    y = 32
+    for moment, found, left, beside in rows:
+        lines += [svg.words(COLUMNS[0], y + 17, moment)]
+        for x, text, width in ((COLUMNS[1], found, 50), (COLUMNS[2], left, 90)):
+            lines += [svg.box(x, y + 1, width, STEP - 5, "new" if text == "new" else "word" if "or" in text else "box"), svg.words(x + width / 2, y + 16, text, anchor="middle")]
+        lines.append(svg.words(COLUMNS[3], y + 17, beside, "small"))
+        y += STEP
+    return svg.picture("What a crash leaves at each moment of an edit in place", WIDTH, y + 10, lines)
