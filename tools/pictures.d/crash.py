@@ -20,12 +20,11 @@ WORDS = {
 
 def changes(definitions):
     """The changes of an edit, the first one first."""
-    lists = {name: body for name, body in re.findall(r"^(editing|swapping|filling) [^:=]*= (.*)$", definitions, re.MULTILINE)}
+    lists = dict(re.findall(r"^(editing|swapping|filling) [^:=]*= (.*)$", definitions, re.MULTILINE))
 
     def listed(name):
-        body = lists[name].replace("(swapping file draft lock ++ filling file draft text ++ Making draft ∷ [])", "swapping ∷ filling ∷ Making draft")
-        for part in body.replace(" ∷ []", "").split(" ∷ "):
-            yield from listed(part) if part in lists else [part]
+        for part in re.split(r" ∷ | \+\+ ", lists[name].replace("(", "").replace(")", "").replace(" ∷ []", "")):
+            yield from listed(part.split()[0]) if part.split()[0] in lists else [part]
 
     return [*reversed([*listed("editing")])]
 
@@ -44,12 +43,14 @@ def moments(made):
 
 def picture(definitions):
     rows = [*moments(changes(definitions))]
-    lines = [svg.words(x, 24, head, "small") for x, head in zip(COLUMNS, ("moment", "readers find", "a loss of power leaves", "and may leave beside it"))]
+    heads = ("moment", "readers find", "a loss of power leaves", "and may leave beside it")
+    lines = [svg.words(x, 24, head, "small") for x, head in zip(COLUMNS, heads)]
     y = 32
     for moment, found, left, beside in rows:
         lines += [svg.words(COLUMNS[0], y + 17, moment)]
         for x, text, width in ((COLUMNS[1], found, 50), (COLUMNS[2], left, 90)):
-            lines += [svg.box(x, y + 1, width, STEP - 5, "new" if text == "new" else "word" if "or" in text else "box"), svg.words(x + width / 2, y + 16, text, anchor="middle")]
+            lines.append(svg.box(x, y + 1, width, STEP - 5, {"old": "box", "new": "new"}.get(text, "word")))
+            lines.append(svg.words(x + width / 2, y + 16, text, anchor="middle"))
         lines.append(svg.words(COLUMNS[3], y + 17, beside, "small"))
         y += STEP
     return svg.picture("What a crash leaves at each moment of an edit in place", WIDTH, y + 10, lines)

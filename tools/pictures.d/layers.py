@@ -39,7 +39,8 @@ def picture(text):
         x, y = gap, height - STEP * (number + 1)
         for name, width in zip(names, wide):
             places[name] = x, y, width
-            boxes += [svg.box(x, y, width, HEIGHT, "public" if name in PUBLIC else "box"), svg.words(x + width / 2, y + 16, name, anchor="middle")]
+            boxes.append(svg.box(x, y, width, HEIGHT, "public" if name in PUBLIC else "box"))
+            boxes.append(svg.words(x + width / 2, y + 16, name, anchor="middle"))
             boxes += [svg.words(x + width + 5, y + 16, PUBLIC[name], "small")] if name in PUBLIC else []
             x += width + gap
     for name, others in crates.items():

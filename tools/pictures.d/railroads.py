@@ -132,7 +132,8 @@ def picture(text):
         y += 18
         lines.append(svg.words(10, y, name))
         y += made.up + 10
-        lines += [svg.path(f"M10 {y:g}h20M10 {y - 6:g}v12"), *made.draw(30, y), svg.path(f"M{30 + made.width:g} {y:g}h20M{50 + made.width:g} {y - 6:g}v12")]
+        end = 30 + made.width
+        lines += [svg.path(f"M10 {y:g}h20M10 {y - 6:g}v12"), *made.draw(30, y), svg.path(f"M{end:g} {y:g}h20M{end + 20:g} {y - 6:g}v12")]
         y += made.down + 14
         width = max(width, made.width + 70)
     return svg.picture("A text, a header, an entry and a value as railroad diagrams", width, y, lines)

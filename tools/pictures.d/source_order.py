@@ -31,7 +31,8 @@ def picture(source, page):
     for at, (about, name) in enumerate(sources):
         y = height - 10 - STEP * (at + 1)
         place = places[name]
-        lines += [svg.box(20, y, LEFT - 30, STEP - 8), svg.words(LEFT / 2 + 5, y + 17, name, anchor="middle"), svg.words(LEFT, y + 11, about.replace("`", "")),
+        lines += [svg.box(20, y, LEFT - 30, STEP - 8), svg.words(LEFT / 2 + 5, y + 17, name, anchor="middle"),
+                  svg.words(LEFT, y + 11, about.replace("`", "")),
                   svg.words(LEFT, y + 24, "no file" if place == "none" else place, "small")]
     x = WIDTH - 16
     lines += [svg.path(f"M{x} {height - 14}L{x} 52M{x - 6} 62L{x} 52L{x + 6} 62"), svg.words(x - 10, 48, "wins", "small", "end"),

@@ -6,7 +6,8 @@ STYLE = """body { font: 16px/1.5 sans-serif; max-width: 60rem; margin: 2rem auto
 pre, code { font-family: monospace; font-size: 14px } pre { overflow-x: auto; background: #f3f4f6; padding: .5rem .8rem }
 h2 { border-bottom: 1px solid #c4cbd3; margin-top: 2.5rem } h3 { margin: 2rem 0 .3rem } nav { columns: 16rem; font-size: 14px }
 details { margin: .3rem 0 } summary { cursor: pointer; color: #57606a } abbr { text-decoration: none; color: #0550ae } a { color: #0550ae }
-@media (prefers-color-scheme: dark) { body { color: #e6edf3; background: #0d1117 } pre { background: #161b22 } a, abbr { color: #79c0ff } }"""
+@media (prefers-color-scheme: dark) {
+body { color: #e6edf3; background: #0d1117 } pre { background: #161b22 } a, abbr { color: #79c0ff } }"""
 
 
 def page(title, body, back):

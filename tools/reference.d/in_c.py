@@ -22,8 +22,12 @@ def groups_of(names, path):
     found = {title: [] for title, _ in forms} | {OTHERS: []}
     for name in names:
         found[next((title for title, form in forms if re.fullmatch(form.strip(), name)), OTHERS)].append(name)
-    # (a pattern may come before the one whose calls stand above its own)
     return {title: held for title, held in found.items() if held}
+
+
+def told(name, about, code):
+    """What the page has of a call or a struct."""
+    return [f'<h3 id="{place(name)}"><code>{name}</code></h3>', comment(words(about)), f"<pre>{escape(code)}</pre>"]
 
 
 def page_of(header, groups):
@@ -37,10 +41,10 @@ def page_of(header, groups):
     for title, names in grouped.items():
         lines.append(f"<h2>{escape(title)}</h2>")
         for name in names:
-            lines += [f'<h3 id="{place(name)}"><code>{name}</code></h3>', f"<pre>{escape(calls[name]['call'])};</pre>", comment(words(calls[name]["about"]))]
+            lines += told(name, calls[name]["about"], calls[name]["call"] + ";")
     lines.append('<h2 id="structs">Structs</h2>')
     for found in STRUCT.finditer(text):
-        lines += [f'<h3 id="{place(found["name"])}"><code>{found["name"]}</code></h3>', comment(words(found["about"])), f"<pre>{escape(found['fields'])}</pre>"]
+        lines += told(found["name"], found["about"], found["fields"])
     lines.append('<h2 id="numbers">Numbers</h2>')
     for found in NUMBERS.finditer(text):
         lines += [comment(words(found["about"])), f"<pre>{escape(found['numbers'])}</pre>"]
@@ -50,7 +54,7 @@ def page_of(header, groups):
 def results(header, made):
     """Whether each call that the header declares is on the page, with a comment."""
     text = header.read_text(encoding="utf-8")
-    told = {found["name"] for found in CALL.finditer(text)}
+    has_comment = {found["name"] for found in CALL.finditer(text)}
     for name in sorted(set(DECLARED.findall(text))):
         yield f'id="{place(name)}"' in made, f"{name} isn't on the page for C"
-        yield name in told, f"{name} has no comment in the header"
+        yield name in has_comment, f"{name} has no comment in the header"

@@ -11,8 +11,11 @@ from sources import Crates
 LIBRARY = "gix_config"
 # The functions of the guide's program, which the gate compiles and runs; and what names a call in them, with the label that it has here.
 FUNCTION = re.compile(r"^fn \w+.*? \{\n(.*?)^\}\n", re.MULTILINE | re.DOTALL)
-CALLED = {r"\bfile\.(\w+)\(": "File.{}", r"\bFile::(\w+)\(": "File.{}", r"\borigin\.(\w+)\(": "SectionMut.{}", r"\bsection\.(\w+)\(": "SectionRef.{}",
-          r"\bpath\.(interpolate)\(": "Path.{}", r"(?<!\.)\b(normalize)\(": "{}", r"\bMemFiles::(\w+)\(": "MemFiles.{}", r"\bfiles\.(insert)\(": "MemFiles.{}"}
+CALLED = {
+    r"\bfile\.(\w+)\(": "File.{}", r"\bFile::(\w+)\(": "File.{}", r"\borigin\.(\w+)\(": "SectionMut.{}",
+    r"\bsection\.(\w+)\(": "SectionRef.{}", r"\bpath\.(interpolate)\(": "Path.{}", r"(?<!\.)\b(normalize)\(": "{}",
+    r"\bMemFiles::(\w+)\(": "MemFiles.{}", r"\bfiles\.(insert)\(": "MemFiles.{}",
+}
 
 
 class Library:
@@ -89,7 +92,12 @@ def contract(source, call):
     clauses = escape(call.clauses(), quote=False)
     if not clauses:
         return "<p><small>No contract: it is proved to be safe and to end.</small></p>"
-    told = re.sub(r"\w+", lambda word: f'<abbr title="{source.definitions[word[0]]}">{word[0]}</abbr>' if word[0] in source.definitions else word[0], clauses)
+
+    def with_file(word):
+        file = source.definitions.get(word[0])
+        return f'<abbr title="{file}">{word[0]}</abbr>' if file else word[0]
+
+    told = re.sub(r"\w+", with_file, clauses)
     return f"<details><summary>Contract</summary>\n<pre>{told}</pre>\n</details>"
 
 
@@ -111,7 +119,7 @@ def item_lines(library, name, item, here):
         return
     yield f'<h2 id="{place(name)}">{item.kind} <code>{escape(name)}</code></h2>'
     yield comment(piece.docs, lambda word: library.link_of(word, here))
-    yield f"<pre>{escape(piece.head() if item.kind == 'trait' else piece.shown())}</pre>"
+    yield f"<pre>{escape(piece.shown())}</pre>"
     traits = sorted(set(library.traits_of(item)))
     if traits:
         yield f"<p><small>Traits: {', '.join(f'<code>{escape(it)}</code>' for it in traits)}</small></p>"
@@ -138,7 +146,8 @@ def pages(crates_folder):
         title = "::".join([LIBRARY, *module])
         lines = [comment(about_of(library, module))]
         if not module:
-            lines += ["<p>Modules: " + ", ".join(f'<a href="{file_name(it)}"><code>{"::".join(it)}</code></a>' for it in sorted(library.modules) if it) + "</p>"]
+            others = (f'<a href="{file_name(it)}"><code>{"::".join(it)}</code></a>' for it in sorted(library.modules) if it)
+            lines.append(f"<p>Modules: {', '.join(others)}</p>")
         lines += ["<nav>", *contents(library, module), "</nav>"]
         for name, item in items:
             lines += item_lines(library, name, item, here)

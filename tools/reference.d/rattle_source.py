@@ -36,7 +36,10 @@ class Piece:
         return "\n".join(line[wide:] for line in text).rstrip(";")
 
     def shown(self):
-        """A type as its users see it: its public fields, or its variants, with their comments."""
+        """A type as its users see it: its public fields, its variants, or what contracts ask a trait for, with their comments."""
+        if self.kind == "trait":
+            asked = [line for line in self.lines[1:] if re.match(r"    ghost (?!use)", line)]
+            return "\n".join([self.lines[0], *asked, "    // and the calls below", "}"])
         if len(self.lines) == 1 or self.kind == "enum":
             return "\n".join(self.lines)
         kept, above, hides = [self.lines[0]], [], False
@@ -55,15 +58,14 @@ def end_of(lines, at):
     """The line with which an item that begins in line `at` ends: the first one behind it that is a brace at its indent, or its only one."""
     indent = len(lines[at]) - len(lines[at].lstrip())
     for n in range(at, len(lines)):
-        line = lines[n]
-        if n > at and line.startswith(" " * indent + "}") or line.endswith(";") and len(line) - len(line.lstrip()) <= indent + 8 and not opened(lines[at:n + 1]):
-            return n
-        if n == at and line.endswith("}") and not opened([line]):
+        closes_here = lines[n].endswith((";", "}") if n == at else ";") and not opened(lines[at:n + 1])
+        if closes_here or n > at and lines[n].startswith(" " * indent + "}"):
             return n
     return len(lines) - 1
 
 
 def opened(lines):
+    """How many braces of some lines stay open."""
     text = re.sub(r"//.*|'[{}]'|\"(?:[^\"\\]|\\.)*\"", "", "\n".join(lines))
     return text.count("{") - text.count("}")
 
@@ -78,7 +80,7 @@ def pieces(lines, indent=0):
         if stripped.startswith("///"):
             docs.append(stripped[4:])
         elif stripped.startswith("#["):
-            while opened_brackets("\n".join(lines[at:at + 1])) > 0 and at + 1 < len(lines) and not lines[at].rstrip().endswith("]"):
+            while not lines[at].rstrip().endswith("]"):
                 at += 1
         elif found and len(found["indent"]) == indent:
             end = end_of(lines, at)
@@ -87,10 +89,6 @@ def pieces(lines, indent=0):
         else:
             docs = []
         at += 1
-
-
-def opened_brackets(text):
-    return text.count("[") - text.count("]")
 
 
 class Source:
