@@ -53,4 +53,5 @@ def picture(definitions):
             lines.append(svg.words(x + width / 2, y + 16, text, anchor="middle"))
         lines.append(svg.words(COLUMNS[3], y + 17, beside, "small"))
         y += STEP
-    return svg.picture("What a crash leaves at each moment of an edit in place", WIDTH, y + 10, lines)
+    lines.append(svg.words(LEFT, y + 18, "With its syncs, and where the old text itself was on the disk when the edit began.", "small"))
+    return svg.picture("What a crash leaves at each moment of an edit in place", WIDTH, y + 28, lines)
