@@ -1,7 +1,7 @@
 """What stands in a file of Rattle: types, functions and blocks with their comments, signatures and clauses."""
 import re
 
-HEAD = re.compile(r"^(?P<indent> *)(?P<pub>pub )?(?:const )?(?P<kind>fn|struct|enum|trait|impl)\b(?:\s+(?P<name>\w+))?")
+HEAD = re.compile(r"^(?P<indent> *)(?P<pub>pub(?:\([^)]*\))? )?(?:const )?(?P<kind>fn|struct|enum|trait|impl)\b(?:\s+(?P<name>\w+))?")
 CLAUSE = re.compile(r"^\s*(?:requires|ensures)\b")
 USED = re.compile(r"ghost use Rattle\.(\w+)\.specs\.([\w.]+?)\.\{([^}]*)\}")
 
@@ -10,7 +10,7 @@ class Piece:
     """A type, a function or a block: its comment, what stands above its clauses, its clauses, and its lines."""
 
     def __init__(self, found, docs, lines):
-        self.is_public, self.kind, self.name, self.indent = bool(found["pub"]), found["kind"], found["name"], len(found["indent"])
+        self.is_public, self.kind, self.name, self.indent = found["pub"] == "pub ", found["kind"], found["name"], len(found["indent"])
         self.docs, self.lines = "\n".join(docs), lines
 
     def head(self):
