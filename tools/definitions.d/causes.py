@@ -13,7 +13,7 @@ CALLS = {
     "PushAfterLast": "`SectionMut::push_after_last`",
     "PushLineEnd": "`SectionMut::push_newline`",
     "SetValue": "`SectionMut::set`",
-    "WriteAt": "`ValueMut::set`, `MultiValueMut::set_at`; `set_existing_raw_value` and several values after those of the lookup",
+    "WriteAt": "`ValueMut::set`, `MultiValueMut::set_at`; `set_existing_raw_value`, also of several values, after the errors of its lookup",
     "Rename": "`SectionMut::rename`",
     "RenameAll": "`rename_section`, `rename_section_filter`",
     "NewSection": "`new_section`; `section_mut_or_create_new` where it makes one",
