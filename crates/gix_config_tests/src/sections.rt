@@ -39,7 +39,7 @@ fn passing(file: &File) -> Told {
     ])
 }
 
-/// Whether each section comes with its own number, which leads to it in turn, and the names are `a` and `A`.
+/// Whether each section comes with its own number, and the names are `a` and `A`.
 fn are_numbered(file: &File) -> bool {
     let mut sections = file.sections_and_ids();
     let (Some((first, first_id)), Some((second, second_id))) = (sections.next(), sections.next())
@@ -49,6 +49,8 @@ fn are_numbered(file: &File) -> bool {
     first.id() == first_id
         && second.id() == second_id
         && first_id != second_id
+        && first_id.number() != second_id.number()
+        && first.id().number() == first_id.number()
         && first.header().name() == b"a".as_slice()
         && second.header().name() == b"A".as_slice()
         && sections.next().is_none()
