@@ -10,12 +10,12 @@ use crate::checks::check;
 use crate::differing::diff;
 use crate::edits::{Edit, carry_out};
 use crate::layouts::fmt;
-use crate::{Asked, Loads, answer, located, located_target};
+use crate::{Asked, Loads, located, located_target, put_answer};
 use gitconf_sources::Process;
 use gitconf_text::NoMemory;
 use gixcfg_core::outside::{Inputs, Outside};
 use gixcfg_core::places::home_of;
-use gixcfg_core::showing::{Told, show};
+use gixcfg_core::showing::{Told, end};
 use gixcfg_core::streams::put;
 use gixcfg_core::trouble::{Trouble, report};
 use gixcfg_files::EditFiles;
@@ -223,14 +223,13 @@ fn do_reading<R: Files + Env + Loads + AllocGlobal + Copy, I: Read + Drop, W: Wr
     let rules = inputs.rules;
     match located(inputs.rt, asked.source()) {
         Ok(read) => {
-            let lines = answer(inputs, asked, &read);
-            show(
-                lines,
+            let done = put_answer(inputs, asked, &read, out);
+            end(
+                done,
                 &Told {
                     name: read.name(),
                     rules,
                 },
-                out,
                 err,
             )
         }
