@@ -33,7 +33,7 @@ use Rattle.gixcfg_core.specs.declared.trouble.Trouble.{Trouble}
 use Rattle.gixcfg_core.specs.declared.trouble.Trouble.TheVariants.{Input, Memory, Missing}
 use Rattle.gitconf_layout.specs.Layout.{default_options}
 use Rattle.gixcfg_commands.specs.Layouts.{indent_asked, layout_asked, newline_asked}
-use Rattle.gixcfg_commands.specs.Plainly.{EndsPlainly, Gives, GivesOfInput, IsOutcome, IsValues, Outcome, Prints, PutsOfInput, Misses, Refuses, ResultsIn, Shows, is_of_input, plain_asked, source_of}
+use Rattle.gixcfg_commands.specs.Plainly.{Ends, EndsPlainly, Gives, GivesOfInput, IsOutcome, IsValues, Outcome, Prints, PutsOfInput, Misses, Refuses, Tells, ResultsIn, Shows, is_of_input, plain_asked, source_of}
 use Rattle.gixcfg_commands.specs.declared.reads.Asked.{Asked}
 use Rattle.gixcfg_commands.specs.declared.reads.Asked.TheVariants as asks
 
@@ -47,7 +47,7 @@ same : {A : Type 0} (trouble other : Trouble) → ◌≡◌ {A = Result A Troubl
 same trouble other is = cc
 
 -- a text that agrees with what is known
-known_text : (input : Option (List ℕ)) → (text : List ℕ) × IfSome input (λ all. text ≡ all)
+pub known_text : (input : Option (List ℕ)) → (text : List ℕ) × IfSome input (λ all. text ≡ all)
 known_text None = ([], tt {0})
 known_text (Some all) = (all, refl)
 
@@ -72,23 +72,28 @@ shows : {A : Type 0} (plainly : A → List ℕ) (trouble : Trouble) (outcome : O
 shows plainly trouble (Prints text) old new status is told keeps = absurd is
 shows plainly trouble Misses old new status is told keeps = (told ∙ ap status_of is, keeps)
 shows plainly trouble (Refuses number) old new status is told keeps = (told ∙ is, keeps)
+shows plainly trouble (Tells other) old new status is told keeps = (told ∙ ap status_of is, keeps)
 
 -- an answer of a text that was shown
-shown_of : {A : Type 0} (plainly : A → List ℕ) (plain : Plain) (input old new : Option (List ℕ)) (answer : Result A Trouble) (status : ℕ) (text : List ℕ)
-    → IfSome input (λ all. text ≡ all) → Gives plainly (IsOutcome plain text) answer → IsShown plainly answer old new status → EndsPlainly plain input old new status
-shown_of plainly plain input old new (Ok made) status text known (inl is) shown = absurd (cc)
-shown_of plainly plain input old new (Ok made) status text known (inr gives) shown =
-    inr (inr (text, known, Prints (plainly made), subst (IsOutcome plain text) gives.2 gives.1, shown))
-shown_of plainly plain input old new (Err trouble) status text known (inl is) shown = inr (inl (shown.0 ∙ ap status_of (same trouble Memory is), shown.1))
-shown_of plainly plain input old new (Err trouble) status text known (inr gives) shown =
+shown_of : {A : Type 0} (plainly : A → List ℕ) (is : (text : List ℕ) → Outcome → Type 0) (input old new : Option (List ℕ)) (answer : Result A Trouble) (status : ℕ) (text : List ℕ)
+    → IfSome input (λ all. text ≡ all) → Gives plainly (is text) answer → IsShown plainly answer old new status → Ends is input old new status
+shown_of plainly is input old new (Ok made) status text known (inl memory) shown = absurd (cc)
+shown_of plainly is input old new (Ok made) status text known (inr gives) shown =
+    inr (inr (text, known, Prints (plainly made), subst (is text) gives.2 gives.1, shown))
+shown_of plainly is input old new (Err trouble) status text known (inl memory) shown = inr (inl (shown.0 ∙ ap status_of (same trouble Memory memory), shown.1))
+shown_of plainly is input old new (Err trouble) status text known (inr gives) shown =
     inr (inr (text, known, gives.0, gives.1, shows plainly trouble gives.0 old new status gives.2 shown.0 shown.1))
 
 -- an answer that was shown
+pub shown_as : {A : Type 0} (plainly : A → List ℕ) (is : (text : List ℕ) → Outcome → Type 0) (input old new : Option (List ℕ)) (answer : Result A Trouble) (status : ℕ)
+    → GivesOfInput plainly is input answer → IsShown plainly answer old new status → Ends is input old new status
+shown_as plainly is input old new answer status (inr gives) shown = shown_of plainly is input old new answer status gives.0 gives.1 gives.2 shown
+shown_as plainly is input old new (Ok made) status (inl failed) shown = absurd (cc)
+shown_as plainly is input old new (Err trouble) status (inl failed) shown = inl (shown.0 ∙ ap status_of (same trouble Input failed), shown.1)
+
 pub shown_so : {A : Type 0} (plainly : A → List ℕ) (plain : Plain) (input old new : Option (List ℕ)) (answer : Result A Trouble) (status : ℕ)
     → GivesOfInput plainly (IsOutcome plain) input answer → IsShown plainly answer old new status → EndsPlainly plain input old new status
-shown_so plainly plain input old new answer status (inr gives) shown = shown_of plainly plain input old new answer status gives.0 gives.1 gives.2 shown
-shown_so plainly plain input old new (Ok made) status (inl is) shown = absurd (cc)
-shown_so plainly plain input old new (Err trouble) status (inl is) shown = inl (shown.0 ∙ ap status_of (same trouble Input is), shown.1)
+shown_so plainly plain = shown_as plainly (IsOutcome plain)
 
 -- an answer that was given to a stream
 pub put_so : {A : Type 0} (plainly : A → List ℕ) (is : (text : List ℕ) → Outcome → Type 0) (input old new : Option (List ℕ)) (answer : Result A Trouble) (result : Result (Unit {0}) Trouble)
@@ -110,6 +115,7 @@ put_so plainly is input old new (Err trouble) result (inr gives) put = (Err trou
         results (Prints text) told = absurd told
         results Misses told = told
         results (Refuses number) told = told
+        results (Tells other) told = told
 
 -- how a call ends whose answer was given to standard output
 pub ends_so : (plain : Plain) (input old new : Option (List ℕ)) (result : Result (Unit {0}) Trouble) (status : ℕ) → PutsOfInput (IsOutcome plain) input result old new → status ≡ end_status result

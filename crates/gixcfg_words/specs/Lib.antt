@@ -1,5 +1,6 @@
 pub mod Asking
 pub mod Given
+pub mod Help
 pub mod Keys
 pub mod Kinds
 pub mod Options

@@ -17,7 +17,7 @@ returns-in-List g c = λ plain is on by at.
 
 pub returns-in-Input : goal.returns-in-Input
 returns-in-Input g c = λ plain is on by at.
-    subst (λ p. PutsOfInput (IsOutcome p) (g.I.Read.remaining c.args.inputs.now.input) c.put_made.result (g.W.Write.contents c.args.out.now) (g.W.Write.contents c.put_made.new.out))
+    subst (λ p. PutsOfInput (IsOutcome p) (g.I.Read.remaining c.args.inputs.now.input) c.put_made-in-Input.result (g.W.Write.contents c.args.out.now) (g.W.Write.contents c.put_made-in-Input.new.out))
     (same_call Print plain (subst (λ a. plain_asked a ≡ Some plain) c.in-Input.is is))
-    (put_so (λ lines. lines.items) (IsOutcome Print) (g.I.Read.remaining c.args.inputs.now.input) (g.W.Write.contents c.args.out.now) (g.W.Write.contents c.put_made.new.out)
-    c.printed.result c.put_made.result c.printed.ensures c.put_made.ensures)
+    (put_so (λ lines. lines.items) (IsOutcome Print) (g.I.Read.remaining c.args.inputs.now.input) (g.W.Write.contents c.args.out.now) (g.W.Write.contents c.put_made-in-Input.new.out)
+    c.printed.result c.put_made-in-Input.result c.printed.ensures c.put_made-in-Input.ensures)
