@@ -106,12 +106,12 @@ class Words:
         self.forms = Command("forms", _help("Forms"), [])
         self.options = {it.word: [word for option in it.options for word in option.words()] for it in self.commands}
         # what a call may begin with, beside the options that say what is done
-        self.dashed = re.findall(r'"(-[^"]*)"', _body(words, "read_first<'a>"))
+        self.dashed = re.findall(r'"(-[^"]*)"', _body(words, "read_call<'a>") + _body(words, "is_help"))
         self.first = [*self.options, *self.plain, *self.dashed]
         # the values of options that have a list of them
         self.values = {
             "type": re.findall(r'"([^"]+)" => Some\(Kind::', text_of("kinds")),
-            "newline": re.findall(r'"(\w+)" => Some', _body(text_of("given"), "newline_named")),
+            "newline": re.findall(r'"(\w+)" => Some', _body(text_of("spelled"), "newline_named")),
             "indent": INDENTS,
         }
         # options that exclude each other, each with the others

@@ -26,13 +26,14 @@ use Rattle.gixcfg_words.specs.declared.command.Wanted.{Wanted}
 use Rattle.gixcfg_words.specs.declared.command.Wanted.TheVariants as wanted
 use Rattle.gixcfg_words.specs.declared.kinds.Kind.{Kind}
 use Rattle.gixcfg_words.specs.declared.kinds.Kind.TheVariants as kinds
-use Rattle.gixcfg_core.specs.Shown.{IsShown}
+use Rattle.gixcfg_core.proofs.Ending.{shown_by}
+use Rattle.gixcfg_core.specs.Shown.{IsPut, IsShown, end_status}
 use Rattle.gixcfg_core.specs.Troubles.{status_of}
 use Rattle.gixcfg_core.specs.declared.trouble.Trouble.{Trouble}
 use Rattle.gixcfg_core.specs.declared.trouble.Trouble.TheVariants.{Input, Memory, Missing}
 use Rattle.gitconf_layout.specs.Layout.{default_options}
 use Rattle.gixcfg_commands.specs.Layouts.{indent_asked, layout_asked, newline_asked}
-use Rattle.gixcfg_commands.specs.Plainly.{EndsPlainly, Gives, GivesOfInput, IsOutcome, IsValues, Outcome, Prints, Misses, Refuses, ResultsIn, Shows, is_of_input, plain_asked, source_of}
+use Rattle.gixcfg_commands.specs.Plainly.{Ends, EndsPlainly, Gives, GivesOfInput, IsOutcome, IsValues, Outcome, Prints, PutsOfInput, Misses, Refuses, Tells, ResultsIn, Shows, is_of_input, plain_asked, source_of}
 use Rattle.gixcfg_commands.specs.declared.reads.Asked.{Asked}
 use Rattle.gixcfg_commands.specs.declared.reads.Asked.TheVariants as asks
 
@@ -46,7 +47,7 @@ same : {A : Type 0} (trouble other : Trouble) → ◌≡◌ {A = Result A Troubl
 same trouble other is = cc
 
 -- a text that agrees with what is known
-known_text : (input : Option (List ℕ)) → (text : List ℕ) × IfSome input (λ all. text ≡ all)
+pub known_text : (input : Option (List ℕ)) → (text : List ℕ) × IfSome input (λ all. text ≡ all)
 known_text None = ([], tt {0})
 known_text (Some all) = (all, refl)
 
@@ -71,24 +72,56 @@ shows : {A : Type 0} (plainly : A → List ℕ) (trouble : Trouble) (outcome : O
 shows plainly trouble (Prints text) old new status is told keeps = absurd is
 shows plainly trouble Misses old new status is told keeps = (told ∙ ap status_of is, keeps)
 shows plainly trouble (Refuses number) old new status is told keeps = (told ∙ is, keeps)
+shows plainly trouble (Tells other) old new status is told keeps = (told ∙ ap status_of is, keeps)
 
 -- an answer of a text that was shown
-shown_of : {A : Type 0} (plainly : A → List ℕ) (plain : Plain) (input old new : Option (List ℕ)) (answer : Result A Trouble) (status : ℕ) (text : List ℕ)
-    → IfSome input (λ all. text ≡ all) → Gives plainly (IsOutcome plain text) answer → IsShown plainly answer old new status → EndsPlainly plain input old new status
-shown_of plainly plain input old new (Ok made) status text known (inl is) shown = absurd (cc)
-shown_of plainly plain input old new (Ok made) status text known (inr gives) (inl failed) = inl failed
-shown_of plainly plain input old new (Ok made) status text known (inr gives) (inr shown) =
-    inr (inr (text, known, Prints (plainly made), subst (IsOutcome plain text) gives.2 gives.1, shown))
-shown_of plainly plain input old new (Err trouble) status text known (inl is) shown = inr (inl (shown.0 ∙ ap status_of (same trouble Memory is), shown.1))
-shown_of plainly plain input old new (Err trouble) status text known (inr gives) shown =
+shown_of : {A : Type 0} (plainly : A → List ℕ) (is : (text : List ℕ) → Outcome → Type 0) (input old new : Option (List ℕ)) (answer : Result A Trouble) (status : ℕ) (text : List ℕ)
+    → IfSome input (λ all. text ≡ all) → Gives plainly (is text) answer → IsShown plainly answer old new status → Ends is input old new status
+shown_of plainly is input old new (Ok made) status text known (inl memory) shown = absurd (cc)
+shown_of plainly is input old new (Ok made) status text known (inr gives) shown =
+    inr (inr (text, known, Prints (plainly made), subst (is text) gives.2 gives.1, shown))
+shown_of plainly is input old new (Err trouble) status text known (inl memory) shown = inr (inl (shown.0 ∙ ap status_of (same trouble Memory memory), shown.1))
+shown_of plainly is input old new (Err trouble) status text known (inr gives) shown =
     inr (inr (text, known, gives.0, gives.1, shows plainly trouble gives.0 old new status gives.2 shown.0 shown.1))
 
 -- an answer that was shown
+pub shown_as : {A : Type 0} (plainly : A → List ℕ) (is : (text : List ℕ) → Outcome → Type 0) (input old new : Option (List ℕ)) (answer : Result A Trouble) (status : ℕ)
+    → GivesOfInput plainly is input answer → IsShown plainly answer old new status → Ends is input old new status
+shown_as plainly is input old new answer status (inr gives) shown = shown_of plainly is input old new answer status gives.0 gives.1 gives.2 shown
+shown_as plainly is input old new (Ok made) status (inl failed) shown = absurd (cc)
+shown_as plainly is input old new (Err trouble) status (inl failed) shown = inl (shown.0 ∙ ap status_of (same trouble Input failed), shown.1)
+
 pub shown_so : {A : Type 0} (plainly : A → List ℕ) (plain : Plain) (input old new : Option (List ℕ)) (answer : Result A Trouble) (status : ℕ)
     → GivesOfInput plainly (IsOutcome plain) input answer → IsShown plainly answer old new status → EndsPlainly plain input old new status
-shown_so plainly plain input old new answer status (inr gives) shown = shown_of plainly plain input old new answer status gives.0 gives.1 gives.2 shown
-shown_so plainly plain input old new (Ok made) status (inl is) shown = absurd (cc)
-shown_so plainly plain input old new (Err trouble) status (inl is) shown = inl (shown.0 ∙ ap status_of (same trouble Input is))
+shown_so plainly plain = shown_as plainly (IsOutcome plain)
+
+-- an answer that was given to a stream
+pub put_so : {A : Type 0} (plainly : A → List ℕ) (is : (text : List ℕ) → Outcome → Type 0) (input old new : Option (List ℕ)) (answer : Result A Trouble) (result : Result (Unit {0}) Trouble)
+    → GivesOfInput plainly is input answer → IsPut plainly answer result old new → PutsOfInput is input result old new
+put_so plainly is input old new (Ok made) result (inl none) put = absurd (cc)
+put_so plainly is input old new (Ok made) result (inr gives) put = (Ok (plainly made), inr (gives.0, gives.1, plain_text gives.2), put)
+  where
+    plain_text : Gives plainly (is gives.0) (Ok made) → Gives (λ text. text) (is gives.0) (Ok (plainly made))
+    plain_text (inl none) = absurd (cc)
+    plain_text (inr found) = inr found
+put_so plainly is input old new (Err trouble) result (inl none) put = (Err trouble, inl (ap Err (same trouble Input none)), put)
+put_so plainly is input old new (Err trouble) result (inr gives) put = (Err trouble, inr (gives.0, gives.1, no_text gives.2), put)
+  where
+    no_text : Gives plainly (is gives.0) (Err trouble) → Gives (λ text. text) (is gives.0) (Err trouble)
+    no_text (inl memory) = inl (ap Err (same trouble Memory memory))
+    no_text (inr found) = inr (found.0, found.1, results found.0 found.2)
+      where
+        results : (outcome : Outcome) → ResultsIn plainly (Err trouble) outcome → ResultsIn {A = List ℕ} (λ text. text) (Err trouble) outcome
+        results (Prints text) told = absurd told
+        results Misses told = told
+        results (Refuses number) told = told
+        results (Tells other) told = told
+
+-- how a call ends whose answer was given to standard output
+pub ends_so : (plain : Plain) (input old new : Option (List ℕ)) (result : Result (Unit {0}) Trouble) (status : ℕ) → PutsOfInput (IsOutcome plain) input result old new → status ≡ end_status result
+    → EndsPlainly plain input old new status
+ends_so plain input old new result status puts told =
+    shown_so (λ text. text) plain input old new puts.0 status puts.1 (shown_by (λ text. text) puts.0 result old new status puts.2 told)
 
 -- what is found is there
 if_some : {A : Type 0} (test : Bool) (found : Option A) (x : A) → (if test then found else None) ≡ Some x → found ≡ Some x

@@ -27,6 +27,8 @@ use Rattle.gitconf_layout.specs.Layout.{IsLayout}
 use Rattle.gixcfg_core.specs.Answers.{Answers, IsRefusedText}
 use Rattle.gixcfg_core.specs.declared.trouble.Trouble.{Trouble}
 use Rattle.gixcfg_core.specs.declared.trouble.Trouble.TheVariants.{BadName, Memory, NoEntry, NoSection, Refused, Several}
+use Rattle.gixcfg_words.specs.declared.command.Command.{Command}
+use Rattle.gixcfg_words.specs.declared.command.Command.TheVariants as commands
 use Rattle.gixcfg_words.specs.declared.command.Unset.{Unset as TheUnset}
 use Rattle.gixcfg_commands.specs.Answered.{edited_text, marked_answer}
 use Rattle.gixcfg_commands.specs.Layouts.{layout_asked}
@@ -104,14 +106,26 @@ IsOfText text is_colored holds result =
     ((parts : List Part) × (file : State) × IsText text parts × IsMade (tokens_of parts) api_meta (length text) file × holds file)
     ⊎ ((trouble : Trouble) × (result ≡ Err trouble) × IsRefusedText text is_colored trouble)
 
--- what an edit makes of a text: by that of a layout for `fmt`, by the definitions above and that of `set` for the others
+-- what a command that edits makes of a text: by that of a layout for `fmt`, by the definitions above and that of `set` for the others
+abbrev pub EditsBy : Command → (text : List ℕ) (is_colored : Bool) → Result BString Trouble → Type 0
+EditsBy (commands.RemoveSection removal) text is_colored result = IsOfText text is_colored (λ file. Answers bstring_bytes result
+    (marked_answer text (removal_of removal.names.name.now (option_copied removal.names.subsection_name) file))) result
+EditsBy (commands.RenameSection renaming) text is_colored result = IsOfText text is_colored (λ file. Answers bstring_bytes result
+    (marked_answer text (renaming_of renaming.old.name.now (option_copied renaming.old.subsection_name) renaming.new.name.now
+    (option_copied renaming.new.subsection_name) file))) result
+EditsBy (commands.Fmt fmt) text is_colored result =
+    IfOk result (λ laid_out. IsLayout (layout_asked fmt) text (bstring_bytes laid_out)) × IfErr result (IsRefusedText text is_colored)
+EditsBy (commands.Unset unset) text is_colored result = IsOfText text is_colored (λ file. UnsetsTo unset text file result) result
+EditsBy (commands.Set set) text is_colored result = IsOfText text is_colored (λ file. SetsTo set text file result) result
+EditsBy command text is_colored result = ⊥
+
+-- the command that an edit is
+abbrev pub command_of : Edit → Command
+command_of (Set set) = commands.Set set.now
+command_of (Unset unset) = commands.Unset unset.now
+command_of (RenameSection renaming) = commands.RenameSection renaming.now
+command_of (RemoveSection removal) = commands.RemoveSection removal.now
+command_of (Fmt fmt) = commands.Fmt fmt.now
+
 abbrev pub EditsTo : Edit → (text : List ℕ) (is_colored : Bool) → Result BString Trouble → Type 0
-EditsTo (RemoveSection removal) text is_colored result = IsOfText text is_colored (λ file. Answers bstring_bytes result
-    (marked_answer text (removal_of removal.now.names.name.now (option_copied removal.now.names.subsection_name) file))) result
-EditsTo (RenameSection renaming) text is_colored result = IsOfText text is_colored (λ file. Answers bstring_bytes result
-    (marked_answer text (renaming_of renaming.now.old.name.now (option_copied renaming.now.old.subsection_name) renaming.now.new.name.now
-    (option_copied renaming.now.new.subsection_name) file))) result
-EditsTo (Fmt fmt) text is_colored result =
-    IfOk result (λ laid_out. IsLayout (layout_asked fmt.now) text (bstring_bytes laid_out)) × IfErr result (IsRefusedText text is_colored)
-EditsTo (Unset unset) text is_colored result = IsOfText text is_colored (λ file. UnsetsTo unset.now text file result) result
-EditsTo (Set set) text is_colored result = IsOfText text is_colored (λ file. SetsTo set.now text file result) result
+EditsTo edit = EditsBy (command_of edit)

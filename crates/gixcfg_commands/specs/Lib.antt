@@ -1,5 +1,6 @@
 pub mod Answered
 pub mod Beginnings
+pub mod ByWords
 pub mod Checks
 pub mod Comments
 pub mod Differing

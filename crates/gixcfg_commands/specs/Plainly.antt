@@ -41,6 +41,8 @@ use Rattle.gixcfg_words.specs.declared.kinds.Kind.{Kind}
 use Rattle.gixcfg_words.specs.declared.kinds.Kind.TheVariants as kinds
 use Rattle.gixcfg_words.specs.Plain.{All, Bool as OfBool, Entries, Fmt, Get, Int, Load, Plain, Print, Set, Unset, plain_of_fmt, plain_of_get, plain_of_list, plain_of_set, plain_of_unset}
 use Rattle.gixcfg_core.specs.Entries.{key_text}
+use Rattle.gixcfg_core.specs.Pieces.{HasBeginning}
+use Rattle.gixcfg_core.specs.Shown.{IsPut}
 use Rattle.gixcfg_core.specs.Troubles.{refusal_status, status_of}
 use Rattle.gixcfg_core.specs.declared.trouble.Trouble.{Trouble}
 use Rattle.gixcfg_core.specs.declared.trouble.Trouble.TheVariants.{Input, Memory, Missing}
@@ -49,11 +51,12 @@ use Rattle.gixcfg_commands.specs.declared.edits.Edit.TheVariants as edits
 use Rattle.gixcfg_commands.specs.declared.reads.Asked.{Asked}
 use Rattle.gixcfg_commands.specs.declared.reads.Asked.TheVariants as asks
 
--- a call prints this; or what it asks for isn't there; or it is refused, by a number of the library's
+-- a call prints this; or what it asks for isn't there; or it is refused, by a number of the library's; or with options this is told
 pub data Outcome : Type 0 where
   Prints : (text : List ℕ) → Outcome
   Misses : Outcome
   Refuses : (number : ℕ) → Outcome
+  Tells : Trouble → Outcome
 
 -- a value on a line
 abbrev pub line : List ℕ → List ℕ
@@ -176,6 +179,7 @@ ResultsIn plainly (Ok made) outcome = outcome ≡ Prints (plainly made)
 ResultsIn plainly (Err trouble) (Prints text) = ⊥
 ResultsIn plainly (Err trouble) Misses = trouble ≡ Missing
 ResultsIn plainly (Err trouble) (Refuses number) = status_of trouble ≡ refusal_status number
+ResultsIn plainly (Err trouble) (Tells told) = trouble ≡ told
 
 -- the result is that of such an outcome; else memory ran out
 abbrev pub Gives : {A : Type 0} → (plainly : A → List ℕ) → (is : Outcome → Type 0) → Result A Trouble → Type 0
@@ -194,17 +198,26 @@ IsLoad lossy text (Err trouble) = (trouble ≡ Memory) ⊎ ((refusal : Refusal) 
 abbrev pub IsOfClean : {Z : Type 0} → Vec ℕ Z → Type 0
 IsOfClean text = (file : State) × IsClean file × (text.items ≡ printed file)
 
--- What standard output then has more, and the status.
+-- The result is that of an answer that was given to a stream, or of none: the answer is that of a text, of all that standard input is known to
+-- have.
+abbrev pub PutsOfInput : (is : (text : List ℕ) → Outcome → Type 0) → (input : Option (List ℕ)) → (result : Result (Unit {0}) Trouble) → (old new : Option (List ℕ)) → Type 0
+PutsOfInput is input result old new = (answer : Result (List ℕ) Trouble) × GivesOfInput (λ text. text) is input answer × IsPut (λ text. text) answer result old new
+
+-- What standard output then has more, and the status. A stream that fails has a beginning.
 abbrev pub Shows : Outcome → (old new : Option (List ℕ)) → (status : ℕ) → Type 0
-Shows (Prints text) old new status = (status ≡ 0) × Appends old new text
+Shows (Prints text) old new status = ((status ≡ 4) × HasBeginning text old new) ⊎ ((status ≡ 0) × Appends old new text)
 Shows Misses old new status = (status ≡ 1) × Keeps old new
 Shows (Refuses number) old new status = (status ≡ refusal_status number) × Keeps old new
+Shows (Tells trouble) old new status = (status ≡ status_of trouble) × Keeps old new
 
--- How a call ends: as it does with the text that standard input has, as far as that is known; or with nothing printed, since memory ran out; or a
--- stream failed.
+-- How a call ends that has one of these outcomes of a text: as it does with the text that standard input has, as far as that is known; or with
+-- nothing printed, since standard input can't be read or memory ran out.
+abbrev pub Ends : (is : (text : List ℕ) → Outcome → Type 0) → (input : Option (List ℕ)) → (old new : Option (List ℕ)) → (status : ℕ) → Type 0
+Ends is input old new status = ((status ≡ 4) × Keeps old new) ⊎ (((status ≡ 5) × Keeps old new)
+    ⊎ ((text : List ℕ) × IfSome input (λ all. text ≡ all) × (outcome : Outcome) × is text outcome × Shows outcome old new status))
+
 abbrev pub EndsPlainly : Plain → (input : Option (List ℕ)) → (old new : Option (List ℕ)) → (status : ℕ) → Type 0
-EndsPlainly asked input old new status = (status ≡ 4) ⊎ (((status ≡ 5) × Keeps old new)
-    ⊎ ((text : List ℕ) × IfSome input (λ all. text ≡ all) × (outcome : Outcome) × IsOutcome asked text outcome × Shows outcome old new status))
+EndsPlainly asked = Ends (IsOutcome asked)
 
 -- what a call reads
 abbrev pub source_of : Asked → Source

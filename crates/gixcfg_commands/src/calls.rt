@@ -1,21 +1,24 @@
 //! Calls, by their words.
-ghost use Rattle.std.specs.Prelude.{◌≡◌, map, true, IfOk, Some};
+ghost use Rattle.std.specs.Prelude.{◌≡◌, ◌⊎◌, map, true, IfOk, None, Some};
 ghost use Rattle.gixcfg_words.specs.Plain.{asked, plain_of, Plain};
 ghost use Rattle.gixcfg_words.specs.declared.command.Target.TheVariants as targets;
+ghost use Rattle.gixcfg_words.specs.declared.fault.Fault.TheVariants as faults;
 ghost use Rattle.gixcfg_words.specs.declared.rules.Rules.TheVariants as rules;
 ghost use Rattle.gixcfg_core.specs.Troubles.{IsStatus};
-ghost use Rattle.gixcfg_commands.specs.Plainly.{is_of_input, plain_asked, plain_edit, EndsPlainly};
+ghost use Rattle.gixcfg_commands.specs.ByWords.{is_told, EndsBy, EndsByWords, EndsEditing};
+ghost use Rattle.gixcfg_commands.specs.Edits.{command_of};
+ghost use Rattle.gixcfg_commands.specs.Plainly.{Prints, Shows, is_of_input, plain_asked, plain_edit, EndsPlainly};
 
 use crate::checks::check;
 use crate::differing::diff;
 use crate::edits::{Edit, carry_out};
 use crate::layouts::fmt;
-use crate::{Asked, Loads, answer, located, located_target};
+use crate::{Asked, Loads, located, located_target, put_answer};
 use gitconf_sources::Process;
 use gitconf_text::NoMemory;
 use gixcfg_core::outside::{Inputs, Outside};
 use gixcfg_core::places::home_of;
-use gixcfg_core::showing::{Told, show};
+use gixcfg_core::showing::{Told, end};
 use gixcfg_core::streams::put;
 use gixcfg_core::trouble::{Trouble, report};
 use gixcfg_files::EditFiles;
@@ -74,6 +77,8 @@ pub fn run_words<
     ensures known { IfOk result IsStatus }
     ensures plain { (plain : Plain) → asked (map (λ w. w.now) called.entry.words.now) ≡ Some plain → is_of_input plain ≡ true
         → IfOk result (EndsPlainly plain (I.remaining input) (W.contents out.old) (W.contents out.new)) }
+    ensures by_git { asked (map (λ w. w.now) called.entry.words.now) ≡ None
+        → IfOk result (EndsByWords (map (λ w. w.now) called.entry.words.now) called.entry.terminal.is_colored (I.remaining input) (W.contents out.old) (W.contents out.new)) }
 {
     let terminal = called.terminal;
     let call = match read(rt.alloc(), called.words) {
@@ -103,6 +108,8 @@ fn do_call<'a, R: EditFiles + Env + Loads + AllocGlobal + Copy, I: Read + Drop, 
     ensures known { IsStatus result }
     ensures plain { (plain : Plain) → plain_of call.entry.command ≡ Some plain → is_of_input plain ≡ true → call.entry.rules ≡ rules.Library
         → EndsPlainly plain (I.remaining input) (W.contents out.old) (W.contents out.new) result }
+    ensures by_git { is_told call.entry.command ≡ true → call.entry.rules ≡ rules.Git
+        → EndsBy call.entry.command outside.entry.is_colored (I.remaining input) (W.contents out.old) (W.contents out.new) result }
 {
     let Call { command, rules } = call;
     let mut inputs = Inputs {
@@ -141,7 +148,8 @@ fn usage<E: Write>(err: &mut E) -> u8
 
 /// Tells what is wrong with the words, and returns the status.
 fn tell_fault<E: Write>(alloc: Global, called: Invocation<'_>, fault: Fault<'_>, err: &mut E) -> u8
-    ensures { IsStatus result }
+    ensures memory { fault.entry ≡ faults.Memory → result ≡ 5 }
+    ensures usage { (result ≡ 2) ⊎ (result ≡ 5) }
 {
     if let Fault::Memory = fault {
         return report(&Trouble::Memory, "", Rules::Git, err);
@@ -158,7 +166,7 @@ fn tell_fault<E: Write>(alloc: Global, called: Invocation<'_>, fault: Fault<'_>,
 /// Tells a program that reads standard error how calls are written, in the last line, and returns the status. Above it stands but that the first
 /// word is no command.
 fn tell_without_options<E: Write>(alloc: Global, fault: Fault<'_>, err: &mut E) -> u8
-    ensures { IsStatus result }
+    ensures { (result ≡ 2) ⊎ (result ≡ 5) }
 {
     if let Fault::UnknownCommand(_) = fault {
         if fault::tell(alloc, fault, err).is_err() {
@@ -178,6 +186,8 @@ fn do_command<R: EditFiles + Env + Loads + AllocGlobal + Copy, I: Read + Drop, W
     ensures known { IsStatus result }
     ensures plain { (plain : Plain) → plain_of command.entry ≡ Some plain → is_of_input plain ≡ true → inputs.old.rules ≡ rules.Library
         → EndsPlainly plain (I.remaining inputs.old.input) (W.contents out.old) (W.contents out.new) result }
+    ensures by_git { is_told command.entry ≡ true → inputs.old.rules ≡ rules.Git
+        → EndsBy command.entry inputs.old.outside.is_colored (I.remaining inputs.old.input) (W.contents out.old) (W.contents out.new) result }
 {
     match command {
         Command::Help(verb) => print(help_on(verb), out, err),
@@ -201,7 +211,7 @@ fn do_command<R: EditFiles + Env + Loads + AllocGlobal + Copy, I: Read + Drop, W
 
 /// Prints a text that ends with a line feed or not.
 fn print<W: Write, E: Write>(text: &str, out: &mut W, err: &mut E) -> u8
-    ensures { IsStatus result }
+    ensures { Shows (Prints text.now) (W.contents out.old) (W.contents out.new) result }
 {
     match put(text.as_bytes(), out) {
         Ok(()) => 0,
@@ -223,14 +233,13 @@ fn do_reading<R: Files + Env + Loads + AllocGlobal + Copy, I: Read + Drop, W: Wr
     let rules = inputs.rules;
     match located(inputs.rt, asked.source()) {
         Ok(read) => {
-            let lines = answer(inputs, asked, &read);
-            show(
-                lines,
+            let done = put_answer(inputs, asked, &read, out);
+            end(
+                done,
                 &Told {
                     name: read.name(),
                     rules,
                 },
-                out,
                 err,
             )
         }
@@ -249,6 +258,8 @@ fn do_edit<R: EditFiles + Env + AllocGlobal, I: Read + Drop, W: Write, E: Write>
     ensures known { IsStatus result }
     ensures plain { (plain : Plain) → target.entry ≡ targets.Input → plain_edit call.entry ≡ Some plain → inputs.old.rules ≡ rules.Library
         → EndsPlainly plain (I.remaining inputs.old.input) (W.contents out.old) (W.contents out.new) result }
+    ensures by_git { target.entry ≡ targets.Input → inputs.old.rules ≡ rules.Git
+        → EndsEditing (command_of call.entry) inputs.old.outside.is_colored (I.remaining inputs.old.input) (W.contents out.old) (W.contents out.new) result }
 {
     match located_target(inputs.rt, target) {
         Ok(place) => carry_out(inputs, &place, call, out, err),

@@ -21,7 +21,8 @@ ghost use Rattle.gix_config.specs.SectionEditors.{edited, lent};
 ghost use Rattle.gixcfg_commands.specs.Beginnings as spec;
 ghost use Rattle.gixcfg_commands.specs.Answered.{IsCarriedOut, IsChecked, marked_answer};
 ghost use Rattle.gixcfg_commands.specs.Comments.{IsCommentedText, IsEditedText, IsTextWith};
-ghost use Rattle.gixcfg_commands.specs.Edits.{EditsTo, IsOfText, UnsetsTo, no_room, others_of, removal_of, renaming_of, trouble_of_renaming, unremoved, unrenamed, unsetting_of};
+ghost use Rattle.gixcfg_commands.specs.ByWords.{EndsEditing, IsEdit};
+ghost use Rattle.gixcfg_commands.specs.Edits.{EditsTo, IsOfText, command_of, UnsetsTo, no_room, others_of, removal_of, renaming_of, trouble_of_renaming, unremoved, unrenamed, unsetting_of};
 ghost use Rattle.gixcfg_commands.specs.Emptied.{losses_of, text_of_rest};
 ghost use Rattle.gixcfg_commands.specs.Setting.{IsGivenText, IsPlacedText, IsPushed, IsPutText, IsGiven, IsRewritten, IsSetIn, IsSetText, IsStoredValue, IsUnwritten, SetsTo, added, pushing, setting, setting_of, setting_of_one, setting_of_several, unadded, writing};
 ghost use Rattle.gixcfg_files.specs.Replacing.{known};
@@ -105,6 +106,8 @@ pub fn carry_out<R: EditFiles + AllocGlobal, I: Read + Drop, W: Write, E: Write>
     ensures known { IsStatus result }
     ensures plain { (plain : Plain) → place.now ≡ located.Input → plain_edit edit.entry ≡ Some plain → inputs.old.rules ≡ rules.Library
         → EndsPlainly plain (I.remaining inputs.old.input) (W.contents out.old) (W.contents out.new) result }
+    ensures by_git { place.now ≡ located.Input → inputs.old.rules ≡ rules.Git
+        → EndsEditing (command_of edit.entry) inputs.old.outside.is_colored (I.remaining inputs.old.input) (W.contents out.old) (W.contents out.new) result }
 {
     let told = Told {
         name: place.name(),
@@ -128,15 +131,33 @@ fn edited_input<R: AllocGlobal, I: Read + Drop>(
     place: &Located,
     edit: Edit<'_>,
 ) -> Result<Vec<u8>, Trouble>
-    ensures { (plain : Plain) → plain_edit edit.entry ≡ Some plain → inputs.old.rules ≡ rules.Library
+    ensures plain { (plain : Plain) → plain_edit edit.entry ≡ Some plain → inputs.old.rules ≡ rules.Library
         → GivesOfInput (λ text. text.items) (IsOutcome plain) (I.remaining inputs.old.input) result }
+    ensures by_git { inputs.old.rules ≡ rules.Git
+        → GivesOfInput (λ text. text.items) (IsEdit (command_of edit.entry) inputs.old.outside.is_colored) (I.remaining inputs.old.input) result }
 {
     let alloc = inputs.rt.alloc();
     match read_all(alloc, &mut inputs.input) {
         Ok(text) => match inputs.rules {
             Rules::Library => edited_plainly(alloc, text, edit),
-            Rules::Git => Ok(edited(alloc, edit, place.name(), &text, inputs.outside)?.into_vec()),
+            Rules::Git => edited_bytes(alloc, edit, place.name(), &text, inputs.outside),
         },
+        Err(trouble) => Err(trouble),
+    }
+}
+
+/// What an edit with options makes of a text of this name.
+fn edited_bytes(
+    alloc: Global,
+    edit: Edit<'_>,
+    name: &str,
+    text: &[u8],
+    outside: Outside<'_>,
+) -> Result<Vec<u8>, Trouble>
+    ensures { Gives (λ text. text.items) (IsEdit (command_of edit.entry) outside.entry.is_colored text.now) result }
+{
+    match edited(alloc, edit, name, text, outside) {
+        Ok(edited) => Ok(edited.into_vec()),
         Err(trouble) => Err(trouble),
     }
 }

@@ -2,19 +2,22 @@
 ghost use Rattle.std.specs.Prelude.{◌≡◌, ◌⊎◌, ℕ, Bool, List, IfErr, IfOk, map};
 ghost use Rattle.gitconf_sources.specs.Key.{key_of};
 ghost use Rattle.gixcfg_core.specs.Entries.{plain_found};
+ghost use Rattle.gixcfg_core.specs.Pieces.{IsGiven};
 ghost use Rattle.gixcfg_core.specs.Patterns.{is_found, IsNoPatternOfKeys, IsRegexOfKeys, Means, MeansNothing, Regex};
 ghost use Rattle.gixcfg_core.specs.declared.trouble.Trouble.TheVariants as kinds;
 ghost use Rattle.gixcfg_commands.specs.Entries as spec;
 ghost use Rattle.gixcfg_commands.specs.Entries.{file_entries, file_lines, key_entries, value_text, AreLike, AreMeant};
 
 use gix_config::{File, KeyRef};
-use gixcfg_core::entries::{Found, Sought, add_found, add_lines, is_listed_under};
+use gixcfg_core::entries::{Found, Sought, add_found, is_listed_under, put_lines};
 use gixcfg_core::lines::Line;
 use gixcfg_core::origins::{Located, before_of};
 use gixcfg_core::patterns::{marks_of, marks_of_keys};
+use gixcfg_core::streams::put;
 use gixcfg_core::trouble::Trouble;
 use gixcfg_words::command::{Form, Values};
 use std::alloc::{AllocError, Global};
+use std::io::Write;
 
 /// All entries of a file's sections, in order.
 ///
@@ -42,26 +45,27 @@ pub fn all_entries(
     Ok(found)
 }
 
-/// All entries of a file's sections, in order, a line each as `list` prints them.
+/// Gives a stream all entries of a file's sections, in order, a line each as `list` prints them. They are written by pieces as they are made.
 ///
 /// # Errors
 ///
-/// Out of memory.
-pub fn all_lines(
+/// The stream fails; out of memory. It was given a beginning.
+pub fn put_all_lines<W: Write>(
     alloc: Global,
     file: &File,
     form: &Form,
     read: &Located,
-) -> Result<Vec<u8>, Trouble>
-    ensures { IfOk result (λ lines. lines.items ≡ file_lines form.now read.now file.now) }
+    out: &mut W,
+) -> Result<(), Trouble>
+    ensures { IsGiven (file_lines form.now read.now file.now) result (W.contents out.old) (W.contents out.new) }
 {
     let line = Line::of_entries(form);
-    let mut lines = Vec::new(alloc);
+    let mut held = Vec::new(alloc);
     for section in file.sections() {
         let before = before_of(alloc, section.meta(), form, read)?;
-        add_lines(&mut lines, &line, &before, &section)?;
+        put_lines(&mut held, &line, &before, &section, out)?;
     }
-    Ok(lines)
+    put(&held, out)
 }
 
 /// All entries of a key, in order.

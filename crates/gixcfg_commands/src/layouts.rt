@@ -1,9 +1,11 @@
 //! `fmt`.
-ghost use Rattle.std.specs.Prelude.{◌≡◌, IfErr, IfOk, Some};
+ghost use Rattle.std.specs.Prelude.{◌≡◌, true, false, IfErr, IfOk, Some};
 ghost use Rattle.gixcfg_words.specs.Plain.{Plain};
 ghost use Rattle.gixcfg_words.specs.declared.command.Target.TheVariants as targets;
 ghost use Rattle.gixcfg_words.specs.declared.rules.Rules.TheVariants as rules;
 ghost use Rattle.gixcfg_core.specs.declared.origins.Located.TheVariants as located;
+ghost use Rattle.gixcfg_words.specs.declared.command.Command.TheVariants as commands;
+ghost use Rattle.gixcfg_commands.specs.ByWords.{edits_input, EndsEditing};
 ghost use Rattle.gixcfg_commands.specs.Plainly.{plain_edit, EndsPlainly};
 ghost use Rattle.gixcfg_commands.specs.declared.edits.Edit.TheVariants as edits;
 ghost use Rattle.bstr.specs.Owned.{bstring_bytes};
@@ -35,6 +37,8 @@ pub fn fmt<R: EditFiles + Env + AllocGlobal, I: Read + Drop, W: Write, E: Write>
     ensures known { IsStatus result }
     ensures plain { (plain : Plain) → plain_edit (edits.Fmt fmt.entry) ≡ Some plain → inputs.old.rules ≡ rules.Library
         → EndsPlainly plain (I.remaining inputs.old.input) (W.contents out.old) (W.contents out.new) result }
+    ensures by_git { edits_input (commands.Fmt fmt.now) ≡ true → inputs.old.rules ≡ rules.Git
+        → EndsEditing (commands.Fmt fmt.now) inputs.old.outside.is_colored (I.remaining inputs.old.input) (W.contents out.old) (W.contents out.new) result }
 {
     match &fmt.files {
         Files::One(target) => fmt_target(inputs, *target, fmt, out, err),
@@ -70,6 +74,8 @@ fn fmt_target<R: EditFiles + Env + AllocGlobal, I: Read + Drop, W: Write, E: Wri
     ensures known { IsStatus result }
     ensures plain { (plain : Plain) → target.entry ≡ targets.Input → plain_edit (edits.Fmt fmt.entry) ≡ Some plain → inputs.old.rules ≡ rules.Library
         → EndsPlainly plain (I.remaining inputs.old.input) (W.contents out.old) (W.contents out.new) result }
+    ensures by_git { target.entry ≡ targets.Input → fmt.now.is_check ≡ false → inputs.old.rules ≡ rules.Git
+        → EndsEditing (commands.Fmt fmt.now) inputs.old.outside.is_colored (I.remaining inputs.old.input) (W.contents out.old) (W.contents out.new) result }
 {
     match located_target(inputs.rt, target) {
         Ok(place) => lay_out(inputs, &place, fmt, out, err),
@@ -88,6 +94,8 @@ fn lay_out<R: EditFiles + AllocGlobal, I: Read + Drop, W: Write, E: Write>(
     ensures known { IsStatus result }
     ensures plain { (plain : Plain) → place.now ≡ located.Input → plain_edit (edits.Fmt fmt.entry) ≡ Some plain → inputs.old.rules ≡ rules.Library
         → EndsPlainly plain (I.remaining inputs.old.input) (W.contents out.old) (W.contents out.new) result }
+    ensures by_git { place.now ≡ located.Input → fmt.now.is_check ≡ false → inputs.old.rules ≡ rules.Git
+        → EndsEditing (commands.Fmt fmt.now) inputs.old.outside.is_colored (I.remaining inputs.old.input) (W.contents out.old) (W.contents out.new) result }
 {
     if fmt.is_check {
         match check_layout(inputs, place, fmt) {

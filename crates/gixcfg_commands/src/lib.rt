@@ -28,4 +28,4 @@ mod system;
 pub use calls::{Invocation, Terminal, run_words, tell_ill_formed};
 pub use loads::Loads;
 pub use paths::{located, located_target};
-pub use reads::{Asked, answer};
+pub use reads::{Asked, put_answer};

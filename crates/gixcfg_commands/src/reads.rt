@@ -1,15 +1,15 @@
 //! `get`, `list` and `print`.
 ghost use Rattle.std.specs.Prelude.{◌≡◌, IfOk, None, Some, map, true};
-ghost use Rattle.gixcfg_words.specs.Plain.{Entries, Plain, plain_of_get};
+ghost use Rattle.gixcfg_words.specs.Plain.{Entries, Plain, Print, plain_of_get};
 ghost use Rattle.gixcfg_words.specs.declared.rules.Rules.TheVariants as rules;
 ghost use Rattle.gixcfg_core.specs.declared.origins.Located.TheVariants as located;
-ghost use Rattle.gixcfg_commands.specs.Plainly.{is_of_input, plain_asked, GivesOfInput, IsOutcome};
+ghost use Rattle.gixcfg_commands.specs.Plainly.{is_of_input, plain_asked, GivesOfInput, IsOutcome, PutsOfInput};
 ghost use Rattle.gixcfg_core.specs.Entries.{plain_found};
 ghost use Rattle.gixcfg_commands.specs.Getting.{AreFound, AreMeantLines, IsSought};
 
 use crate::at_once::{key_alone, last_line};
 use crate::effective::effective;
-use crate::entries::{all_entries, all_lines, entries_like, entries_meant, entries_of};
+use crate::entries::{all_entries, entries_like, entries_meant, entries_of, put_all_lines};
 use crate::including::included;
 use crate::library;
 use crate::loads::Loads;
@@ -18,13 +18,14 @@ use gixcfg_core::entries::Found;
 use gixcfg_core::for_url::{Variables, entries_for_url};
 use gixcfg_core::origins::Located;
 use gixcfg_core::outside::{Inputs, accepted};
-use gixcfg_core::streams::read_all;
+use gixcfg_core::showing::put_made;
+use gixcfg_core::streams::{put, read_all};
 use gixcfg_core::telling::{lines_of_all, lines_of_found};
 use gixcfg_core::trouble::Trouble;
 use gixcfg_words::command::{Form, Get, List, Reading, Source, Target, Wanted};
 use gixcfg_words::rules::Rules;
 use std::alloc::{AllocGlobal, Global};
-use std::io::Read;
+use std::io::{Read, Write};
 use std::rt::{Env, Files};
 
 /// What is asked of what a call reads.
@@ -53,29 +54,37 @@ impl<'a> Asked<'a> {
     }
 }
 
-/// The lines that answer what is asked.
+/// Writes the lines that answer what is asked.
 ///
 /// # Errors
 ///
-/// Nothing is found that was asked for, or more than one may print; what is read is missing or refused; out of memory.
-pub fn answer<R: Files + Env + Loads + AllocGlobal + Copy, I: Read + Drop>(
+/// Nothing is found that was asked for, or more than one may print; what is read is missing or refused; out of memory; the stream fails.
+pub fn put_answer<R: Files + Env + Loads + AllocGlobal + Copy, I: Read + Drop, W: Write>(
     inputs: &mut Inputs<'_, R, I>,
     asked: Asked<'_>,
     read: &Located,
-) -> Result<Vec<u8>, Trouble>
+    out: &mut W,
+) -> Result<(), Trouble>
     ensures { (plain : Plain) → plain_asked asked.entry ≡ Some plain → is_of_input plain ≡ true → inputs.old.rules ≡ rules.Library → read.now ≡ located.Input
-        → GivesOfInput (λ lines. lines.items) (IsOutcome plain) (I.remaining inputs.old.input) result }
+        → PutsOfInput (IsOutcome plain) (I.remaining inputs.old.input) result (W.contents out.old) (W.contents out.new) }
 {
     match asked {
-        Asked::Get(call) => get(inputs, call, read),
-        Asked::List(call) => list(inputs, call, read),
-        Asked::Input => {
-            let alloc = inputs.rt.alloc();
-            match read_all(alloc, &mut inputs.input) {
-                Ok(text) => library::printed(alloc, text),
-                Err(trouble) => Err(trouble),
-            }
-        }
+        Asked::Get(call) => put_made(get(inputs, call, read), out),
+        Asked::List(call) => put_list(inputs, call, read, out),
+        Asked::Input => put_made(printed(inputs), out),
+    }
+}
+
+/// What is printed of standard input.
+fn printed<R: AllocGlobal, I: Read + Drop>(
+    inputs: &mut Inputs<'_, R, I>,
+) -> Result<Vec<u8>, Trouble>
+    ensures { GivesOfInput (λ lines. lines.items) (IsOutcome Print) (I.remaining inputs.old.input) result }
+{
+    let alloc = inputs.rt.alloc();
+    match read_all(alloc, &mut inputs.input) {
+        Ok(text) => library::printed(alloc, text),
+        Err(trouble) => Err(trouble),
     }
 }
 
@@ -173,38 +182,48 @@ fn lines_of_meant(
     }
 }
 
-/// The lines that `list` prints.
-fn list<R: Files + Env + Loads + AllocGlobal, I: Read + Drop>(
+/// Writes the lines that `list` prints.
+fn put_list<R: Files + Env + Loads + AllocGlobal, I: Read + Drop, W: Write>(
     inputs: &mut Inputs<'_, R, I>,
     list: &List<'_>,
     read: &Located,
-) -> Result<Vec<u8>, Trouble>
-    ensures { inputs.old.rules ≡ rules.Library → GivesOfInput (λ lines. lines.items) (IsOutcome Entries) (I.remaining inputs.old.input) result }
+    out: &mut W,
+) -> Result<(), Trouble>
+    ensures { inputs.old.rules ≡ rules.Library
+        → PutsOfInput (IsOutcome Entries) (I.remaining inputs.old.input) result (W.contents out.old) (W.contents out.new) }
 {
     match inputs.rules {
-        Rules::Library => {
-            let alloc = inputs.rt.alloc();
-            match read_all(alloc, &mut inputs.input) {
-                Ok(text) => library::entries(alloc, text),
-                Err(trouble) => Err(trouble),
-            }
-        }
-        Rules::Git => list_as_git(inputs, list, read),
+        Rules::Library => put_made(entries_of_input(inputs), out),
+        Rules::Git => put_list_as_git(inputs, list, read, out),
+    }
+}
+
+/// The lines of the entries of standard input.
+fn entries_of_input<R: AllocGlobal, I: Read + Drop>(
+    inputs: &mut Inputs<'_, R, I>,
+) -> Result<Vec<u8>, Trouble>
+    ensures { GivesOfInput (λ lines. lines.items) (IsOutcome Entries) (I.remaining inputs.old.input) result }
+{
+    let alloc = inputs.rt.alloc();
+    match read_all(alloc, &mut inputs.input) {
+        Ok(text) => library::entries(alloc, text),
+        Err(trouble) => Err(trouble),
     }
 }
 
 /// The same, as git does it.
-fn list_as_git<R: Files + Env + Loads + AllocGlobal, I: Read + Drop>(
+fn put_list_as_git<R: Files + Env + Loads + AllocGlobal, I: Read + Drop, W: Write>(
     inputs: &mut Inputs<'_, R, I>,
     list: &List<'_>,
     read: &Located,
-) -> Result<Vec<u8>, Trouble> {
+    out: &mut W,
+) -> Result<(), Trouble> {
     let (alloc, home) = (inputs.rt.alloc(), inputs.outside.home);
     match (file_at(inputs, &list.reading, read)?, list.form.kind) {
-        (Some(file), None) => all_lines(alloc, &file, &list.form, read),
+        (Some(file), None) => put_all_lines(alloc, &file, &list.form, read, out),
         (Some(file), Some(_)) => {
             let found = all_entries(alloc, &file, &list.form, read)?;
-            lines_of_all(alloc, &found, &list.form, home)
+            put(&lines_of_all(alloc, &found, &list.form, home)?, out)
         }
         (None, _) => Err(Trouble::NoFile),
     }

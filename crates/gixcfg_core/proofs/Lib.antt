@@ -12,3 +12,5 @@ mod Folding
 mod PosixLemmas
 mod UrlLemmas
 mod CommentLemmas
+pub mod Piecewise
+pub mod Ending

@@ -10,6 +10,7 @@ pub mod Dates
 pub mod Numbers
 pub mod Origins
 pub mod Patterns
+pub mod Pieces
 pub mod Posix
 pub mod Quoted
 pub mod Shown

@@ -12,10 +12,13 @@ ghost use Rattle.gitconf_state.specs.Lookup.{is_named, listing};
 ghost use Rattle.gitconf_views.specs.Views.{shown};
 ghost use Rattle.gixcfg_core.specs.CStrings.{c_string, has_null};
 ghost use Rattle.gixcfg_core.specs.Entries.{found_in, found_of, has_dot, is_listed_under, is_sought, names_part, plain_found, section_lines, section_names, value_part, values_of_name};
+ghost use Rattle.gixcfg_core.specs.Pieces.{IsGivenBut};
 
 use crate::c_strings::c_string;
 use crate::lines::{Line, add_value};
 use crate::names::{add_in_lower_case, add_names, add_section_names};
+use crate::streams::put_if_whole;
+use crate::trouble::Trouble;
 use bstr::BString;
 use gitconf_body::entries::next_entry;
 use gitconf_body::meanings::entry_value;
@@ -26,6 +29,7 @@ use gitconf_text::value::normalize;
 use gitconf_views::section::SectionRef;
 use std::alloc::{AllocError, Global};
 use std::borrow::CowSlice;
+use std::io::Write;
 
 /// An entry: its names with dots between them, and its value. An entry without `=` has none.
 #[derive(Drop)]
@@ -145,24 +149,28 @@ pub fn add_found(
     Ok(())
 }
 
-/// Adds the entries of a section, a line each, all with the same before their names. One walk over its items; a value takes memory of
-/// its own only if it has a quote or a backslash, or goes on over lines.
+/// Gives a stream the entries of a section, a line each, all with the same before their names; first what is held back, and of all that the
+/// end may be held back, less than a piece. One walk over the items; a value takes memory of its own only if it has a quote or a
+/// backslash, or goes on over lines.
 ///
 /// # Errors
 ///
-/// Out of memory.
-pub fn add_lines(
-    lines: &mut Vec<u8>,
+/// The stream fails; out of memory. It was given a beginning.
+pub fn put_lines<W: Write>(
+    held: &mut Vec<u8>,
     line: &Line,
     before: &[u8],
     section: &SectionRef<'_>,
-) -> Result<(), NoMemory>
-    ensures { IfOk result (λ _. lines.new.items ≡ lines.old.items ++ section_lines line.now before.now (shown section.now)) }
+    out: &mut W,
+) -> Result<(), Trouble>
+    ensures { IsGivenBut (held.old.items ++ section_lines line.now before.now (shown section.now)) held.new.items result
+        (W.contents out.old) (W.contents out.new) }
 {
     let head = head_of(line, before, section)?;
     let mut rest = section.items;
     while let Some((entry, behind)) = next_entry(rest) {
-        add_line(lines, line, &head, section, entry)?;
+        add_line(held, line, &head, section, entry)?;
+        put_if_whole(held, out)?;
         rest = behind;
     }
     Ok(())

@@ -34,3 +34,7 @@ key_asked word = elim (parsed_key word) [
   | None ↦ None
   | Some key ↦ if is_option_with_value key.section then None else Some key
 ]
+
+-- the key that a word of a call with options is
+abbrev pub key_meant : (word : List ℕ) → Option Key
+key_meant word = elim (parsed_key word) [ None ↦ None | Some key ↦ if has_section key then Some key else None ]

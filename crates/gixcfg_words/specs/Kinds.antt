@@ -1,5 +1,5 @@
 -- The types that values are asked for in, by the names that `git config --type` has for them.
-use Rattle.std.specs.Prelude.{ℕ, List, Option, Some, None, if◌then◌else◌, codes}
+use Rattle.std.specs.Prelude.{◌==◌, ℕ, Bool as Truth, List, Option, Some, None, if◌then◌else◌, codes}
 use Rattle.std.specs.Str.{bytes_eq}
 use Rattle.gixcfg_words.specs.declared.kinds.Kind.{Kind}
 use Rattle.gixcfg_words.specs.declared.kinds.Kind.TheVariants.{Bool, Int, BoolOrInt, BoolOrStr, Path, ExpiryDate, Color}
@@ -15,3 +15,16 @@ kind_named word =
     else if bytes_eq word (codes "expiry-date") then Some ExpiryDate
     else if bytes_eq word (codes "color") then Some Color
     else None
+
+-- types are told apart by number
+abbrev pub kind_number : Kind → ℕ
+kind_number Bool = 0
+kind_number Int = 1
+kind_number BoolOrInt = 2
+kind_number BoolOrStr = 3
+kind_number Path = 4
+kind_number ExpiryDate = 5
+kind_number Color = 6
+
+abbrev pub is_same_kind : Kind → Kind → Truth
+is_same_kind one other = kind_number one == kind_number other

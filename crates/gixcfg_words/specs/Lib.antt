@@ -1,4 +1,11 @@
+pub mod Asking
+pub mod Given
+pub mod Help
 pub mod Keys
 pub mod Kinds
+pub mod Options
 pub mod Plain
 pub mod Shown
+pub mod Spelling
+pub mod Tasks
+pub mod Verbs

@@ -1,4 +1,6 @@
 //! What is wrong with words that aren't understood.
+ghost use Rattle.std.specs.Prelude.{◌≡◌};
+ghost use Rattle.gixcfg_words.specs.declared.fault.Fault.TheVariants as faults;
 
 use crate::kinds::KIND_NAMES;
 use crate::nearest::nearest;
@@ -62,6 +64,8 @@ impl<'a, T> From<AllocFailed<T>> for Fault<'a>
 where
     T: Drop,
 {
+    ghost from_gives = { λ _ fault. fault ≡ faults.Memory };
+
     fn from(_: AllocFailed<T>) -> Fault<'a> {
         Fault::Memory
     }

@@ -1,4 +1,6 @@
 //! What the program says about its commands.
+ghost use Rattle.std.specs.Prelude.{◌≡◌};
+ghost use Rattle.gixcfg_words.specs.Help.{help_text};
 
 use crate::verbs::Verb;
 
@@ -249,7 +251,9 @@ here, and what edits edits the repository's file. Options come before other word
 ";
 
 /// The help on a command, or without one on all.
-pub fn help_on(verb: Option<Verb>) -> &'static str {
+pub fn help_on(verb: Option<Verb>) -> &'static str
+    ensures { result.now ≡ help_text verb }
+{
     match verb {
         None => OVERVIEW,
         Some(Verb::Get) => GET,

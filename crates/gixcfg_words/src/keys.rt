@@ -1,5 +1,10 @@
 //! Keys and the names of sections, as words have them.
-ghost use Rattle.gixcfg_words.specs.Keys.{IsKey};
+ghost use Rattle.std.specs.Prelude.{◌≡◌};
+ghost use Rattle.gitconf_sources.specs.Key as keys;
+ghost use Rattle.gixcfg_words.specs.Asking as asking;
+ghost use Rattle.gixcfg_words.specs.Keys.{IsKey, key_meant};
+ghost use Rattle.gixcfg_words.specs.Spelling.{Gives};
+ghost use Rattle.gixcfg_words.specs.Tasks as tasks;
 
 use crate::fault::Fault;
 use crate::plain::is_nameless;
@@ -20,7 +25,8 @@ pub struct Names<'a> {
 ///
 /// [`Fault::NoKey`] if the word has no dot, [`Fault::Nameless`] if nothing stands before its only one.
 pub fn key_of<'a>(word: &'a str) -> Result<KeyRef<'a>, Fault<'a>>
-    ensures { IsKey word.now result }
+    ensures known { IsKey word.now result }
+    ensures meant { Gives keys.key_of (key_meant word.now) result }
 {
     match KeyRef::parse_unvalidated(word.as_bytes()) {
         Some(key) if is_nameless(key.section_name, key.subsection_name) => Err(Fault::Nameless),
@@ -30,7 +36,9 @@ pub fn key_of<'a>(word: &'a str) -> Result<KeyRef<'a>, Fault<'a>>
 }
 
 /// The name of a section and its subsection, which a word has with a dot between them.
-pub fn names_of(word: &str) -> Names<'_> {
+pub fn names_of(word: &str) -> Names<'_>
+    ensures { tasks.names_of result ≡ asking.names_in word.now }
+{
     match word.split_once('.') {
         Some((name, subsection_name)) => Names {
             name,
@@ -48,7 +56,9 @@ pub fn names_of(word: &str) -> Names<'_> {
 /// # Errors
 ///
 /// [`Fault::Nameless`] if it names nothing.
-pub fn new_names_of<'a>(word: &'a str) -> Result<Names<'a>, Fault<'a>> {
+pub fn new_names_of<'a>(word: &'a str) -> Result<Names<'a>, Fault<'a>>
+    ensures { Gives tasks.names_of (asking.new_names word.now) result }
+{
     let names = names_of(word);
     if is_nameless(names.name, names.subsection_name) {
         Err(Fault::Nameless)

@@ -39,3 +39,12 @@ pub fn kind_named(word: &str) -> Option<Kind>
         _ => None,
     }
 }
+
+impl Kind {
+    /// Whether it is this one.
+    pub(crate) fn is(self, other: Kind) -> bool
+        ensures { result ≡ kinds.is_same_kind self other }
+    {
+        self as u8 == other as u8
+    }
+}

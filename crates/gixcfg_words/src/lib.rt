@@ -11,10 +11,11 @@ pub mod kinds;
 mod nearest;
 mod of_git;
 mod options;
+mod parts;
 pub mod plain;
-mod reading;
 pub mod rules;
 pub mod shown;
+mod spelled;
 pub mod verbs;
 mod words;
 

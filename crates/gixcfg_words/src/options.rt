@@ -1,4 +1,6 @@
 //! The options: their words, and which command takes which.
+ghost use Rattle.std.specs.Prelude.{◌≡◌, ◌==◌, map};
+ghost use Rattle.gixcfg_words.specs.Options as spec;
 
 use crate::command::Place;
 use crate::kinds::Kind;
@@ -105,8 +107,11 @@ pub enum Opt {
     Alone(Alone),
 }
 
-/// The options: the word of each behind two dashes, and its letter behind one, if it has one.
-static OPTIONS: [(&str, Option<char>, Opt); 49] = [
+/// How an option is written: its word behind two dashes, its letter behind one, if it has one, and the option.
+type Spelling = (&'static str, Option<char>, Opt);
+
+/// The options.
+static OPTIONS: [Spelling; 49] = [
     ("file", Some('f'), Opt::File),
     ("global", None, Opt::Place(Place::Global)),
     ("system", None, Opt::Place(Place::System)),
@@ -159,17 +164,23 @@ static OPTIONS: [(&str, Option<char>, Opt); 49] = [
 ];
 
 /// Whether an option names the file that is worked on.
-fn names_file(option: Opt) -> bool {
+fn names_file(option: Opt) -> bool
+    ensures { result ≡ spec.names_file option }
+{
     matches!(option, Opt::File | Opt::Place(_) | Opt::Alone(Alone::Blob))
 }
 
 /// Whether an option says how a file is edited.
-fn is_of_editing(option: Opt) -> bool {
-    names_file(option) || option == Opt::Sync
+fn is_of_editing(option: Opt) -> bool
+    ensures { result ≡ spec.is_of_editing option }
+{
+    names_file(option) || matches!(option, Opt::Sync)
 }
 
 /// Whether an option says which values are read, and how they are printed.
-fn is_of_reading(option: Opt) -> bool {
+fn is_of_reading(option: Opt) -> bool
+    ensures { result ≡ spec.is_of_reading option }
+{
     names_file(option)
         || is_type(option)
         || matches!(
@@ -179,61 +190,91 @@ fn is_of_reading(option: Opt) -> bool {
 }
 
 /// Whether an option says which type a value has.
-fn is_type(option: Opt) -> bool {
+fn is_type(option: Opt) -> bool
+    ensures { result ≡ spec.is_type option }
+{
     matches!(option, Opt::Type | Opt::Kind(_))
 }
 
 /// Whether an option says which values of a key are meant.
-fn is_of_values(option: Opt) -> bool {
+fn is_of_values(option: Opt) -> bool
+    ensures { result ≡ spec.is_of_values option }
+{
     matches!(option, Opt::All | Opt::Value | Opt::FixedValue)
 }
 
+/// Whether `get` takes an option.
+fn is_of_get(option: Opt) -> bool
+    ensures { result ≡ spec.is_of_get option }
+{
+    is_of_reading(option)
+        || is_of_values(option)
+        || matches!(
+            option,
+            Opt::Effective | Opt::Regexp | Opt::Url | Opt::Default | Opt::ShowNames
+        )
+}
+
+/// Whether `list` takes an option.
+fn is_of_list(option: Opt) -> bool
+    ensures { result ≡ spec.is_of_list option }
+{
+    is_of_reading(option) || matches!(option, Opt::Effective | Opt::ShowNames)
+}
+
+/// Whether `set` takes an option.
+fn is_of_set(option: Opt) -> bool
+    ensures { result ≡ spec.is_of_set option }
+{
+    is_of_editing(option)
+        || is_type(option)
+        || is_of_values(option)
+        || matches!(option, Opt::Append | Opt::Comment)
+}
+
+/// Whether `fmt` takes an option.
+fn is_of_fmt(option: Opt) -> bool
+    ensures { result ≡ spec.is_of_fmt option }
+{
+    is_of_editing(option) || matches!(option, Opt::Check | Opt::Indent | Opt::Newline)
+}
+
+/// Whether an option may stand in a call in which an option says what is done.
+fn is_of_forms(option: Opt) -> bool
+    ensures { result ≡ spec.is_of_forms option }
+{
+    is_of_reading(option)
+        || matches!(
+            option,
+            Opt::Do(_) | Opt::Alone(_) | Opt::Default | Opt::Comment | Opt::FixedValue | Opt::Sync
+        )
+}
+
 /// Whether a command takes an option.
-pub(crate) fn takes(verb: Verb, option: Opt) -> bool {
+pub(crate) fn takes(verb: Verb, option: Opt) -> bool
+    ensures { result ≡ spec.takes verb option }
+{
     match verb {
-        _ if option == Opt::Help => true,
-        Verb::Get => {
-            is_of_reading(option)
-                || is_of_values(option)
-                || matches!(
-                    option,
-                    Opt::Effective | Opt::Regexp | Opt::Url | Opt::Default | Opt::ShowNames
-                )
-        }
-        Verb::List => is_of_reading(option) || matches!(option, Opt::Effective | Opt::ShowNames),
-        Verb::Set => {
-            is_of_editing(option)
-                || is_type(option)
-                || is_of_values(option)
-                || matches!(option, Opt::Append | Opt::Comment)
-        }
+        _ if matches!(option, Opt::Help) => true,
+        Verb::Get => is_of_get(option),
+        Verb::List => is_of_list(option),
+        Verb::Set => is_of_set(option),
         Verb::Unset => is_of_editing(option) || is_of_values(option),
         Verb::RenameSection | Verb::RemoveSection => is_of_editing(option),
-        Verb::Fmt => {
-            is_of_editing(option) || matches!(option, Opt::Check | Opt::Indent | Opt::Newline)
-        }
+        Verb::Fmt => is_of_fmt(option),
         Verb::Check => matches!(option, Opt::Quiet | Opt::Lenient),
         Verb::Diff => matches!(option, Opt::Quiet | Opt::Null),
         Verb::Help => false,
-        Verb::Forms => {
-            is_of_reading(option)
-                || matches!(
-                    option,
-                    Opt::Do(_)
-                        | Opt::Alone(_)
-                        | Opt::Default
-                        | Opt::Comment
-                        | Opt::FixedValue
-                        | Opt::Sync
-                )
-        }
+        Verb::Forms => is_of_forms(option),
     }
 }
 
 /// Whether an action takes an option that [`Verb::Forms`] takes.
-pub(crate) fn goes_with(action: Action, option: Opt) -> bool {
+pub(crate) fn goes_with(action: Action, option: Opt) -> bool
+    ensures { result ≡ spec.goes_with action option }
+{
     match option {
-        Opt::Default => action == Action::Get,
+        Opt::Default => matches!(action, Action::Get),
         Opt::Comment => matches!(action, Action::Add | Action::Set | Action::ReplaceAll),
         Opt::Sync => !matches!(
             action,
@@ -256,8 +297,64 @@ pub(crate) fn goes_with(action: Action, option: Opt) -> bool {
     }
 }
 
+impl Action {
+    /// Whether it is this one.
+    pub(crate) fn is(self, other: Action) -> bool
+        ensures { result ≡ spec.is_same_action self other }
+    {
+        self as u8 == other as u8
+    }
+}
+
+impl Opt {
+    /// Its number, by which options are told apart, whatever they name.
+    fn number(self) -> u8
+        ensures { result ≡ spec.number self }
+    {
+        match self {
+            Opt::File => 0,
+            Opt::Place(_) => 1,
+            Opt::Effective => 2,
+            Opt::Help => 3,
+            Opt::All => 4,
+            Opt::Append => 5,
+            Opt::Regexp => 6,
+            Opt::Value => 7,
+            Opt::FixedValue => 8,
+            Opt::Url => 9,
+            Opt::Default => 10,
+            Opt::Type => 11,
+            Opt::Kind(_) => 12,
+            Opt::Comment => 13,
+            Opt::Null => 14,
+            Opt::ShowOrigin => 15,
+            Opt::ShowScope => 16,
+            Opt::Includes => 17,
+            Opt::ShowNames => 18,
+            Opt::NameOnly => 19,
+            Opt::Check => 20,
+            Opt::Indent => 21,
+            Opt::Newline => 22,
+            Opt::Quiet => 23,
+            Opt::Lenient => 24,
+            Opt::Sync => 25,
+            Opt::Do(_) => 26,
+            Opt::Alone(_) => 27,
+        }
+    }
+
+    /// Whether it is this one, whatever both name.
+    pub(crate) fn is(self, other: Opt) -> bool
+        ensures { result ≡ (spec.number self == spec.number other) }
+    {
+        self.number() == other.number()
+    }
+}
+
 /// Whether the option is followed by a word of its own.
-pub(crate) fn takes_word(option: Opt) -> bool {
+pub(crate) fn takes_word(option: Opt) -> bool
+    ensures { result ≡ spec.takes_word option }
+{
     matches!(
         option,
         Opt::File
@@ -283,32 +380,65 @@ pub(crate) enum Named {
 }
 
 /// The option that a command has by this letter.
-pub(crate) fn option_of_letter(verb: Verb, letter: char) -> Option<Opt> {
-    for (_, short, option) in &OPTIONS {
-        if *short == Some(letter) && takes(verb, *option) {
+pub(crate) fn option_of_letter(verb: Verb, letter: char) -> Option<Opt>
+    ensures { result ≡ spec.option_of_letter verb letter }
+{
+    lettered(&OPTIONS, verb, letter)
+}
+
+/// The option that a command has by this word, or by the only one that begins with it.
+pub(crate) fn option_named(verb: Verb, word: &str) -> Named
+    ensures { spec.named_by result ≡ spec.option_named verb word.now }
+{
+    match option_spelled(verb, word) {
+        Some(option) => Named::One(option),
+        None => option_begun(verb, word),
+    }
+}
+
+/// The option that a command has by this word.
+fn option_spelled(verb: Verb, word: &str) -> Option<Opt>
+    ensures { result ≡ spec.option_spelled verb word.now }
+{
+    spelled(&OPTIONS, verb, word)
+}
+
+/// The only option that a command has by a word that begins with this one.
+fn option_begun(verb: Verb, word: &str) -> Named
+    ensures { spec.named_by result ≡ spec.option_begun verb word.now }
+{
+    begun(&OPTIONS, verb, word)
+}
+
+/// Whether an option is written by this letter, if by one at all.
+fn is_letter(of: Option<char>, letter: char) -> bool
+    ensures { result ≡ spec.is_letter of letter }
+{
+    match of {
+        Some(of) => of == letter,
+        None => false,
+    }
+}
+
+/// The first of these that a command has by this letter.
+#[tactic(auto, unfolding(crate::specs::Options::those))]
+fn lettered(options: &[Spelling], verb: Verb, letter: char) -> Option<Opt>
+    ensures { result ≡ spec.first (spec.those (spec.has_letter verb letter) (map spec.spelling_of options.now)) }
+{
+    for (_, short, option) in options {
+        if is_letter(*short, letter) && takes(verb, *option) {
             return Some(*option);
         }
     }
     None
 }
 
-/// The option that a command has by this word, or by the only one that begins with it.
-pub(crate) fn option_named(verb: Verb, word: &str) -> Named {
-    if let Some(option) = option_spelled(verb, word) {
-        return Named::One(option);
-    }
-    match first_from(verb, word, "") {
-        Some((first, option)) => match first_from(verb, word, first) {
-            Some((other, _)) => Named::Several(first, other),
-            None => Named::One(option),
-        },
-        None => Named::None,
-    }
-}
-
-/// The option that a command has by this word.
-fn option_spelled(verb: Verb, word: &str) -> Option<Opt> {
-    for (long, _, option) in &OPTIONS {
+/// The first of these that a command has by this word.
+#[tactic(auto, unfolding(crate::specs::Options::those))]
+fn spelled(options: &[Spelling], verb: Verb, word: &str) -> Option<Opt>
+    ensures { result ≡ spec.first (spec.those (spec.has_word verb word.now) (map spec.spelling_of options.now)) }
+{
+    for (long, _, option) in options {
         if *long == word && takes(verb, *option) {
             return Some(*option);
         }
@@ -316,14 +446,31 @@ fn option_spelled(verb: Verb, word: &str) -> Option<Opt> {
     None
 }
 
-/// The first option of a command whose word begins with this one, but for the one of another word.
-fn first_from(verb: Verb, word: &str, but: &str) -> Option<(&'static str, Opt)> {
-    for (long, _, option) in &OPTIONS {
-        if long.starts_with(word) && *long != but && takes(verb, *option) {
-            return Some((*long, *option));
+/// Whether a command has an option by a word that begins with this one.
+fn begins(spelling: &Spelling, verb: Verb, word: &str) -> bool
+    ensures { result ≡ spec.has_beginning verb word.now (spec.spelling_of spelling.now) }
+{
+    spelling.0.as_bytes().starts_with(word.as_bytes()) && takes(verb, spelling.2)
+}
+
+/// Which of these a command has by a word that begins with this one, if there is only one.
+#[tactic(auto, unfolding(crate::specs::Options::those))]
+fn begun(options: &[Spelling], verb: Verb, word: &str) -> Named
+    ensures { spec.named_by result ≡ spec.only (spec.those (spec.has_beginning verb word.now) (map spec.spelling_of options.now)) }
+{
+    let mut found: Option<(&'static str, Opt)> = None;
+    for spelling in options {
+        if begins(spelling, verb, word) {
+            match found {
+                None => found = Some((spelling.0, spelling.2)),
+                Some((first, _)) => return Named::Several(first, spelling.0),
+            }
         }
     }
-    None
+    match found {
+        Some((_, option)) => Named::One(option),
+        None => Named::None,
+    }
 }
 
 /// Whether another command has an option by this word.

@@ -1,4 +1,6 @@
 //! The words that calls begin with.
+ghost use Rattle.std.specs.Prelude.{◌≡◌, map};
+ghost use Rattle.gixcfg_words.specs.Verbs as spec;
 
 /// What a call with options begins with.
 #[derive(Clone, Copy, PartialEq, Eq)]
@@ -61,8 +63,18 @@ pub fn plain_call(word: &str) -> Option<&'static str> {
 }
 
 /// The command of a word.
-pub fn verb_named(word: &str) -> Option<Verb> {
-    for (name, verb) in &COMMANDS {
+pub fn verb_named(word: &str) -> Option<Verb>
+    ensures { result ≡ spec.verb_named word.now }
+{
+    first_named(&COMMANDS, word)
+}
+
+/// The first of these commands that has a word.
+#[tactic(auto, unfolding(crate::specs::Verbs::first_named))]
+fn first_named(commands: &[(&'static str, Verb)], word: &str) -> Option<Verb>
+    ensures { result ≡ spec.first_named word.now (map spec.named_of commands.now) }
+{
+    for (name, verb) in commands {
         if *name == word {
             return Some(*verb);
         }
@@ -71,7 +83,9 @@ pub fn verb_named(word: &str) -> Option<Verb> {
 }
 
 /// What help can be asked for by a word.
-pub fn topic_named(word: &str) -> Option<Verb> {
+pub fn topic_named(word: &str) -> Option<Verb>
+    ensures { result ≡ spec.topic_named word.now }
+{
     match word {
         "forms" => Some(Verb::Forms),
         word => verb_named(word),

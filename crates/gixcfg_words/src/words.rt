@@ -1,19 +1,25 @@
 //! What the words of a call ask for.
-ghost use Rattle.std.specs.Prelude.{map};
+ghost use Rattle.std.specs.Prelude.{◌≡◌, ◌∷◌, is_some, map, option_map, Some, None};
+ghost use Rattle.gixcfg_words.specs.Asking as asking;
+ghost use Rattle.gixcfg_words.specs.Asking.{task_asked};
+ghost use Rattle.gixcfg_words.specs.Given as spec;
 ghost use Rattle.gixcfg_words.specs.Plain.{asked, IsCallOf};
+ghost use Rattle.gixcfg_words.specs.Spelling.{Gives};
+ghost use Rattle.gixcfg_words.specs.Tasks as tasks;
+ghost use Rattle.gixcfg_words.specs.Tasks.{task_of};
 
 use crate::command::{
-    Call, Check, Choice, Command, Diff, Fallback, Files, Fmt, ForUrl, Get, List, Placing, Removal,
-    Renaming, Set, Unset, Values, Wanted,
+    Call, Check, Choice, Command, Diff, Files, Fmt, ForUrl, Get, List, Placing, Removal, Renaming,
+    Set, Target, Unset, Values, Wanted,
 };
 use crate::fault::Fault;
-use crate::given::Given;
+use crate::given::{Given, given_by};
 use crate::keys::{key_of, names_of, new_names_of};
 use crate::of_git;
 use crate::options::{Alone, Opt};
 use crate::plain::plain_command;
-use crate::reading::{given_by, is_option};
 use crate::rules::Rules;
+use crate::spelled::is_option;
 use crate::verbs::{Verb, plain_call, topic_named, verb_named};
 use std::alloc::Global;
 
@@ -21,38 +27,66 @@ use std::alloc::Global;
 ///
 /// # Errors
 ///
-/// What is wrong with the first word that isn't understood, else with their number, else with how options go together. Out of memory.
+/// What is wrong with the first word that isn't understood, else with how options go together or with the number of words. Out of memory.
 pub fn read<'a>(alloc: Global, words: &[&'a str]) -> Result<Call<'a>, Fault<'a>>
-    ensures { IsCallOf (asked (map (λ w. w.now) words.now)) result }
+    ensures called { IsCallOf (asked (map (λ w. w.now) words.now)) result }
+    ensures by_git { asked (map (λ w. w.now) words.now) ≡ None → Gives (λ call. task_of call.command) (task_asked (map (λ w. w.now) words.now)) result }
 {
     match plain_command(words) {
         Some(command) => Ok(Call {
             command,
             rules: Rules::Library,
         }),
-        None => Ok(Call {
-            command: read_first(alloc, words)?,
-            rules: Rules::Git,
-        }),
+        None => match read_first(alloc, words) {
+            Ok(command) => Ok(Call {
+                command,
+                rules: Rules::Git,
+            }),
+            Err(fault) => Err(fault),
+        },
     }
 }
 
 /// What words ask for that are a call with options.
-fn read_first<'a>(alloc: Global, words: &[&'a str]) -> Result<Command<'a>, Fault<'a>> {
-    let Some((first, others)) = words.split_first() else {
-        return Err(Fault::NoCommand);
-    };
-    match *first {
-        "--version" => Ok(Command::Version),
-        "-h" | "--help" => read_help(others),
-        "help" => read_help(others),
-        "edit" => Err(Fault::Alone(Alone::Edit, first)),
-        first => match verb_named(first) {
-            Some(verb) => read_command(alloc, verb, others),
-            None if of_git::begins(first) => of_git::read(alloc, words),
-            None => Err(no_command(first)),
-        },
+fn read_first<'a>(alloc: Global, words: &[&'a str]) -> Result<Command<'a>, Fault<'a>>
+    ensures { Gives task_of (task_asked (map (λ w. w.now) words.now)) result }
+{
+    match words {
+        [] => Err(Fault::NoCommand),
+        [first, others @ ..] => read_call(alloc, first, others, words),
     }
+}
+
+/// What a first word asks for, and those behind it.
+fn read_call<'a>(
+    alloc: Global,
+    first: &'a str,
+    others: &[&'a str],
+    words: &[&'a str],
+) -> Result<Command<'a>, Fault<'a>>
+    requires { map (λ w. w.now) words.now ≡ first.now ∷ map (λ w. w.now) others.now }
+    ensures { Gives task_of (task_asked (first.now ∷ map (λ w. w.now) others.now)) result }
+{
+    if first == "--version" {
+        Ok(Command::Version)
+    } else if is_help(first) || first == "help" {
+        read_help(others)
+    } else if first == "edit" {
+        Err(Fault::Alone(Alone::Edit, first))
+    } else {
+        match verb_named(first) {
+            Some(verb) => read_command(alloc, verb, others),
+            None if begins_form(first) => of_git::read(alloc, words),
+            None => Err(no_command(first)),
+        }
+    }
+}
+
+/// Whether a call may begin with a word that is no command: it is an option, or a key.
+fn begins_form(word: &str) -> bool
+    ensures { result ≡ asking.begins_form word.now }
+{
+    is_option(word) || word.as_bytes().contains(&b'.')
 }
 
 /// Whether words are a call that says what is wrong with it by name: one with options, or of a command that has no other form. For others
@@ -73,7 +107,9 @@ fn no_command<'a>(word: &'a str) -> Fault<'a> {
 }
 
 /// The help that is asked for.
-fn read_help<'a>(words: &[&'a str]) -> Result<Command<'a>, Fault<'a>> {
+fn read_help<'a>(words: &[&'a str]) -> Result<Command<'a>, Fault<'a>>
+    ensures { Gives task_of (asking.help (map (λ w. w.now) words.now)) result }
+{
     match words {
         [] => Ok(Command::Help(None)),
         [word] => read_topic(word),
@@ -83,7 +119,9 @@ fn read_help<'a>(words: &[&'a str]) -> Result<Command<'a>, Fault<'a>> {
 }
 
 /// The help that is asked for on a word.
-fn read_topic<'a>(word: &'a str) -> Result<Command<'a>, Fault<'a>> {
+fn read_topic<'a>(word: &'a str) -> Result<Command<'a>, Fault<'a>>
+    ensures { Gives task_of (asking.topic word.now) result }
+{
     match topic_named(word) {
         Some(verb) => Ok(Command::Help(Some(verb))),
         None if is_help(word) => Ok(Command::Help(Some(Verb::Help))),
@@ -92,27 +130,38 @@ fn read_topic<'a>(word: &'a str) -> Result<Command<'a>, Fault<'a>> {
 }
 
 /// Whether a word asks for help.
-fn is_help(word: &str) -> bool {
-    matches!(word, "-h" | "--help")
+fn is_help(word: &str) -> bool
+    ensures { result ≡ asking.is_help word.now }
+{
+    word == "-h" || word == "--help"
 }
 
 /// What the words after a command ask for.
-fn read_command<'a>(
-    alloc: Global,
-    verb: Verb,
-    words: &[&'a str],
-) -> Result<Command<'a>, Fault<'a>> {
-    let given = given_by(alloc, verb, words)?;
+fn read_command<'a>(alloc: Global, verb: Verb, words: &[&'a str]) -> Result<Command<'a>, Fault<'a>>
+    ensures { Gives task_of (asking.asked_of verb (map (λ w. w.now) words.now)) result }
+{
+    match given_by(alloc, verb, words) {
+        Ok(given) if given.has(Opt::Help) => Ok(Command::Help(Some(verb))),
+        Ok(given) => command_of(verb, given),
+        Err(fault) => Err(fault),
+    }
+}
+
+/// The command of a word, with what it is given.
+fn command_of<'a>(verb: Verb, given: Given<'a>) -> Result<Command<'a>, Fault<'a>>
+    ensures { Gives task_of (asking.task verb (spec.seen given.entry)) result }
+{
     match verb {
-        _ if given.has(Opt::Help) => Ok(Command::Help(Some(verb))),
         Verb::Fmt => fmt(given),
         Verb::Check => check(given),
-        verb => command_of(&given, verb),
+        verb => command_by(verb, &given),
     }
 }
 
 /// The command that is none on several files.
-fn command_of<'a>(given: &Given<'a>, verb: Verb) -> Result<Command<'a>, Fault<'a>> {
+fn command_by<'a>(verb: Verb, given: &Given<'a>) -> Result<Command<'a>, Fault<'a>>
+    ensures { Gives task_of (asking.task_by verb (spec.seen given.now)) result }
+{
     match verb {
         Verb::Get => get(given),
         Verb::Set => set(given),
@@ -126,14 +175,30 @@ fn command_of<'a>(given: &Given<'a>, verb: Verb) -> Result<Command<'a>, Fault<'a
 }
 
 /// What `get` is asked for.
-fn get<'a>(given: &Given<'a>) -> Result<Command<'a>, Fault<'a>> {
+fn get<'a>(given: &Given<'a>) -> Result<Command<'a>, Fault<'a>>
+    ensures { Gives task_of (asking.get (spec.seen given.now)) result }
+{
     let word = given.word()?;
     let choice = choice_of(given, word)?;
     let values = given.values(given.word_of(Opt::Value))?;
-    match (given.word_of(Opt::Url), beside_url(given)) {
-        (Some(_), Some(option)) => Err(Fault::Both(option, "--url")),
-        (Some(url), None) => Ok(for_url(given, word, url)),
-        (None, _) => getting(given, word, values, choice),
+    got(given, word, values, choice)
+}
+
+/// The entries for a URL, or those that have such values.
+fn got<'a>(
+    given: &Given<'a>,
+    word: &'a str,
+    values: Values<'a>,
+    choice: Choice<'a>,
+) -> Result<Command<'a>, Fault<'a>>
+    ensures { Gives task_of (asking.got (spec.seen given.now) word.now (tasks.which_of values.entry) (tasks.chosen_of choice.entry)) result }
+{
+    match given.word_of(Opt::Url) {
+        Some(url) => match beside_url(given) {
+            Some(option) => Err(Fault::Both(option, "--url")),
+            None => Ok(for_url(given, word, url)),
+        },
+        None => getting(given, word, values, choice),
     }
 }
 
@@ -143,10 +208,13 @@ fn getting<'a>(
     word: &'a str,
     values: Values<'a>,
     choice: Choice<'a>,
-) -> Result<Command<'a>, Fault<'a>> {
+) -> Result<Command<'a>, Fault<'a>>
+    ensures { Gives task_of (asking.getting (spec.seen given.now) word.now (tasks.which_of values.entry) (tasks.chosen_of choice.entry)) result }
+{
+    let wanted = wanted_by(given, word)?;
     Ok(Command::Get(Get {
         reading: given.reading(),
-        wanted: wanted_by(given, word)?,
+        wanted,
         values,
         choice,
         form: given.form(given.has(Opt::ShowNames)),
@@ -154,7 +222,9 @@ fn getting<'a>(
 }
 
 /// An option that doesn't go with `--url`, if one is given.
-fn beside_url(given: &Given<'_>) -> Option<&'static str> {
+fn beside_url(given: &Given<'_>) -> Option<&'static str>
+    ensures { is_some result ≡ asking.is_beside_url (spec.seen given.now) }
+{
     if given.has(Opt::All) {
         Some("--all")
     } else if given.has(Opt::Regexp) {
@@ -169,11 +239,24 @@ fn beside_url(given: &Given<'_>) -> Option<&'static str> {
 }
 
 /// The entries for a URL, by a word: a section, all of whose variables are meant, or a section and a variable with a dot between them.
-pub(crate) fn for_url<'a>(given: &Given<'a>, word: &'a str, url: &'a str) -> Command<'a> {
-    let (section_name, value_name) = match word.split_once('.') {
-        Some((section_name, value_name)) => (section_name, Some(value_name)),
-        None => (word, None),
-    };
+pub(crate) fn for_url<'a>(given: &Given<'a>, word: &'a str, url: &'a str) -> Command<'a>
+    ensures { task_of result ≡ asking.for_url (spec.seen given.now) word.now url.now }
+{
+    match word.split_once('.') {
+        Some((section_name, value_name)) => url_asked(given, url, section_name, Some(value_name)),
+        None => url_asked(given, url, word, None),
+    }
+}
+
+/// The entries for a URL of a section, or of a variable of it.
+fn url_asked<'a>(
+    given: &Given<'a>,
+    url: &'a str,
+    section_name: &'a str,
+    value_name: Option<&'a str>,
+) -> Command<'a>
+    ensures { task_of result ≡ asking.url_asked (spec.seen given.now) url.now section_name.now (option_map (λ v. v.now) value_name.entry) }
+{
     Command::Get(Get {
         reading: given.reading(),
         wanted: Wanted::ForUrl(ForUrl {
@@ -188,46 +271,53 @@ pub(crate) fn for_url<'a>(given: &Given<'a>, word: &'a str, url: &'a str) -> Com
 }
 
 /// Which of the entries `get` prints that are asked for by a word.
-fn choice_of<'a>(given: &Given<'a>, word: &'a str) -> Result<Choice<'a>, Fault<'a>> {
-    match (given.has(Opt::All), given.word_of(Opt::Default)) {
-        (true, Some(_)) => Err(Fault::Both("--all", "--default")),
-        (true, None) => Ok(Choice::All),
-        (false, _) => Ok(last(given, word)),
-    }
-}
-
-/// The last of the entries that are asked for by a word, or what is given as `--default`.
-pub(crate) fn last<'a>(given: &Given<'a>, word: &'a str) -> Choice<'a> {
-    Choice::Last {
-        default: match given.word_of(Opt::Default) {
-            Some(value) => Some(Fallback { word, value }),
-            None => None,
-        },
+fn choice_of<'a>(given: &Given<'a>, word: &'a str) -> Result<Choice<'a>, Fault<'a>>
+    ensures { Gives tasks.chosen_of (asking.choice (spec.seen given.now) word.now) result }
+{
+    if given.has(Opt::All) {
+        match given.word_of(Opt::Default) {
+            Some(_) => Err(Fault::Both("--all", "--default")),
+            None => Ok(Choice::All),
+        }
+    } else {
+        Ok(given.last(word))
     }
 }
 
 /// What `get` looks for by a word.
-fn wanted_by<'a>(given: &Given<'a>, word: &'a str) -> Result<Wanted<'a>, Fault<'a>> {
+fn wanted_by<'a>(given: &Given<'a>, word: &'a str) -> Result<Wanted<'a>, Fault<'a>>
+    ensures { Gives tasks.sought_of (asking.sought (spec.seen given.now) word.now) result }
+{
     if given.has(Opt::Regexp) {
         Ok(Wanted::Keys(word))
     } else {
-        Ok(Wanted::Key(key_of(word)?))
+        match key_of(word) {
+            Ok(key) => Ok(Wanted::Key(key)),
+            Err(fault) => Err(fault),
+        }
     }
 }
 
 /// All entries.
-pub(crate) fn list<'a>(given: &Given<'a>) -> Result<Command<'a>, Fault<'a>> {
-    given.no_words()?;
-    Ok(Command::List(List {
-        reading: given.reading(),
-        form: given.form(true),
-    }))
+pub(crate) fn list<'a>(given: &Given<'a>) -> Result<Command<'a>, Fault<'a>>
+    ensures { Gives task_of (asking.list (spec.seen given.now)) result }
+{
+    match given.spelled.words.first() {
+        None => Ok(Command::List(List {
+            reading: given.reading(),
+            form: given.form(true),
+        })),
+        Some(word) => Err(Fault::TooMany(given.verb, word)),
+    }
 }
 
 /// What `set` is asked for.
-fn set<'a>(given: &Given<'a>) -> Result<Command<'a>, Fault<'a>> {
+fn set<'a>(given: &Given<'a>) -> Result<Command<'a>, Fault<'a>>
+    ensures { Gives task_of (asking.set (spec.seen given.now)) result }
+{
     let (key, value) = given.two_words()?;
-    setting(given, key, value, placing_of(given)?)
+    let placing = placing_of(given)?;
+    setting(given, key, value, placing)
 }
 
 /// A value for a key.
@@ -236,10 +326,14 @@ pub(crate) fn setting<'a>(
     key: &'a str,
     value: &'a str,
     placing: Placing<'a>,
-) -> Result<Command<'a>, Fault<'a>> {
+) -> Result<Command<'a>, Fault<'a>>
+    ensures { Gives task_of (asking.setting (spec.seen given.now) key.now value.now (tasks.placed_of placing.entry)) result }
+{
+    let target = given.target()?;
+    let key = key_of(key)?;
     Ok(Command::Set(Set {
-        target: given.target()?,
-        key: key_of(key)?,
+        target,
+        key,
         value,
         kind: given.kind,
         placing,
@@ -249,11 +343,26 @@ pub(crate) fn setting<'a>(
 }
 
 /// Which entries `set` gives the value to.
-fn placing_of<'a>(given: &Given<'a>) -> Result<Placing<'a>, Fault<'a>> {
+fn placing_of<'a>(given: &Given<'a>) -> Result<Placing<'a>, Fault<'a>>
+    ensures { Gives tasks.placed_of (asking.placing (spec.seen given.now)) result }
+{
     let values = given.values(given.word_of(Opt::Value))?;
-    match (given.has(Opt::Append), given.has(Opt::All)) {
+    let (is_new, is_all) = (given.has(Opt::Append), given.has(Opt::All));
+    placing_by(is_new, is_all, given.has(Opt::Value), values)
+}
+
+/// Which entries are given a value: a new one, or those that have such values.
+fn placing_by<'a>(
+    is_new: bool,
+    is_all: bool,
+    has_value: bool,
+    values: Values<'a>,
+) -> Result<Placing<'a>, Fault<'a>>
+    ensures { Gives tasks.placed_of (asking.placing_by is_new is_all has_value (tasks.which_of values.entry)) result }
+{
+    match (is_new, is_all) {
         (true, true) => Err(Fault::Both("--all", "--append")),
-        (true, false) if given.has(Opt::Value) => Err(Fault::Both("--append", "--value")),
+        (true, false) if has_value => Err(Fault::Both("--append", "--value")),
         (true, false) => Ok(Placing::New),
         (false, true) => Ok(Placing::All(values)),
         (false, false) => Ok(Placing::Only(values)),
@@ -261,8 +370,19 @@ fn placing_of<'a>(given: &Given<'a>) -> Result<Placing<'a>, Fault<'a>> {
 }
 
 /// What `unset` is asked for.
-fn unset<'a>(given: &Given<'a>) -> Result<Command<'a>, Fault<'a>> {
-    let key = given.word()?;
+fn unset<'a>(given: &Given<'a>) -> Result<Command<'a>, Fault<'a>>
+    ensures { Gives task_of (asking.unset (spec.seen given.now)) result }
+{
+    match given.word() {
+        Ok(key) => unset_named(given, key),
+        Err(fault) => Err(fault),
+    }
+}
+
+/// A key without its entry, or its entries.
+fn unset_named<'a>(given: &Given<'a>, key: &'a str) -> Result<Command<'a>, Fault<'a>>
+    ensures { Gives task_of (asking.unset_named (spec.seen given.now) key.now) result }
+{
     unsetting(given, key, given.word_of(Opt::Value), given.has(Opt::All))
 }
 
@@ -272,39 +392,53 @@ pub(crate) fn unsetting<'a>(
     key: &'a str,
     pattern: Option<&'a str>,
     is_all: bool,
-) -> Result<Command<'a>, Fault<'a>> {
+) -> Result<Command<'a>, Fault<'a>>
+    ensures { Gives task_of (asking.unsetting (spec.seen given.now) key.now (option_map (λ p. p.now) pattern.entry) is_all) result }
+{
+    let target = given.target()?;
+    let key = key_of(key)?;
+    let values = given.values(pattern)?;
     Ok(Command::Unset(Unset {
-        target: given.target()?,
-        key: key_of(key)?,
-        values: given.values(pattern)?,
+        target,
+        key,
+        values,
         is_all,
         is_synced: given.is_synced(),
     }))
 }
 
 /// What `rename-section` is asked for.
-pub(crate) fn renaming<'a>(given: &Given<'a>) -> Result<Command<'a>, Fault<'a>> {
+pub(crate) fn renaming<'a>(given: &Given<'a>) -> Result<Command<'a>, Fault<'a>>
+    ensures { Gives task_of (asking.renaming (spec.seen given.now)) result }
+{
     let (old, new) = given.two_words()?;
+    let target = given.target()?;
+    let new = new_names_of(new)?;
     Ok(Command::RenameSection(Renaming {
-        target: given.target()?,
+        target,
         old: names_of(old),
-        new: new_names_of(new)?,
+        new,
         is_synced: given.is_synced(),
     }))
 }
 
 /// What `remove-section` is asked for.
-pub(crate) fn removal<'a>(given: &Given<'a>) -> Result<Command<'a>, Fault<'a>> {
+pub(crate) fn removal<'a>(given: &Given<'a>) -> Result<Command<'a>, Fault<'a>>
+    ensures { Gives task_of (asking.removal (spec.seen given.now)) result }
+{
     let word = given.word()?;
+    let target = given.target()?;
     Ok(Command::RemoveSection(Removal {
-        target: given.target()?,
+        target,
         names: names_of(word),
         is_synced: given.is_synced(),
     }))
 }
 
 /// What `diff` is asked for.
-fn diff<'a>(given: &Given<'a>) -> Result<Command<'a>, Fault<'a>> {
+fn diff<'a>(given: &Given<'a>) -> Result<Command<'a>, Fault<'a>>
+    ensures { Gives task_of (asking.diff (spec.seen given.now)) result }
+{
     let (one, other) = given.two_words()?;
     if one == "-" && other == "-" {
         return Err(Fault::TwoInputs);
@@ -318,30 +452,42 @@ fn diff<'a>(given: &Given<'a>) -> Result<Command<'a>, Fault<'a>> {
 }
 
 /// What `fmt` is asked for.
-fn fmt<'a>(given: Given<'a>) -> Result<Command<'a>, Fault<'a>> {
+fn fmt<'a>(given: Given<'a>) -> Result<Command<'a>, Fault<'a>>
+    ensures { Gives task_of (asking.fmt (spec.seen given.entry)) result }
+{
     let target = given.target()?;
-    let files = match given.words.first() {
-        Some(word) if given.has_file() => return Err(Fault::TwoFiles(word)),
-        Some(_) => None,
-        None => Some(target),
-    };
-    let (is_check, indent, newline) = (given.has(Opt::Check), given.indent, given.newline);
+    let named = given.file.is_some();
+    match given.spelled.words.first() {
+        Some(word) if named => Err(Fault::TwoFiles(word)),
+        Some(_) => Ok(fmt_of(given, None)),
+        None => Ok(fmt_of(given, Some(target))),
+    }
+}
+
+/// That a file is laid out, or those that the words name.
+fn fmt_of<'a>(given: Given<'a>, target: Option<Target<'a>>) -> Command<'a>
+    ensures { task_of result ≡ asking.laid_by (spec.seen given.entry) (option_map tasks.where_of target.entry) }
+{
+    let (is_check, indent, newline) = (given.has(Opt::Check), given.indent(), given.newline());
     let is_synced = given.is_synced();
-    Ok(Command::Fmt(Fmt {
-        files: match files {
-            Some(target) => Files::One(target),
-            None => Files::Paths(given.into_words()),
-        },
+    let files = match target {
+        Some(target) => Files::One(target),
+        None => Files::Paths(given.into_words()),
+    };
+    Command::Fmt(Fmt {
+        files,
         is_check,
         indent,
         newline,
         is_synced,
-    }))
+    })
 }
 
 /// What `check` is asked for.
-fn check<'a>(given: Given<'a>) -> Result<Command<'a>, Fault<'a>> {
-    if given.words.is_empty() {
+fn check<'a>(given: Given<'a>) -> Result<Command<'a>, Fault<'a>>
+    ensures { Gives task_of (asking.check (spec.seen given.entry)) result }
+{
+    if given.spelled.words.is_empty() {
         return Err(Fault::TooFew(Verb::Check));
     }
     let (is_quiet, is_lenient) = (given.has(Opt::Quiet), given.has(Opt::Lenient));

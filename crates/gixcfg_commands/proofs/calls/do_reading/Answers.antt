@@ -2,7 +2,7 @@ use Rattle.std.proofs.Common.{◌≡◌, ◌∙◌, Ok}
 use Rattle.gixcfg_words.specs.declared.command.Source.TheVariants as sources
 use Rattle.gixcfg_words.specs.declared.command.Target.TheVariants as targets
 use Rattle.gixcfg_core.specs.declared.origins.Located.TheVariants as places
-use Rattle.gixcfg_commands.proofs.PlainLemmas.{asked_source, shown_so}
+use Rattle.gixcfg_commands.proofs.PlainLemmas.{asked_source, ends_so}
 use Rattle.gixcfg_commands.proofs.calls.do_reading.Goals as goal
 
 pub returns-in-Ok-clause-plain : goal.returns-in-Ok-clause-plain
@@ -10,8 +10,8 @@ returns-in-Ok-clause-plain g c = λ plain is on by.
     let told : c.source.result ≡ sources.Target targets.Input = c.source.ensures ∙ asked_source c.args.asked plain is on in
     let found = c.located.ensures told in
     let at : c.in-Ok.read ≡ places.Input = cc (found, c.in-Ok.is) in
-    shown_so (λ lines. lines.items) plain (g.I.Read.remaining c.args.inputs.now.input) (g.W.Write.contents c.args.out.now) (g.W.Write.contents c.show.new.out) c.answer-lines.result c.show.result
-    (c.answer-lines.ensures plain is on by at) c.show.ensures.shown
+    ends_so plain (g.I.Read.remaining c.args.inputs.now.input) (g.W.Write.contents c.args.out.now) (g.W.Write.contents c.put_answer-done.new.out) c.put_answer-done.result c.end.result
+    (c.put_answer-done.ensures plain is on by at) c.end.ensures.value
 
 pub returns-in-Err-clause-plain : goal.returns-in-Err-clause-plain
 returns-in-Err-clause-plain g c = λ plain is on by.

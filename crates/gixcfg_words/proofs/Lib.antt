@@ -1,0 +1,4 @@
+mod Behind
+mod Calls
+mod Counts
+mod Letters
