@@ -392,7 +392,7 @@ typedef struct gix_config_assigned {
     gix_config_text value;
 } gix_config_assigned;
 
-/* Where some bytes lie in the text of a view. */
+/* Where some bytes lie in the text of a view. A zero byte is behind them, which they don't count. */
 typedef struct gix_config_part {
     /* The place of the first one, from 0. */
     size_t at;
@@ -438,6 +438,9 @@ typedef struct gix_config_section_row {
     size_t entries_at;
     /* How many entries it has: they stand one after the other. */
     size_t entries_len;
+    /* Its number in its file, which stays whatever is added or removed around it, and which no other section
+     * gets. */
+    size_t number;
 } gix_config_section_row;
 
 /* All sections and entries of a file as it was when the view was made. They are the program's to read until it
@@ -455,7 +458,7 @@ typedef struct gix_config_view {
     const gix_config_origin_row *origins;
     /* How many they are. */
     size_t origins_len;
-    /* The bytes of names, values and paths. */
+    /* The bytes of names, values and paths, each with a zero byte behind it. */
     const uint8_t *text;
     /* How many they are. */
     size_t text_len;

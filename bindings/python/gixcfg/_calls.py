@@ -428,7 +428,7 @@ class Assigned(Structure):
 
 
 class Part(Structure):
-    """Where some bytes lie in the text of a view."""
+    """Where some bytes lie in the text of a view. A zero byte is behind them, which they don't count."""
 
     at: int
     len: int
@@ -480,6 +480,7 @@ class SectionRow(Structure):
     origin: int
     entries_at: int
     entries_len: int
+    number: int
 
     _fields_ = [
         ("name", Part),
@@ -488,6 +489,7 @@ class SectionRow(Structure):
         ("origin", c_size_t),
         ("entries_at", c_size_t),
         ("entries_len", c_size_t),
+        ("number", c_size_t),
     ]
 
 

@@ -426,7 +426,7 @@ pub(crate) struct Assigned<'a> {
     pub(crate) value: Text<'a>,
 }
 
-/// Where some bytes lie in the text of a view.
+/// Where some bytes lie in the text of a view. A zero byte is behind them, which they don't count.
 #[repr(C)]
 #[derive(Clone, Copy, Default)]
 pub(crate) struct Part {
@@ -480,6 +480,9 @@ pub(crate) struct SectionRow {
     pub(crate) entries_at: usize,
     /// How many entries it has: they stand one after the other.
     pub(crate) entries_len: usize,
+    /// Its number in its file, which stays whatever is added or removed around it, and which no
+    /// other section gets.
+    pub(crate) number: usize,
 }
 
 /// All sections and entries of a file as it was when the view was made. They are the program's to
@@ -498,7 +501,7 @@ pub(crate) struct View {
     pub(super) origins: *const OriginRow,
     /// How many they are.
     pub(super) origins_len: usize,
-    /// The bytes of names, values and paths.
+    /// The bytes of names, values and paths, each with a zero byte behind it.
     pub(super) text: *const u8,
     /// How many they are.
     pub(super) text_len: usize,
