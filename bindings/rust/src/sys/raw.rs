@@ -671,6 +671,18 @@ extern "C" {
         origin: *mut Origin,
         path: *mut Bytes,
     ) -> u32;
+    pub(super) fn gix_config_set_nth_value(
+        file: *mut File,
+        key: *const Key<'_>,
+        index: usize,
+        value: *const u8,
+        value_len: usize,
+    ) -> u32;
+    pub(super) fn gix_config_delete_nth_value(
+        file: *mut File,
+        key: *const Key<'_>,
+        index: usize,
+    ) -> u32;
     pub(super) fn gix_config_push_line_at(
         file: *mut File,
         place: usize,
@@ -757,6 +769,11 @@ extern "C" {
         file: *const File,
         index: usize,
         list: *mut List,
+    ) -> u32;
+    pub(super) fn gix_config_section_text(
+        file: *const File,
+        place: usize,
+        text: *mut Bytes,
     ) -> u32;
     pub(super) fn gix_config_section_remove(file: *mut File, section: *const Section<'_>) -> u32;
     pub(super) fn gix_config_section_new(file: *mut File, section: *const Section<'_>) -> u32;
