@@ -14,6 +14,7 @@ pub use crate::ids::SectionId;
 pub use crate::includes;
 pub use crate::init;
 pub use crate::meta::Metadata;
+pub use crate::multi_value_mut::MultiValueMut;
 pub use crate::section::{self, Section, SectionMut};
 pub use crate::text::{AsBStr, AsBStrOpt, IntoBStringOpt};
 pub use crate::value_mut::ValueMut;
@@ -493,7 +494,7 @@ impl File {
 
     /// The place of the section that has the number, if one has it.
     fn place_of(&self, id: SectionId) -> Option<usize> {
-        self.sys.ids().place(id, self.sections().len())
+        self.sys.seen().place(id)
     }
 
     /// An editor of the section that has the number, if one has it.

@@ -138,6 +138,12 @@ impl<'a> SectionMut<'a> {
         self.section().id()
     }
 
+    /// [`SectionRef::to_bstring`] of the section as it is now.
+    #[must_use]
+    pub fn to_bstring(&self) -> BString {
+        self.section().to_bstring()
+    }
+
     /// [`BodyRef::value_names`] of the section as it is now.
     pub fn value_names(&self) -> impl DoubleEndedIterator<Item = String> + ExactSizeIterator + '_ {
         self.section().body().value_names()

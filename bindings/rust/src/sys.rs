@@ -10,10 +10,9 @@ use std::mem::MaybeUninit;
 
 use bstr::BString;
 
-use crate::ids::Ids;
 use crate::includes::Found;
 use crate::meta;
-use crate::view::Seen;
+use crate::view::{Rows, Seen};
 
 // (as tools/c_header writes it)
 #[rustfmt::skip]
@@ -382,11 +381,9 @@ pub(crate) struct File {
     // (a call has the handle for itself, also one that only reads)
     handle: UnsafeCell<raw::File>,
     /// Its sections, until it is edited.
-    seen: Lazy<Seen>,
+    rows: Lazy<Rows>,
     /// Where it comes from, until it is edited.
     meta: Lazy<meta::Metadata>,
-    /// The numbers of its sections.
-    ids: Ids,
 }
 
 impl File {
@@ -396,9 +393,8 @@ impl File {
             handle: UnsafeCell::new(raw::File {
                 at: std::ptr::null_mut(),
             }),
-            seen: Lazy::default(),
+            rows: Lazy::default(),
             meta: Lazy::default(),
-            ids: Ids::default(),
         }
     }
 
@@ -408,14 +404,14 @@ impl File {
 
     /// The handle for a call that edits the file.
     fn edited(&mut self) -> *mut raw::File {
-        self.seen.clear();
+        self.rows.clear();
         self.meta.clear();
         self.at()
     }
 
     /// The sections, as they are until the file is edited.
-    pub(crate) fn seen(&self) -> &Seen {
-        self.seen.get(|| {
+    pub(crate) fn seen(&self) -> Seen<'_> {
+        let rows = self.rows.get(|| {
             let mut view = View(raw::View {
                 sections: std::ptr::null(),
                 sections_len: 0,
@@ -429,12 +425,9 @@ impl File {
             });
             // SAFETY: the handle has a file, which no other call has now, and the view is a new one.
             surely(unsafe { raw::gix_config_view_file(self.at(), &mut view.0) });
-            Seen::of(view, self.ids.clone())
-        })
-    }
-
-    pub(crate) fn ids(&self) -> &Ids {
-        &self.ids
+            Rows::of(view)
+        });
+        Seen::of(self, rows)
     }
 
     /// The file of a text; else the number, and where the text is refused.
@@ -498,17 +491,12 @@ impl File {
                 }
             }
         };
-        let loaded = done(answer);
-        if loaded.is_ok() {
-            self.ids = Ids::default();
-        }
-        (loaded, asked)
+        (done(answer), asked)
     }
 
     /// A copy.
     pub(crate) fn copy(&self) -> Self {
-        let mut copy = File::empty();
-        copy.ids = self.ids.clone();
+        let copy = File::empty();
         // SAFETY: the handle has a file, and the other is a new one.
         surely(unsafe { raw::gix_config_file_clone(self.at(), copy.at()) });
         copy
@@ -539,6 +527,14 @@ impl File {
                 Some(filter) => raw::gix_config_file_text_filter(self.at(), filter, &mut text.0),
             }
         });
+        text
+    }
+
+    /// The text of the section at a place, where there is one.
+    pub(crate) fn section_text(&self, place: usize) -> Bytes {
+        let mut text = Bytes::empty();
+        // SAFETY: the handle has a file, which no other call has now.
+        surely(unsafe { raw::gix_config_section_text(self.at(), place, &mut text.0) });
         text
     }
 
@@ -648,6 +644,24 @@ impl File {
         done(unsafe { raw::gix_config_set_existing_values(self.edited(), key, at, len) })
     }
 
+    /// Gives one of the entries of a key another value.
+    pub(crate) fn set_nth_value(
+        &mut self,
+        key: &Key<'_>,
+        index: usize,
+        value: &[u8],
+    ) -> Result<(), Number> {
+        let (at, len) = (value.as_ptr(), value.len());
+        // SAFETY: the handle has a file, and the value is as long as is said.
+        done(unsafe { raw::gix_config_set_nth_value(self.edited(), key, index, at, len) })
+    }
+
+    /// Deletes one of the entries of a key, where there is one.
+    pub(crate) fn delete_nth_value(&mut self, key: &Key<'_>, index: usize) {
+        // SAFETY: the handle has a file.
+        surely(unsafe { raw::gix_config_delete_nth_value(self.edited(), key, index) });
+    }
+
     pub(crate) fn new_section(&mut self, names: &Section<'_>) -> Result<(), Number> {
         // SAFETY: the handle has a file.
         done(unsafe { raw::gix_config_section_new(self.edited(), names) })
@@ -664,8 +678,6 @@ impl File {
 
     /// Removes the section at a place, where there is one.
     pub(crate) fn remove_section_at(&mut self, place: usize) {
-        let sections = self.seen().sections().len();
-        self.ids.remove(place, sections);
         // SAFETY: the handle has a file.
         surely(unsafe { raw::gix_config_section_remove_at(self.edited(), place) });
     }

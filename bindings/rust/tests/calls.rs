@@ -357,9 +357,13 @@ fn includes_are_put_where_they_stand() {
     assert_eq!(files.1, 3);
 
     let mut other = File::try_from("[include]\n\tpath = /b\n[x]\n").expect("a text");
+    let own: Vec<_> = other.section_ids().collect();
     other
         .resolve_includes_of(options, &mut files)
         .expect("files");
+    let all: Vec<_> = other.section_ids().collect();
+    assert_eq!((all[0], all[2]), (own[0], own[1]));
+    assert!(!own.contains(&all[1]));
     assert_eq!(
         other.to_string(),
         "[include]\n\tpath = /b\n[y]\n\tk = 2\n[x]\n"
@@ -1249,6 +1253,67 @@ fn editors_of_values() {
     assert_eq!(bare.get(), Err(lookup::existing::Error::KeyMissing));
     let none = file.raw_value_mut_filter("a.k", |_| false);
     assert_eq!(none.map(drop), Err(lookup::existing::Error::KeyMissing));
+}
+
+#[test]
+fn editors_of_several_values() {
+    let text = "[a]\n\tk = 1\n[b]\n[A]\n\tk = 3 ; three\n\tK\n[a \"s\"]\n\tk = 4\n";
+    let mut file = File::try_from(text).expect("a text");
+    let mut values = file.raw_values_mut("a.k").expect("entries");
+    assert_eq!(values.get(), Ok(texts(&["1", "3", ""])));
+    assert_eq!((values.len(), values.is_empty()), (3, false));
+    values.set_values(["x", "y"]).expect("room");
+    values.set_string_at(2, "z w").expect("room");
+    assert_eq!(values.get(), Ok(texts(&["x", "y", "z w"])));
+    values.delete(1);
+    values.set_at(1, "v").expect("room");
+    assert_eq!(values.get(), Ok(texts(&["x", "v"])));
+    let text = "[a]\n\tk = x\n[b]\n[A]\n\t ; three\n\tk = v\n[a \"s\"]\n\tk = 4\n";
+    assert_eq!(file.to_string(), text);
+
+    let first = file.section_ids().next().expect("a section");
+    let mut editor = file.section_mut_by_id(first).expect("a section");
+    editor.set_trust(Trust::Reduced);
+    let trusted = |meta: &Metadata| meta.trust == Trust::Full;
+    let mut values = file
+        .raw_values_mut_filter_by("a", None, "K", trusted)
+        .expect("entries");
+    assert_eq!(values.get(), Ok(texts(&["v"])));
+    values.set_all("all").expect("room");
+    assert_eq!(file.strings("a.k"), Some(texts(&["x", "all"])));
+    let mut values = file.raw_values_mut_by("a", None, "k").expect("entries");
+    values.delete_all();
+    assert!(values.is_empty());
+    assert_eq!(values.get(), Err(lookup::existing::Error::KeyMissing));
+    assert_eq!(file.strings("a.k"), None);
+    let number = |key, kept| {
+        let mut file = File::try_from("[a]\n\tk = 1\n").expect("a text");
+        let values = file.raw_values_mut_filter(key, |_| kept);
+        values.map(drop).map_err(|it| it.number())
+    };
+    assert_eq!(
+        (number("a.k", true), number("a.k", false)),
+        (Ok(()), Err(9))
+    );
+    assert_eq!((number("a.j", true), number("b.k", true)), (Err(9), Err(7)));
+    assert_eq!(
+        (number("a.s.k", true), number("a.1", true)),
+        (Err(8), Err(6))
+    );
+}
+
+#[test]
+fn texts_of_sections() {
+    let mut file = File::try_from("# mine\n[a]\n\tk = 1 ; one\n\n# b\n[b \"x\"]").expect("a text");
+    let told: Vec<_> = file.sections().map(|it| it.to_bstring()).collect();
+    assert_eq!(told, ["[a]\n\tk = 1 ; one\n\n# b\n", "[b \"x\"]"]);
+    let mut written = Vec::new();
+    let section = file.section("b", "x").expect("a section");
+    section.write_to(&mut written).expect("memory");
+    assert_eq!(written.as_bstr(), "[b \"x\"]");
+    let mut editor = file.section_mut("a", None).expect("a section");
+    editor.set("k", "2").expect("a value");
+    assert_eq!(editor.to_bstring(), "[a]\n\tk = 2 ; one\n\n# b\n");
 }
 
 #[test]
