@@ -542,9 +542,8 @@ impl File {
     ) -> Result<SectionMut<'_>, header::Error> {
         let subsection_name = subsection_name.into_bstring_opt();
         let names = section_names(name.as_ref(), subsection_name.as_ref().map(AsBStr::as_bstr));
-        self.sys.new_section(&names).map_err(header::Error::of)?;
-        let last = self.sections().len() - 1;
-        Ok(SectionMut::at(self, last))
+        let place = self.sys.new_section(&names).map_err(header::Error::of)?;
+        Ok(SectionMut::at(self, place))
     }
 
     /// [`File::section_mut`], or [`File::new_section`] if there is no such section.

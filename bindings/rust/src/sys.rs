@@ -4,7 +4,7 @@
 //! that a call doesn't answer is a panic that names it.
 #![allow(unsafe_code)]
 
-use std::cell::UnsafeCell;
+use std::cell::{Cell, UnsafeCell};
 use std::marker::PhantomData;
 use std::mem::MaybeUninit;
 
@@ -384,6 +384,8 @@ pub(crate) struct File {
     rows: Lazy<Rows>,
     /// Where it comes from, until it is edited.
     meta: Lazy<meta::Metadata>,
+    /// How many sections it has, if that is known.
+    count: Cell<Option<usize>>,
 }
 
 impl File {
@@ -395,6 +397,7 @@ impl File {
             }),
             rows: Lazy::default(),
             meta: Lazy::default(),
+            count: Cell::default(),
         }
     }
 
@@ -404,9 +407,23 @@ impl File {
 
     /// The handle for a call that edits the file.
     fn edited(&mut self) -> *mut raw::File {
+        self.count.set(None);
+        self.edited_inside()
+    }
+
+    /// The handle for a call that edits the file, and makes and removes no section.
+    fn edited_inside(&mut self) -> *mut raw::File {
         self.rows.clear();
         self.meta.clear();
         self.at()
+    }
+
+    /// How many sections there are.
+    pub(crate) fn count(&self) -> usize {
+        let count = self.count.get();
+        let count = count.unwrap_or_else(|| self.seen().sections().len());
+        self.count.set(Some(count));
+        count
     }
 
     /// The sections, as they are until the file is edited.
@@ -631,7 +648,7 @@ impl File {
     pub(crate) fn set_existing_value(&mut self, key: &Key<'_>, value: &[u8]) -> Result<(), Number> {
         let (at, len) = (value.as_ptr(), value.len());
         // SAFETY: the handle has a file, and the value is as long as is said.
-        done(unsafe { raw::gix_config_set_existing_value(self.edited(), key, at, len) })
+        done(unsafe { raw::gix_config_set_existing_value(self.edited_inside(), key, at, len) })
     }
 
     pub(crate) fn set_existing_values(
@@ -641,7 +658,7 @@ impl File {
     ) -> Result<(), Number> {
         let (at, len) = (values.as_ptr(), values.len());
         // SAFETY: the handle has a file, and there are as many values as is said, which lie there until the call is done.
-        done(unsafe { raw::gix_config_set_existing_values(self.edited(), key, at, len) })
+        done(unsafe { raw::gix_config_set_existing_values(self.edited_inside(), key, at, len) })
     }
 
     /// Gives one of the entries of a key another value.
@@ -653,18 +670,22 @@ impl File {
     ) -> Result<(), Number> {
         let (at, len) = (value.as_ptr(), value.len());
         // SAFETY: the handle has a file, and the value is as long as is said.
-        done(unsafe { raw::gix_config_set_nth_value(self.edited(), key, index, at, len) })
+        done(unsafe { raw::gix_config_set_nth_value(self.edited_inside(), key, index, at, len) })
     }
 
     /// Deletes one of the entries of a key, where there is one.
     pub(crate) fn delete_nth_value(&mut self, key: &Key<'_>, index: usize) {
         // SAFETY: the handle has a file.
-        surely(unsafe { raw::gix_config_delete_nth_value(self.edited(), key, index) });
+        surely(unsafe { raw::gix_config_delete_nth_value(self.edited_inside(), key, index) });
     }
 
-    pub(crate) fn new_section(&mut self, names: &Section<'_>) -> Result<(), Number> {
+    /// Makes a section after all others, and returns its place.
+    pub(crate) fn new_section(&mut self, names: &Section<'_>) -> Result<usize, Number> {
+        let place = self.count();
         // SAFETY: the handle has a file.
-        done(unsafe { raw::gix_config_section_new(self.edited(), names) })
+        done(unsafe { raw::gix_config_section_new(self.edited_inside(), names) })?;
+        self.count.set(Some(place + 1));
+        Ok(place)
     }
 
     pub(crate) fn rename_section(
@@ -673,7 +694,7 @@ impl File {
         new_names: &Section<'_>,
     ) -> Result<(), Number> {
         // SAFETY: the handle has a file.
-        done(unsafe { raw::gix_config_section_rename(self.edited(), names, new_names) })
+        done(unsafe { raw::gix_config_section_rename(self.edited_inside(), names, new_names) })
     }
 
     /// Removes the section at a place, where there is one.
@@ -688,18 +709,18 @@ impl File {
         names: &Section<'_>,
     ) -> Result<(), Number> {
         // SAFETY: the handle has a file.
-        done(unsafe { raw::gix_config_section_rename_at(self.edited(), place, names) })
+        done(unsafe { raw::gix_config_section_rename_at(self.edited_inside(), place, names) })
     }
 
     /// Sets the trust of the section at a place, where there is one.
     pub(crate) fn set_trust_at(&mut self, place: usize, trust: u32) {
         // SAFETY: the handle has a file.
-        surely(unsafe { raw::gix_config_section_set_trust_at(self.edited(), place, trust) });
+        surely(unsafe { raw::gix_config_section_set_trust_at(self.edited_inside(), place, trust) });
     }
 
     pub(crate) fn push_line_at(&mut self, place: usize, line: &Line<'_>) -> Result<(), Number> {
         // SAFETY: the handle has a file.
-        done(unsafe { raw::gix_config_push_line_at(self.edited(), place, line) })
+        done(unsafe { raw::gix_config_push_line_at(self.edited_inside(), place, line) })
     }
 
     pub(crate) fn push_below_last_at(
@@ -708,12 +729,12 @@ impl File {
         assigned: &Assigned<'_>,
     ) -> Result<(), Number> {
         // SAFETY: the handle has a file.
-        done(unsafe { raw::gix_config_push_below_last_at(self.edited(), place, assigned) })
+        done(unsafe { raw::gix_config_push_below_last_at(self.edited_inside(), place, assigned) })
     }
 
     pub(crate) fn push_newline_at(&mut self, place: usize) -> Result<(), Number> {
         // SAFETY: the handle has a file.
-        done(unsafe { raw::gix_config_push_newline_at(self.edited(), place) })
+        done(unsafe { raw::gix_config_push_newline_at(self.edited_inside(), place) })
     }
 
     /// Sets a value in the section at a place, and returns the raw text of the one that was there, if there was an entry.
@@ -725,7 +746,13 @@ impl File {
         let (mut had, mut old) = (false, Bytes::empty());
         // SAFETY: the handle has a file.
         let answer = unsafe {
-            raw::gix_config_set_value_at(self.edited(), place, assigned, &mut had, &mut old.0)
+            raw::gix_config_set_value_at(
+                self.edited_inside(),
+                place,
+                assigned,
+                &mut had,
+                &mut old.0,
+            )
         };
         done(answer)?;
         Ok(had.then(|| old.copy()))
@@ -737,7 +764,7 @@ impl File {
         let (at, len) = (name.as_ptr(), name.len());
         // SAFETY: the handle has a file, and the name is as long as is said.
         done(unsafe {
-            raw::gix_config_remove_value_at(self.edited(), place, at, len, &mut old.0)
+            raw::gix_config_remove_value_at(self.edited_inside(), place, at, len, &mut old.0)
         })?;
         Ok(old.copy())
     }
@@ -747,7 +774,7 @@ impl File {
         let mut count = 0;
         let (at, len) = (name.as_ptr(), name.len());
         let (marks, marks_len) = (marks.as_ptr(), marks.len());
-        let file = self.edited();
+        let file = self.edited_inside();
         // SAFETY: the handle has a file, and name and marks are as long as is said.
         surely(unsafe {
             raw::gix_config_remove_marked_at(file, place, at, len, marks, marks_len, &mut count)
@@ -758,7 +785,7 @@ impl File {
     /// Removes the last entry from the section at a place, and returns its name and value.
     pub(crate) fn pop_value_at(&mut self, place: usize) -> Result<(BString, BString), Number> {
         let (mut name, mut value) = (Bytes::empty(), Bytes::empty());
-        let file = self.edited();
+        let file = self.edited_inside();
         // SAFETY: the handle has a file.
         done(unsafe { raw::gix_config_pop_value_at(file, place, &mut name.0, &mut value.0) })?;
         Ok((name.copy(), value.copy()))

@@ -1256,6 +1256,40 @@ fn editors_of_values() {
 }
 
 #[test]
+fn sections_are_made_after_all_others() {
+    let put = |file: &mut File, name: &str| {
+        let mut editor = file.new_section(name, None).expect("a section");
+        editor.push("k", name).expect("a name");
+    };
+    let mut file = File::try_from("[a]\n[b]\n").expect("a text");
+    put(&mut file, "c");
+    put(&mut file, "d");
+    file.remove_section("a", None).expect("a section");
+    put(&mut file, "e");
+    file.set_raw_value("f.k", "f").expect("a section");
+    put(&mut file, "g");
+    let more = "[h]\n\tk = h\n[i]\n\tk = i\n";
+    file.append(File::try_from(more).expect("a text"))
+        .expect("room");
+    put(&mut file, "j");
+    let mut copy = file.clone();
+    put(&mut copy, "l");
+    put(&mut file, "m");
+    assert!(file.new_section("n o", None).is_err());
+    put(&mut file, "p");
+    let names = |file: &File| -> Vec<_> {
+        let names = file.sections().map(|it| it.header().name().to_string());
+        names.collect()
+    };
+    let all = ["b", "c", "d", "e", "f", "g", "h", "i", "j"];
+    assert_eq!(names(&copy), [&all[..], &["l"]].concat());
+    assert_eq!(names(&file), [&all[..], &["m", "p"]].concat());
+    for section in file.sections().skip(1) {
+        assert_eq!(section.values("k"), [section.header().name()]);
+    }
+}
+
+#[test]
 fn editors_of_several_values() {
     let text = "[a]\n\tk = 1\n[b]\n[A]\n\tk = 3 ; three\n\tK\n[a \"s\"]\n\tk = 4\n";
     let mut file = File::try_from(text).expect("a text");
