@@ -272,18 +272,19 @@ class Config(MutableMapping[Key, str]):
             block = BLOCKS.pop()
         except IndexError:
             block = c.Bytes()
-        if kept is None and not trusted_only:
-            number = LIBRARY.gix_config_value(self._file, key_of(key), block)
-        else:
-            number = self._found("value", key, kept, trusted_only, block)
-        if number == c.DONE:
-            size = block.len
-            value = ctypes.string_at(cast(int, block.at), size).decode("utf-8", "surrogateescape") if size else ""
-            if size > LARGE:
-                LIBRARY.gix_config_bytes_free(block)
+        try:
+            if kept is None and not trusted_only:
+                number = LIBRARY.gix_config_value(self._file, key_of(key), block)
+            else:
+                number = self._found("value", key, kept, trusted_only, block)
+            if number == c.DONE:
+                size = block.len
+                value = ctypes.string_at(cast(int, block.at), size).decode("utf-8", "surrogateescape") if size else ""
+                if size > LARGE:
+                    LIBRARY.gix_config_bytes_free(block)
+                return number, value
+        finally:
             BLOCKS.append(block)
-            return number, value
-        BLOCKS.append(block)
         is_there = is_missing(number) and self.get_all(key, sources=kept, trusted_only=trusted_only)
         return number, "" if is_there else None
 

@@ -51,6 +51,8 @@ class Values(unittest.TestCase):
         config = Config.parse("[a]\n\tnone =\n" + "".join(f"\t{key[2:]} = {value}\n" for key, value in values.items()))
         found = [(config[key], config.get("a.none"), config.get("a.k"), config[key]) for key in values]
         self.assertEqual(found, [(value, "", None, value) for value in values.values()])
+        self.assertRaises(ValueError, config.get, "a")
+        self.assertEqual(config["a.k10"], values["a.k10"])
         wrong: List[str] = []
 
         def look_up(key: str) -> None:
