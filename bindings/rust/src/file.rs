@@ -305,6 +305,12 @@ impl File {
         self.sys.seen().num_entries()
     }
 
+    /// Whether no section has anything behind its header.
+    #[must_use]
+    pub fn is_void(&self) -> bool {
+        self.sections().all(|it| it.is_void())
+    }
+
     /// Where the file comes from; its sections may come from others.
     #[must_use]
     pub fn meta(&self) -> &Metadata {

@@ -138,6 +138,12 @@ impl<'a> SectionMut<'a> {
         self.section().id()
     }
 
+    /// [`BodyRef::is_void`] of the section as it is now.
+    #[must_use]
+    pub fn is_void(&self) -> bool {
+        self.section().is_void()
+    }
+
     /// [`SectionRef::to_bstring`] of the section as it is now.
     #[must_use]
     pub fn to_bstring(&self) -> BString {

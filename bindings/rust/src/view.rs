@@ -77,13 +77,13 @@ impl<'a> Seen<'a> {
         let Seen { file, rows } = self;
         let row = &rows.view.sections()[place];
         let entries = &rows.view.entries()[row.entries_at..][..row.entries_len];
-        let body = BodyRef { rows, entries };
-        SectionRef {
+        let body = BodyRef {
             file,
-            row,
+            rows,
             place,
-            body,
-        }
+            entries,
+        };
+        SectionRef { row, body }
     }
 
     /// The places of all sections.
@@ -150,9 +150,7 @@ impl<'a> Seen<'a> {
 /// have the same header, entries and metadata.
 #[derive(Clone, Copy)]
 pub struct SectionRef<'a> {
-    file: &'a sys::File,
     row: &'a SectionRow,
-    place: usize,
     body: BodyRef<'a>,
 }
 
@@ -196,7 +194,7 @@ impl<'a> SectionRef<'a> {
     /// ```
     #[must_use]
     pub fn to_bstring(&self) -> BString {
-        self.file.section_text(self.place).copy()
+        self.body.section_text().copy()
     }
 
     /// Writes the section as [`SectionRef::to_bstring`] has it.
@@ -205,12 +203,12 @@ impl<'a> SectionRef<'a> {
     ///
     /// Those of the writer.
     pub fn write_to(&self, out: &mut dyn io::Write) -> io::Result<()> {
-        out.write_all(self.file.section_text(self.place).bytes())
+        out.write_all(self.body.section_text().bytes())
     }
 
     /// Its place among the sections of the file, from 0.
     pub(crate) fn place(&self) -> usize {
-        self.place
+        self.body.place
     }
 
     /// A copy that stays when the file is edited.
@@ -280,7 +278,9 @@ impl<'a> HeaderRef<'a> {
 /// value means, which is empty for an entry without `=`; [`BodyRef::entries`] borrows both.
 #[derive(Clone, Copy)]
 pub struct BodyRef<'a> {
+    file: &'a sys::File,
     rows: &'a Rows,
+    place: usize,
     entries: &'a [EntryRow],
 }
 
@@ -328,9 +328,36 @@ pub(crate) fn is_named(name: &BStr, value_name: &str) -> bool {
     name.eq_ignore_ascii_case(value_name.as_bytes())
 }
 
+/// How long the header is that a section's text begins with.
+fn header_len(text: &[u8]) -> usize {
+    let mut is_quoted = false;
+    let mut bytes = text.iter().enumerate();
+    while let Some((at, byte)) = bytes.next() {
+        match byte {
+            b'"' => is_quoted = !is_quoted,
+            b'\\' if is_quoted => drop(bytes.next()),
+            b']' if !is_quoted => return at + 1,
+            _ => {}
+        }
+    }
+    text.len()
+}
+
 impl<'a> BodyRef<'a> {
     fn pairs(&self) -> Entries<'a> {
         self.entries()
+    }
+
+    /// The text of the section, with its header.
+    fn section_text(&self) -> sys::Bytes {
+        self.file.section_text(self.place)
+    }
+
+    /// Whether nothing follows the header, not even a line ending.
+    #[must_use]
+    pub fn is_void(&self) -> bool {
+        let text = self.section_text();
+        header_len(text.bytes()) == text.bytes().len()
     }
 
     lookups!();

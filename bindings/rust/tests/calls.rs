@@ -1351,6 +1351,26 @@ fn texts_of_sections() {
 }
 
 #[test]
+fn sections_with_nothing_in_them() {
+    let void = |text: &str| -> Vec<_> {
+        let file = File::try_from(text).expect("a text");
+        let each: Vec<_> = file.sections().map(|it| it.body().is_void()).collect();
+        assert_eq!(file.is_void(), !each.contains(&false));
+        each
+    };
+    assert_eq!(void("# front\n"), []);
+    assert_eq!(void("[a][b \"x]\\\"]\"][c.d]"), [true, true, true]);
+    assert_eq!(
+        void("[a]\n[b \"]\"] [c]k\n[d]#\n[e]"),
+        [false, false, false, false, true]
+    );
+    let mut made = File::try_from("[a]").expect("a text");
+    let mut editor = made.section_mut("a", None).expect("a section");
+    assert!(editor.is_void());
+    assert!(!editor.push("k", "v").expect("a name").is_void());
+}
+
+#[test]
 fn files_of_texts_from_elsewhere() {
     let meta = Metadata::from(Source::User).at("/home/ada/.gitconfig");
     let text = b"[a]\n\tk = 1 ; one\n";
