@@ -162,6 +162,7 @@ impl<'a> SectionRef<'a> {
         HeaderRef {
             name: rows.part(row.name),
             subsection_name: row.has_subsection.then(|| rows.part(row.subsection)),
+            text: HeaderText::Of(self.body),
         }
     }
 
@@ -217,6 +218,7 @@ impl<'a> SectionRef<'a> {
         let header = self.header();
         let entries = self.body.entries();
         Section {
+            header: header.to_bstring(),
             name: header.name.into(),
             subsection_name: header.subsection_name.map(BString::from),
             meta: self.meta().clone(),
@@ -253,11 +255,38 @@ impl fmt::Debug for SectionRef<'_> {
     }
 }
 
-/// The header of a section.
-#[derive(Clone, Copy, Debug, PartialEq, Eq)]
+/// Where a header is written.
+#[derive(Clone, Copy)]
+pub(crate) enum HeaderText<'a> {
+    /// Before these entries.
+    Of(BodyRef<'a>),
+    /// It is this text.
+    Alone(&'a BStr),
+}
+
+/// The header of a section. Equal ones have the same names, as they are spelled.
+#[derive(Clone, Copy)]
 pub struct HeaderRef<'a> {
     pub(crate) name: &'a BStr,
     pub(crate) subsection_name: Option<&'a BStr>,
+    pub(crate) text: HeaderText<'a>,
+}
+
+impl PartialEq for HeaderRef<'_> {
+    fn eq(&self, other: &Self) -> bool {
+        (self.name, self.subsection_name) == (other.name, other.subsection_name)
+    }
+}
+
+impl Eq for HeaderRef<'_> {}
+
+impl fmt::Debug for HeaderRef<'_> {
+    fn fmt(&self, f: &mut fmt::Formatter<'_>) -> fmt::Result {
+        f.debug_struct("HeaderRef")
+            .field("name", &self.name)
+            .field("subsection_name", &self.subsection_name)
+            .finish()
+    }
 }
 
 impl<'a> HeaderRef<'a> {
@@ -271,6 +300,24 @@ impl<'a> HeaderRef<'a> {
     #[must_use]
     pub fn subsection_name(&self) -> Option<&'a BStr> {
         self.subsection_name
+    }
+
+    /// The header as it is written, with its brackets.
+    #[must_use]
+    pub fn to_bstring(&self) -> BString {
+        match self.text {
+            HeaderText::Of(body) => {
+                let text = body.section_text();
+                text.bytes()[..header_len(text.bytes())].into()
+            }
+            HeaderText::Alone(text) => text.into(),
+        }
+    }
+
+    /// Whether the subsection's name stands behind a dot, and not in quotes.
+    #[must_use]
+    pub fn is_legacy(&self) -> bool {
+        self.subsection_name.is_some() && !self.to_bstring().contains(&b'"')
     }
 }
 

@@ -1351,6 +1351,31 @@ fn texts_of_sections() {
 }
 
 #[test]
+fn headers_as_they_are_written() {
+    let text = "[a]k\n[B.C]\n[b \"x]\\\"]\"] [b \"c\"]#\n";
+    let mut file = File::try_from(text).expect("a text");
+    let told = |it: SectionRef<'_>| (it.header().to_bstring(), it.header().is_legacy());
+    let all: Vec<_> = file.sections().map(told).collect();
+    let wanted = [
+        ("[a]", false),
+        ("[B.C]", true),
+        ("[b \"x]\\\"]\"]", false),
+        ("[b \"c\"]", false),
+    ];
+    let wanted = wanted.map(|(text, is_legacy)| (BString::from(text), is_legacy));
+    assert_eq!(all, wanted);
+    let sections: Vec<_> = file.sections().map(|it| it.to_owned()).collect();
+    // (the same name of a subsection, as it is read)
+    assert_ne!(sections[1], sections[3]);
+    assert_eq!(sections[1].header().subsection_name(), Some("c".into()));
+    let removed = file.remove_section("b", "c").expect("a section");
+    assert_eq!(
+        (&removed, removed.header().to_bstring()),
+        (&sections[3], "[b \"c\"]".into())
+    );
+}
+
+#[test]
 fn sections_with_nothing_in_them() {
     let void = |text: &str| -> Vec<_> {
         let file = File::try_from(text).expect("a text");
