@@ -25,6 +25,7 @@ man1dir = $(mandir)/man1
 man3dir = $(mandir)/man3
 docdir = $(datarootdir)/doc/gixcfg
 libdocdir = $(datarootdir)/doc/libgix_config
+hostdir = $(datadir)/gix_config
 bashcompletiondir = $(datadir)/bash-completion/completions
 zshcompletiondir = $(datadir)/zsh/site-functions
 fishcompletiondir = $(datadir)/fish/vendor_completions.d
@@ -39,6 +40,9 @@ licences = LICENSE-MIT LICENSE-APACHE dist/copyright
 soname = libgix_config.so.0
 linkname = libgix_config.so
 archives = libgix_config.a libgix_config_c.a
+
+# What a program compiles as a part of it.
+host = gix_config_disk.h gix_config_disk.c
 
 .PHONY: all lib install install-strip install-lib uninstall
 
@@ -62,11 +66,13 @@ install-strip:
 
 # (with quotes in the file for pkg-config, too)
 install-lib: lib
-	$(INSTALL) -d "$(DESTDIR)$(includedir)" "$(DESTDIR)$(pkgconfigdir)" "$(DESTDIR)$(man3dir)" "$(DESTDIR)$(libdocdir)"
+	$(INSTALL) -d "$(DESTDIR)$(includedir)" "$(DESTDIR)$(pkgconfigdir)" "$(DESTDIR)$(man3dir)" "$(DESTDIR)$(libdocdir)" \
+		"$(DESTDIR)$(hostdir)"
 	$(INSTALL_DATA) "$(LIBRARY)/gix_config.h" "$(DESTDIR)$(includedir)/gix_config.h"
 	$(INSTALL_DATA) "$(LIBRARY)/$(soname)" "$(DESTDIR)$(libdir)/$(soname)"
 	ln -sf $(soname) "$(DESTDIR)$(libdir)/$(linkname)"
 	for file in $(archives); do $(INSTALL_DATA) "$(LIBRARY)/$$file" "$(DESTDIR)$(libdir)/$$file" || exit; done
+	for file in $(host); do $(INSTALL_DATA) "$(LIBRARY)/$$file" "$(DESTDIR)$(hostdir)/$$file" || exit; done
 	$(INSTALL_DATA) "$(LIBRARY)/gix_config.pc" "$(DESTDIR)$(pkgconfigdir)/gix_config.pc"
 	sed -i -e 's|^prefix=.*|prefix=$(prefix)\nexec_prefix=$(exec_prefix)\nlibdir=$(libdir)\nincludedir=$(includedir)|' \
 		-e 's|-I$${prefix}|-I"$${includedir}"|' -e 's|-L$${prefix}|-L"$${libdir}"|' "$(DESTDIR)$(pkgconfigdir)/gix_config.pc"
@@ -79,7 +85,7 @@ uninstall:
 		"$(DESTDIR)$(zshcompletiondir)/_gixcfg" "$(DESTDIR)$(fishcompletiondir)/gixcfg.fish"
 	rm -f "$(DESTDIR)$(includedir)/gix_config.h" "$(DESTDIR)$(pkgconfigdir)/gix_config.pc" "$(DESTDIR)$(man3dir)/gix_config.3"
 	for file in $(soname) $(linkname) $(archives); do rm -f "$(DESTDIR)$(libdir)/$$file"; done
-	for folder in "$(DESTDIR)$(docdir)" "$(DESTDIR)$(libdocdir)"; do \
-		for file in $(notdir $(licences)); do rm -f "$$folder/$$file"; done; \
+	for folder in "$(DESTDIR)$(docdir)" "$(DESTDIR)$(libdocdir)" "$(DESTDIR)$(hostdir)"; do \
+		for file in $(notdir $(licences)) $(host); do rm -f "$$folder/$$file"; done; \
 		[ ! -d "$$folder" ] || rmdir "$$folder" 2>/dev/null || true; \
 	done

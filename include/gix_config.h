@@ -392,7 +392,7 @@ typedef struct gix_config_assigned {
     gix_config_text value;
 } gix_config_assigned;
 
-/* Where some bytes lie in the text of a view. */
+/* Where some bytes lie in the text of a view. A zero byte is behind them, which they don't count. */
 typedef struct gix_config_part {
     /* The place of the first one, from 0. */
     size_t at;
@@ -438,6 +438,9 @@ typedef struct gix_config_section_row {
     size_t entries_at;
     /* How many entries it has: they stand one after the other. */
     size_t entries_len;
+    /* Its number in its file, which stays whatever is added or removed around it, and which no other section
+     * gets. */
+    size_t number;
 } gix_config_section_row;
 
 /* All sections and entries of a file as it was when the view was made. They are the program's to read until it
@@ -455,7 +458,7 @@ typedef struct gix_config_view {
     const gix_config_origin_row *origins;
     /* How many they are. */
     size_t origins_len;
-    /* The bytes of names, values and paths. */
+    /* The bytes of names, values and paths, each with a zero byte behind it. */
     const uint8_t *text;
     /* How many they are. */
     size_t text_len;
@@ -713,6 +716,25 @@ uint32_t gix_config_integer(const gix_config_file *file, const gix_config_key *k
 uint32_t gix_config_file_origin(const gix_config_file *file, gix_config_origin *origin,
     gix_config_bytes *path);
 
+/* Gives one of the entries of a key another value: that at an index, counted from 0, among those of all sections
+ * of the key's names, in the order in which these were made. It is rewritten, with the name as the key has it;
+ * nothing of its old value stays. No entry is made.
+ *
+ * 100 for an index past the last one. 7 or 8 if there is no such section, 6 for a name that can't be a value's,
+ * 9 if none of the sections has such an entry, 3 if the file would be too long. 101 if the section's or the
+ * value's name is not UTF-8, 102 if the handle has no file, 27 when out of memory. The file is then as it was. */
+uint32_t gix_config_set_nth_value(gix_config_file *file, const gix_config_key *key, size_t index,
+    const uint8_t *value, size_t value_len);
+
+/* Deletes one of the entries of a key: that at an index, counted from 0, among those of all sections of the
+ * key's names, in the order in which these were made. Its name, `=` and value go, with the blanks between them;
+ * the blanks before and the line ending after them stay.
+ *
+ * 100 for an index past the last one. 7 or 8 if there is no such section, 6 for a name that can't be a value's,
+ * 9 if none of the sections has such an entry. 101 if the section's or the value's name is not UTF-8, 102 if the
+ * handle has no file, 27 when out of memory. The file is then as it was. */
+uint32_t gix_config_delete_nth_value(gix_config_file *file, const gix_config_key *key, size_t index);
+
 /* Adds a line to the section at a place, counted from 0, after all others that it has: also one of a name that
  * is there already, with the blanks that the section uses. A comment comes after ` #`.
  *
@@ -854,6 +876,14 @@ uint32_t gix_config_list_section(const gix_config_list *list, size_t index,
  * 100 for a number past the end, 102 if the handle has no file, 27 when out of memory; the list's handle is then
  * as it was. */
 uint32_t gix_config_section_entries(const gix_config_file *file, size_t index, gix_config_list *list);
+
+/* Hands out the text of the section at a place, counted from 0: its header, and all that stands between it and
+ * the next one, with a line ending put in where two of its parts would otherwise run together. What the block
+ * had is freed.
+ *
+ * 100 if there is no such section, 102 if the handle has no file, 27 when out of memory. The block is then as it
+ * was. */
+uint32_t gix_config_section_text(const gix_config_file *file, size_t place, gix_config_bytes *text);
 
 /* Removes the last section that has the name, without ASCII case, and exactly the subsection.
  *

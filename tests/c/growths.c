@@ -66,6 +66,9 @@ static int calls(bool lossy)
         count += refused(gix_config_remove_marked_at(&file, 0, (const uint8_t *)"n", 1, marks, 2, &removed));
         count += refused(gix_config_set_existing_value(&file, &editor, (const uint8_t *)"; x", 3));
         count += refused(gix_config_set_existing_values(&file, &url, values, 2));
+        count += refused(gix_config_set_nth_value(&file, &url, 0, (const uint8_t *)"3;", 2));
+        count += refused(gix_config_section_text(&file, 0, &bytes));
+        count += refused(gix_config_delete_nth_value(&file, &url, 0));
         count += refused(gix_config_file_origin(&file, &origin, &name));
         count += refused(gix_config_remove_value_at(&file, 0, (const uint8_t *)"n", 1, &bytes));
         count += refused(gix_config_pop_value_at(&file, 0, &name, &bytes));

@@ -131,11 +131,53 @@ static void origins(void)
     gix_config_file_close(&file);
 }
 
+/* One of a key's entries by its index, among those of all sections of its names. */
+static void one_of_several(void)
+{
+    static const char changed[] = "[a]\n\tk = 1 ; one\n\tk = two\n[b]\n[A]\n\tk = x y\n";
+    gix_config_file file = { NULL };
+    gix_config_place place = { 0, 0, 0 };
+    gix_config_key k = key_of("a", NULL, "k"), none = key_of("a", NULL, "j"), other = key_of("c", NULL, "k"), sub = key_of("a", "s", "k");
+    gix_config_key bad = key_of("a", NULL, "k k"), no_text = key_of("a", NULL, "\xff");
+    const uint8_t *v = (const uint8_t *)"v";
+    CHECK(gix_config_set_nth_value(&file, &k, 0, v, 1) == GIX_CONFIG_WRONG_HANDLE && gix_config_delete_nth_value(&file, &k, 0) == GIX_CONFIG_WRONG_HANDLE);
+    CHECK(parse("[a]\n\tk = 1 ; one\n\tK\n[b]\n[A]\n\tk = 3\n", false, &file, &place) == GIX_CONFIG_DONE);
+    CHECK(gix_config_set_nth_value(&file, &k, 1, (const uint8_t *)"two", 3) == GIX_CONFIG_DONE);
+    CHECK(gix_config_set_nth_value(&file, &k, 2, (const uint8_t *)"x y", 3) == GIX_CONFIG_DONE && has_text(&file, changed));
+    CHECK(gix_config_set_nth_value(&file, &k, 3, v, 1) == GIX_CONFIG_NOTHING_THERE && gix_config_delete_nth_value(&file, &k, 3) == GIX_CONFIG_NOTHING_THERE);
+    CHECK(gix_config_set_nth_value(&file, &none, 0, v, 1) == GIX_CONFIG_KEY_MISSING && gix_config_delete_nth_value(&file, &none, 0) == GIX_CONFIG_KEY_MISSING);
+    CHECK(gix_config_set_nth_value(&file, &other, 0, v, 1) == GIX_CONFIG_SECTION_MISSING && gix_config_delete_nth_value(&file, &other, 0) == GIX_CONFIG_SECTION_MISSING);
+    CHECK(gix_config_set_nth_value(&file, &sub, 0, v, 1) == GIX_CONFIG_SUBSECTION_MISSING && gix_config_delete_nth_value(&file, &sub, 0) == GIX_CONFIG_SUBSECTION_MISSING);
+    CHECK(gix_config_set_nth_value(&file, &bad, 0, v, 1) == GIX_CONFIG_INVALID_VALUE_NAME && gix_config_delete_nth_value(&file, &bad, 0) == GIX_CONFIG_INVALID_VALUE_NAME);
+    CHECK(gix_config_set_nth_value(&file, &no_text, 0, v, 1) == GIX_CONFIG_NOT_UTF8 && gix_config_delete_nth_value(&file, &no_text, 0) == GIX_CONFIG_NOT_UTF8);
+    CHECK(has_text(&file, changed));
+    CHECK(gix_config_delete_nth_value(&file, &k, 0) == GIX_CONFIG_DONE && has_text(&file, "[a]\n\t ; one\n\tk = two\n[b]\n[A]\n\tk = x y\n"));
+    CHECK(gix_config_delete_nth_value(&file, &k, 1) == GIX_CONFIG_DONE && has_text(&file, "[a]\n\t ; one\n\tk = two\n[b]\n[A]\n\t\n"));
+    gix_config_file_close(&file);
+}
+
+/* The text of a section: all that stands up to the next header. */
+static void texts_of_sections(void)
+{
+    gix_config_file file = { NULL };
+    gix_config_place place = { 0, 0, 0 };
+    gix_config_bytes text = { NULL, 0, NULL };
+    CHECK(gix_config_section_text(&file, 0, &text) == GIX_CONFIG_WRONG_HANDLE && text.owner == NULL);
+    CHECK(parse("# front\n[a]\n\tk = 1\n\n# c\n[b \"x\"]", false, &file, &place) == GIX_CONFIG_DONE);
+    CHECK(gix_config_section_text(&file, 0, &text) == GIX_CONFIG_DONE && is_text(text.at, text.len, "[a]\n\tk = 1\n\n# c\n"));
+    CHECK(gix_config_section_text(&file, 1, &text) == GIX_CONFIG_DONE && is_text(text.at, text.len, "[b \"x\"]"));
+    CHECK(gix_config_section_text(&file, 2, &text) == GIX_CONFIG_NOTHING_THERE && is_text(text.at, text.len, "[b \"x\"]"));
+    gix_config_bytes_free(&text);
+    gix_config_file_close(&file);
+}
+
 int main(void)
 {
     lines();
     several();
     existing();
+    one_of_several();
+    texts_of_sections();
     origins();
     return 0;
 }

@@ -45,6 +45,9 @@ static void without_file(gix_config_file *file)
     CHECK(gix_config_remove_marked_at(file, 0, (const uint8_t *)"k", 1, &boolean, 1, &count) == GIX_CONFIG_WRONG_HANDLE && count == 7);
     CHECK(gix_config_set_existing_value(file, &key, (const uint8_t *)"v", 1) == GIX_CONFIG_WRONG_HANDLE);
     CHECK(gix_config_set_existing_values(file, &key, values, 1) == GIX_CONFIG_WRONG_HANDLE);
+    CHECK(gix_config_set_nth_value(file, &key, 0, (const uint8_t *)"v", 1) == GIX_CONFIG_WRONG_HANDLE);
+    CHECK(gix_config_delete_nth_value(file, &key, 0) == GIX_CONFIG_WRONG_HANDLE);
+    CHECK(gix_config_section_text(file, 0, &bytes) == GIX_CONFIG_WRONG_HANDLE);
     CHECK(gix_config_file_origin(file, &origin, &bytes) == GIX_CONFIG_WRONG_HANDLE && origin.source == 5 && origin.has_path);
     CHECK(gix_config_file_equal(file, &other_file, &boolean) == GIX_CONFIG_WRONG_HANDLE && boolean);
     CHECK(gix_config_differences(file, &other_file, &list) == GIX_CONFIG_WRONG_HANDLE);

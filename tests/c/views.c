@@ -3,9 +3,11 @@
 
 static const char *const TEXT = "front = 1\n# mine\n[Core]\n\tEditor = vi ; was ed\n\tbare\n\tnone =\n[remote \"or\\\"igin\"]\n\turl = \"a b\" c\\\n d\n\tURL = e\n[core]\n[a.B]\n\tk = 1\n";
 
+/* (each text is one of C, too: a zero byte is behind it) */
 static bool has(const gix_config_view *view, gix_config_part part, const char *words)
 {
-    return part.at + part.len <= view->text_len && is_text(view->text + part.at, part.len, words);
+    return part.at + part.len < view->text_len && is_text(view->text + part.at, part.len, words)
+        && strcmp((const char *)view->text + part.at, words) == 0;
 }
 
 /* (no value for a null pointer) */
@@ -68,6 +70,25 @@ static void origins(gix_config_file *file, gix_config_view *view)
     gix_config_file_close(&other_file);
 }
 
+/* A section's number stays, and is not given again. */
+static void numbers(void)
+{
+    gix_config_file file = { NULL };
+    gix_config_place place = { 0, 0, 0 };
+    gix_config_view view = { NULL, 0, NULL, 0, NULL, 0, NULL, 0, NULL };
+    gix_config_section made = section_of("new", NULL);
+    CHECK(parse("[a]\n[b]\n[c]\n", false, &file, &place) == GIX_CONFIG_DONE);
+    CHECK(gix_config_view_file(&file, &view) == GIX_CONFIG_DONE && view.sections_len == 3);
+    CHECK(view.sections[0].number == 0 && view.sections[1].number == 1 && view.sections[2].number == 2);
+    CHECK(gix_config_section_remove_at(&file, 2) == GIX_CONFIG_DONE && gix_config_section_remove_at(&file, 0) == GIX_CONFIG_DONE);
+    CHECK(gix_config_section_new(&file, &made) == GIX_CONFIG_DONE);
+    CHECK(gix_config_view_file(&file, &view) == GIX_CONFIG_DONE && view.sections_len == 2);
+    CHECK(has(&view, view.sections[0].name, "b") && view.sections[0].number == 1);
+    CHECK(has(&view, view.sections[1].name, "new") && view.sections[1].number == 3);
+    gix_config_file_close(&file);
+    gix_config_view_free(&view);
+}
+
 static void nothing(void)
 {
     gix_config_file file = { NULL };
@@ -94,6 +115,7 @@ int main(void)
     gix_config_file_close(&file);
     CHECK(view.sections_len == 6 && is_section(&view, 4, "u", NULL, 7, 1));
     gix_config_view_free(&view);
+    numbers();
     nothing();
     return 0;
 }

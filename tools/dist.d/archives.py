@@ -27,7 +27,8 @@ FILES = {
     "Makefile": "dist/install.mk",
 }
 # What one for x86_64 has of the library for C, in its folder lib.
-LIBRARY_FILES = ["gix_config.h", "gix_config.pc", "gix_config.3", "libgix_config.a", "libgix_config_c.a", "libgix_config.so.0"]
+LIBRARY_FILES = ["gix_config.h", "gix_config.pc", "gix_config.3", "gix_config_disk.h", "gix_config_disk.c", "libgix_config.a", "libgix_config_c.a",
+                 "libgix_config.so.0"]
 
 DEBIAN = {"x86_64": "amd64", "aarch64": "arm64"}
 # Where Debian has libraries for x86_64, which is all that the library for C is for.

@@ -428,7 +428,7 @@ class Assigned(Structure):
 
 
 class Part(Structure):
-    """Where some bytes lie in the text of a view."""
+    """Where some bytes lie in the text of a view. A zero byte is behind them, which they don't count."""
 
     at: int
     len: int
@@ -480,6 +480,7 @@ class SectionRow(Structure):
     origin: int
     entries_at: int
     entries_len: int
+    number: int
 
     _fields_ = [
         ("name", Part),
@@ -488,6 +489,7 @@ class SectionRow(Structure):
         ("origin", c_size_t),
         ("entries_at", c_size_t),
         ("entries_len", c_size_t),
+        ("number", c_size_t),
     ]
 
 
@@ -556,6 +558,8 @@ CALLS: Dict[str, Tuple[Sequence[Any], Any]] = {
     "gix_config_boolean": ([POINTER(File), POINTER(Key), POINTER(c_bool)], c_uint32),
     "gix_config_integer": ([POINTER(File), POINTER(Key), POINTER(c_int64)], c_uint32),
     "gix_config_file_origin": ([POINTER(File), POINTER(Origin), POINTER(Bytes)], c_uint32),
+    "gix_config_set_nth_value": ([POINTER(File), POINTER(Key), c_size_t, c_char_p, c_size_t], c_uint32),
+    "gix_config_delete_nth_value": ([POINTER(File), POINTER(Key), c_size_t], c_uint32),
     "gix_config_push_line_at": ([POINTER(File), c_size_t, POINTER(Line)], c_uint32),
     "gix_config_set_value_at": ([POINTER(File), c_size_t, POINTER(Assigned), POINTER(c_bool), POINTER(Bytes)], c_uint32),
     "gix_config_remove_value_at": ([POINTER(File), c_size_t, c_char_p, c_size_t, POINTER(Bytes)], c_uint32),
@@ -575,6 +579,7 @@ CALLS: Dict[str, Tuple[Sequence[Any], Any]] = {
     "gix_config_sections": ([POINTER(File), POINTER(List)], c_uint32),
     "gix_config_list_section": ([POINTER(List), c_size_t, POINTER(ListedSection)], c_uint32),
     "gix_config_section_entries": ([POINTER(File), c_size_t, POINTER(List)], c_uint32),
+    "gix_config_section_text": ([POINTER(File), c_size_t, POINTER(Bytes)], c_uint32),
     "gix_config_section_remove": ([POINTER(File), POINTER(Section)], c_uint32),
     "gix_config_section_new": ([POINTER(File), POINTER(Section)], c_uint32),
     "gix_config_section_rename": ([POINTER(File), POINTER(Section), POINTER(Section)], c_uint32),

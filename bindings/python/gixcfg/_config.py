@@ -21,6 +21,10 @@ from gixcfg._view import View
 
 T = TypeVar("T")
 
+# Blocks for what look-ups hand out: the next one frees what the last one got, which spares a call. A value of more bytes is freed at once.
+BLOCKS: List[c.Bytes] = []
+LARGE = 4096
+
 
 class Difference(NamedTuple):
     """A key of which two files say different things: its names, and what all values of it mean in either file, in order; `None` for an entry
@@ -262,13 +266,25 @@ class Config(MutableMapping[Key, str]):
 
     def _value(self, key: Key, sources: Optional[Iterable[Source]], trusted_only: bool) -> Tuple[int, Optional[str]]:
         """The answer of a look-up of the last value, and the value: empty where the key has just entries without `=`."""
-        block, kept = c.Bytes(), None if sources is None else list(sources)
-        if kept is None and not trusted_only:
-            number = LIBRARY.gix_config_value(self._file, key_of(key), block)
-        else:
-            number = self._found("value", key, kept, trusted_only, block)
-        if number == c.DONE:
-            return number, decoded(taken(block))
+        kept = None if sources is None else list(sources)
+        # (no two look-ups have one at the same time, wherever they are made)
+        try:
+            block = BLOCKS.pop()
+        except IndexError:
+            block = c.Bytes()
+        try:
+            if kept is None and not trusted_only:
+                number = LIBRARY.gix_config_value(self._file, key_of(key), block)
+            else:
+                number = self._found("value", key, kept, trusted_only, block)
+            if number == c.DONE:
+                size = block.len
+                value = ctypes.string_at(cast(int, block.at), size).decode("utf-8", "surrogateescape") if size else ""
+                if size > LARGE:
+                    LIBRARY.gix_config_bytes_free(block)
+                return number, value
+        finally:
+            BLOCKS.append(block)
         is_there = is_missing(number) and self.get_all(key, sources=kept, trusted_only=trusted_only)
         return number, "" if is_there else None
 

@@ -87,7 +87,7 @@ class View:
         """All sections, in order."""
         text, lower, found = self._text, self._lower, []
         origins, rows = list(map(self._origin, ORIGIN.iter_unpack(self._origins))), ENTRY.iter_unpack(self._entries)
-        for place, (at, length, behind, more, is_there, origin, _first, count) in enumerate(SECTION.iter_unpack(self._sections)):
+        for place, (at, length, behind, more, is_there, origin, _first, count, _number) in enumerate(SECTION.iter_unpack(self._sections)):
             name, subsection = lower[at:at + length], text[behind:behind + more] if is_there else None
             # (the entries of all sections stand in one array, in order)
             own = [_entry((name, subsection, lower[i:i + m], text[j:j + n] if has_value else None)) for i, m, j, n, has_value in islice(rows, count)]
@@ -103,7 +103,7 @@ class View:
         """What the entries of all sections have, in order."""
         text, lower, rows = self._text, self._lower, ENTRY.iter_unpack(self._entries)
         found: List[Tuple[Optional[str], ...]] = []
-        for at, length, behind, more, is_there, _origin, _first, count in SECTION.iter_unpack(self._sections):
+        for at, length, behind, more, is_there, _origin, _first, count, _number in SECTION.iter_unpack(self._sections):
             name, subsection = lower[at:at + length], text[behind:behind + more] if is_there else None
             found += [(name, subsection, lower[i:i + m], text[j:j + n] if has_value else None) for i, m, j, n, has_value in islice(rows, count)]
         return found if self._is_ascii else [tuple(map(_told, it)) for it in found]

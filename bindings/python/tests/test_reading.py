@@ -4,6 +4,7 @@ import tempfile
 import threading
 import unittest
 from pathlib import Path
+from typing import List
 
 import gixcfg
 from gixcfg import Config, KeyNotFound, NotOfType, ParseError, Refused, Source
@@ -44,6 +45,24 @@ class Values(unittest.TestCase):
         self.assertEqual(self.config.get_all("remote.or.igin.url"), ["one", "two"])
         self.assertEqual(self.config.get_all("core.bare"), [""])
         self.assertEqual(self.config.get_all("core.none"), [])
+
+    def test_look_ups_beside_each_other(self) -> None:
+        values = {f"a.k{size}": "x" * size for size in (1, 10, 4096, 4097, 100000)}
+        config = Config.parse("[a]\n\tnone =\n" + "".join(f"\t{key[2:]} = {value}\n" for key, value in values.items()))
+        found = [(config[key], config.get("a.none"), config.get("a.k"), config[key]) for key in values]
+        self.assertEqual(found, [(value, "", None, value) for value in values.values()])
+        self.assertRaises(ValueError, config.get, "a")
+        self.assertEqual(config["a.k10"], values["a.k10"])
+        wrong: List[str] = []
+
+        def look_up(key: str) -> None:
+            wrong.extend(key for _ in range(300) if config[key] != values[key])
+        threads = [threading.Thread(target=look_up, args=(key,)) for key in values]
+        for thread in threads:
+            thread.start()
+        for thread in threads:
+            thread.join()
+        self.assertEqual(wrong, [])
 
     def test_what_is_missing(self) -> None:
         for key, number in (("none.x", 7), ("remote.x.url", 8), ("core.none", 9)):

@@ -14,6 +14,7 @@ pub use crate::ids::SectionId;
 pub use crate::includes;
 pub use crate::init;
 pub use crate::meta::Metadata;
+pub use crate::multi_value_mut::MultiValueMut;
 pub use crate::section::{self, Section, SectionMut};
 pub use crate::text::{AsBStr, AsBStrOpt, IntoBStringOpt};
 pub use crate::value_mut::ValueMut;
@@ -304,6 +305,12 @@ impl File {
         self.sys.seen().num_entries()
     }
 
+    /// Whether no section has anything behind its header.
+    #[must_use]
+    pub fn is_void(&self) -> bool {
+        self.sections().all(|it| it.is_void())
+    }
+
     /// Where the file comes from; its sections may come from others.
     #[must_use]
     pub fn meta(&self) -> &Metadata {
@@ -493,7 +500,7 @@ impl File {
 
     /// The place of the section that has the number, if one has it.
     fn place_of(&self, id: SectionId) -> Option<usize> {
-        self.sys.ids().place(id, self.sections().len())
+        self.sys.seen().place(id)
     }
 
     /// An editor of the section that has the number, if one has it.
@@ -541,9 +548,8 @@ impl File {
     ) -> Result<SectionMut<'_>, header::Error> {
         let subsection_name = subsection_name.into_bstring_opt();
         let names = section_names(name.as_ref(), subsection_name.as_ref().map(AsBStr::as_bstr));
-        self.sys.new_section(&names).map_err(header::Error::of)?;
-        let last = self.sections().len() - 1;
-        Ok(SectionMut::at(self, last))
+        let place = self.sys.new_section(&names).map_err(header::Error::of)?;
+        Ok(SectionMut::at(self, place))
     }
 
     /// [`File::section_mut`], or [`File::new_section`] if there is no such section.

@@ -24,6 +24,7 @@ mod key;
 mod loads;
 pub mod lookup;
 mod meta;
+mod multi_value_mut;
 pub mod parse;
 pub mod path;
 pub mod section;

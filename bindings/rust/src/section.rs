@@ -12,12 +12,13 @@ use crate::source::Trust;
 use crate::sys;
 use crate::text::{AsBStr, AsBStrOpt, IntoBStringOpt};
 
-use crate::view::{is_named, lookups};
+use crate::view::{is_named, lookups, HeaderText};
 pub use crate::view::{BodyRef, BodyRefIter, Entries, HeaderRef, SectionRef};
 
 /// A section that was taken out of a file, or copied. Equal ones have the same header, entries and metadata.
-#[derive(Clone, Debug, PartialEq, Eq)]
+#[derive(Clone)]
 pub struct Section {
+    pub(crate) header: BString,
     pub(crate) name: BString,
     pub(crate) subsection_name: Option<BString>,
     pub(crate) meta: Metadata,
@@ -31,6 +32,7 @@ impl Section {
         HeaderRef {
             name: self.name.as_bstr(),
             subsection_name: self.subsection_name.as_ref().map(AsBStr::as_bstr),
+            text: HeaderText::Alone(self.header.as_bstr()),
         }
     }
 
@@ -50,6 +52,25 @@ impl Section {
     /// The names of the entries, as they are spelled, in order, each as often as it occurs.
     pub fn value_names(&self) -> impl DoubleEndedIterator<Item = String> + '_ {
         self.pairs().map(|(name, _)| name.to_string())
+    }
+}
+
+impl PartialEq for Section {
+    fn eq(&self, other: &Self) -> bool {
+        let (own, others) = (&self.entries, &other.entries);
+        (self.header(), self.meta(), own) == (other.header(), other.meta(), others)
+    }
+}
+
+impl Eq for Section {}
+
+impl fmt::Debug for Section {
+    fn fmt(&self, f: &mut fmt::Formatter<'_>) -> fmt::Result {
+        f.debug_struct("Section")
+            .field("header", &self.header())
+            .field("meta", &self.meta)
+            .field("entries", &self.entries)
+            .finish()
     }
 }
 
@@ -136,6 +157,18 @@ impl<'a> SectionMut<'a> {
     #[must_use]
     pub fn id(&self) -> SectionId {
         self.section().id()
+    }
+
+    /// [`BodyRef::is_void`] of the section as it is now.
+    #[must_use]
+    pub fn is_void(&self) -> bool {
+        self.section().is_void()
+    }
+
+    /// [`SectionRef::to_bstring`] of the section as it is now.
+    #[must_use]
+    pub fn to_bstring(&self) -> BString {
+        self.section().to_bstring()
     }
 
     /// [`BodyRef::value_names`] of the section as it is now.

@@ -4,16 +4,15 @@
 //! that a call doesn't answer is a panic that names it.
 #![allow(unsafe_code)]
 
-use std::cell::UnsafeCell;
+use std::cell::{Cell, UnsafeCell};
 use std::marker::PhantomData;
 use std::mem::MaybeUninit;
 
 use bstr::BString;
 
-use crate::ids::Ids;
 use crate::includes::Found;
 use crate::meta;
-use crate::view::Seen;
+use crate::view::{Rows, Seen};
 
 // (as tools/c_header writes it)
 #[rustfmt::skip]
@@ -382,11 +381,11 @@ pub(crate) struct File {
     // (a call has the handle for itself, also one that only reads)
     handle: UnsafeCell<raw::File>,
     /// Its sections, until it is edited.
-    seen: Lazy<Seen>,
+    rows: Lazy<Rows>,
     /// Where it comes from, until it is edited.
     meta: Lazy<meta::Metadata>,
-    /// The numbers of its sections.
-    ids: Ids,
+    /// How many sections it has, if that is known.
+    count: Cell<Option<usize>>,
 }
 
 impl File {
@@ -396,9 +395,9 @@ impl File {
             handle: UnsafeCell::new(raw::File {
                 at: std::ptr::null_mut(),
             }),
-            seen: Lazy::default(),
+            rows: Lazy::default(),
             meta: Lazy::default(),
-            ids: Ids::default(),
+            count: Cell::default(),
         }
     }
 
@@ -408,14 +407,28 @@ impl File {
 
     /// The handle for a call that edits the file.
     fn edited(&mut self) -> *mut raw::File {
-        self.seen.clear();
+        self.count.set(None);
+        self.edited_inside()
+    }
+
+    /// The handle for a call that edits the file, and makes and removes no section.
+    fn edited_inside(&mut self) -> *mut raw::File {
+        self.rows.clear();
         self.meta.clear();
         self.at()
     }
 
+    /// How many sections there are.
+    pub(crate) fn count(&self) -> usize {
+        let count = self.count.get();
+        let count = count.unwrap_or_else(|| self.seen().sections().len());
+        self.count.set(Some(count));
+        count
+    }
+
     /// The sections, as they are until the file is edited.
-    pub(crate) fn seen(&self) -> &Seen {
-        self.seen.get(|| {
+    pub(crate) fn seen(&self) -> Seen<'_> {
+        let rows = self.rows.get(|| {
             let mut view = View(raw::View {
                 sections: std::ptr::null(),
                 sections_len: 0,
@@ -429,12 +442,9 @@ impl File {
             });
             // SAFETY: the handle has a file, which no other call has now, and the view is a new one.
             surely(unsafe { raw::gix_config_view_file(self.at(), &mut view.0) });
-            Seen::of(view, self.ids.clone())
-        })
-    }
-
-    pub(crate) fn ids(&self) -> &Ids {
-        &self.ids
+            Rows::of(view)
+        });
+        Seen::of(self, rows)
     }
 
     /// The file of a text; else the number, and where the text is refused.
@@ -498,17 +508,12 @@ impl File {
                 }
             }
         };
-        let loaded = done(answer);
-        if loaded.is_ok() {
-            self.ids = Ids::default();
-        }
-        (loaded, asked)
+        (done(answer), asked)
     }
 
     /// A copy.
     pub(crate) fn copy(&self) -> Self {
-        let mut copy = File::empty();
-        copy.ids = self.ids.clone();
+        let copy = File::empty();
         // SAFETY: the handle has a file, and the other is a new one.
         surely(unsafe { raw::gix_config_file_clone(self.at(), copy.at()) });
         copy
@@ -539,6 +544,14 @@ impl File {
                 Some(filter) => raw::gix_config_file_text_filter(self.at(), filter, &mut text.0),
             }
         });
+        text
+    }
+
+    /// The text of the section at a place, where there is one.
+    pub(crate) fn section_text(&self, place: usize) -> Bytes {
+        let mut text = Bytes::empty();
+        // SAFETY: the handle has a file, which no other call has now.
+        surely(unsafe { raw::gix_config_section_text(self.at(), place, &mut text.0) });
         text
     }
 
@@ -635,7 +648,7 @@ impl File {
     pub(crate) fn set_existing_value(&mut self, key: &Key<'_>, value: &[u8]) -> Result<(), Number> {
         let (at, len) = (value.as_ptr(), value.len());
         // SAFETY: the handle has a file, and the value is as long as is said.
-        done(unsafe { raw::gix_config_set_existing_value(self.edited(), key, at, len) })
+        done(unsafe { raw::gix_config_set_existing_value(self.edited_inside(), key, at, len) })
     }
 
     pub(crate) fn set_existing_values(
@@ -645,12 +658,34 @@ impl File {
     ) -> Result<(), Number> {
         let (at, len) = (values.as_ptr(), values.len());
         // SAFETY: the handle has a file, and there are as many values as is said, which lie there until the call is done.
-        done(unsafe { raw::gix_config_set_existing_values(self.edited(), key, at, len) })
+        done(unsafe { raw::gix_config_set_existing_values(self.edited_inside(), key, at, len) })
     }
 
-    pub(crate) fn new_section(&mut self, names: &Section<'_>) -> Result<(), Number> {
+    /// Gives one of the entries of a key another value.
+    pub(crate) fn set_nth_value(
+        &mut self,
+        key: &Key<'_>,
+        index: usize,
+        value: &[u8],
+    ) -> Result<(), Number> {
+        let (at, len) = (value.as_ptr(), value.len());
+        // SAFETY: the handle has a file, and the value is as long as is said.
+        done(unsafe { raw::gix_config_set_nth_value(self.edited_inside(), key, index, at, len) })
+    }
+
+    /// Deletes one of the entries of a key, where there is one.
+    pub(crate) fn delete_nth_value(&mut self, key: &Key<'_>, index: usize) {
         // SAFETY: the handle has a file.
-        done(unsafe { raw::gix_config_section_new(self.edited(), names) })
+        surely(unsafe { raw::gix_config_delete_nth_value(self.edited_inside(), key, index) });
+    }
+
+    /// Makes a section after all others, and returns its place.
+    pub(crate) fn new_section(&mut self, names: &Section<'_>) -> Result<usize, Number> {
+        let place = self.count();
+        // SAFETY: the handle has a file.
+        done(unsafe { raw::gix_config_section_new(self.edited_inside(), names) })?;
+        self.count.set(Some(place + 1));
+        Ok(place)
     }
 
     pub(crate) fn rename_section(
@@ -659,13 +694,11 @@ impl File {
         new_names: &Section<'_>,
     ) -> Result<(), Number> {
         // SAFETY: the handle has a file.
-        done(unsafe { raw::gix_config_section_rename(self.edited(), names, new_names) })
+        done(unsafe { raw::gix_config_section_rename(self.edited_inside(), names, new_names) })
     }
 
     /// Removes the section at a place, where there is one.
     pub(crate) fn remove_section_at(&mut self, place: usize) {
-        let sections = self.seen().sections().len();
-        self.ids.remove(place, sections);
         // SAFETY: the handle has a file.
         surely(unsafe { raw::gix_config_section_remove_at(self.edited(), place) });
     }
@@ -676,18 +709,18 @@ impl File {
         names: &Section<'_>,
     ) -> Result<(), Number> {
         // SAFETY: the handle has a file.
-        done(unsafe { raw::gix_config_section_rename_at(self.edited(), place, names) })
+        done(unsafe { raw::gix_config_section_rename_at(self.edited_inside(), place, names) })
     }
 
     /// Sets the trust of the section at a place, where there is one.
     pub(crate) fn set_trust_at(&mut self, place: usize, trust: u32) {
         // SAFETY: the handle has a file.
-        surely(unsafe { raw::gix_config_section_set_trust_at(self.edited(), place, trust) });
+        surely(unsafe { raw::gix_config_section_set_trust_at(self.edited_inside(), place, trust) });
     }
 
     pub(crate) fn push_line_at(&mut self, place: usize, line: &Line<'_>) -> Result<(), Number> {
         // SAFETY: the handle has a file.
-        done(unsafe { raw::gix_config_push_line_at(self.edited(), place, line) })
+        done(unsafe { raw::gix_config_push_line_at(self.edited_inside(), place, line) })
     }
 
     pub(crate) fn push_below_last_at(
@@ -696,12 +729,12 @@ impl File {
         assigned: &Assigned<'_>,
     ) -> Result<(), Number> {
         // SAFETY: the handle has a file.
-        done(unsafe { raw::gix_config_push_below_last_at(self.edited(), place, assigned) })
+        done(unsafe { raw::gix_config_push_below_last_at(self.edited_inside(), place, assigned) })
     }
 
     pub(crate) fn push_newline_at(&mut self, place: usize) -> Result<(), Number> {
         // SAFETY: the handle has a file.
-        done(unsafe { raw::gix_config_push_newline_at(self.edited(), place) })
+        done(unsafe { raw::gix_config_push_newline_at(self.edited_inside(), place) })
     }
 
     /// Sets a value in the section at a place, and returns the raw text of the one that was there, if there was an entry.
@@ -713,7 +746,13 @@ impl File {
         let (mut had, mut old) = (false, Bytes::empty());
         // SAFETY: the handle has a file.
         let answer = unsafe {
-            raw::gix_config_set_value_at(self.edited(), place, assigned, &mut had, &mut old.0)
+            raw::gix_config_set_value_at(
+                self.edited_inside(),
+                place,
+                assigned,
+                &mut had,
+                &mut old.0,
+            )
         };
         done(answer)?;
         Ok(had.then(|| old.copy()))
@@ -725,7 +764,7 @@ impl File {
         let (at, len) = (name.as_ptr(), name.len());
         // SAFETY: the handle has a file, and the name is as long as is said.
         done(unsafe {
-            raw::gix_config_remove_value_at(self.edited(), place, at, len, &mut old.0)
+            raw::gix_config_remove_value_at(self.edited_inside(), place, at, len, &mut old.0)
         })?;
         Ok(old.copy())
     }
@@ -735,7 +774,7 @@ impl File {
         let mut count = 0;
         let (at, len) = (name.as_ptr(), name.len());
         let (marks, marks_len) = (marks.as_ptr(), marks.len());
-        let file = self.edited();
+        let file = self.edited_inside();
         // SAFETY: the handle has a file, and name and marks are as long as is said.
         surely(unsafe {
             raw::gix_config_remove_marked_at(file, place, at, len, marks, marks_len, &mut count)
@@ -746,7 +785,7 @@ impl File {
     /// Removes the last entry from the section at a place, and returns its name and value.
     pub(crate) fn pop_value_at(&mut self, place: usize) -> Result<(BString, BString), Number> {
         let (mut name, mut value) = (Bytes::empty(), Bytes::empty());
-        let file = self.edited();
+        let file = self.edited_inside();
         // SAFETY: the handle has a file.
         done(unsafe { raw::gix_config_pop_value_at(file, place, &mut name.0, &mut value.0) })?;
         Ok((name.copy(), value.copy()))

@@ -1,22 +1,31 @@
 //! The sections of a file as they are seen until its next edit.
 use std::cmp::Ordering;
 use std::fmt;
+use std::io;
 use std::ops::Deref;
 
 use bstr::{BStr, BString, ByteSlice};
 
-use crate::ids::{Ids, SectionId};
+use crate::ids::SectionId;
 use crate::meta::Metadata;
 use crate::section::Section;
 use crate::sys::{self, EntryRow, Lazy, Part, SectionRow};
 
 /// All sections and entries of a file, as one call tells them.
-pub(crate) struct Seen {
-    rows: sys::View,
+pub(crate) struct Rows {
+    view: sys::View,
     metas: Vec<Metadata>,
-    ids: Ids,
     /// The places of the sections, by their names.
     by_names: Lazy<Vec<usize>>,
+    /// The same, by their numbers.
+    by_numbers: Lazy<Vec<usize>>,
+}
+
+/// The sections of a file, as they are until it is edited.
+#[derive(Clone, Copy)]
+pub(crate) struct Seen<'a> {
+    file: &'a sys::File,
+    rows: &'a Rows,
 }
 
 /// A name without ASCII case.
@@ -29,46 +38,81 @@ fn by_name(one: &[u8], other: &[u8]) -> Ordering {
     folded(one).cmp(folded(other))
 }
 
-impl Seen {
-    pub(crate) fn of(rows: sys::View, ids: Ids) -> Self {
-        let metas = rows.origins().iter().map(|it| {
-            let path = it.has_path.then(|| rows.part(it.path));
+impl Rows {
+    pub(crate) fn of(view: sys::View) -> Self {
+        let metas = view.origins().iter().map(|it| {
+            let path = it.has_path.then(|| view.part(it.path));
             Metadata::of(path, it.source, it.level, it.trust)
         });
         let metas = metas.collect();
-        let by_names = Lazy::default();
-        Seen {
-            rows,
+        Rows {
+            view,
             metas,
-            ids,
-            by_names,
+            by_names: Lazy::default(),
+            by_numbers: Lazy::default(),
         }
     }
 
-    pub(crate) fn num_entries(&self) -> usize {
-        self.rows.entries().len()
+    fn part(&self, part: Part) -> &BStr {
+        self.view.part(part).as_bstr()
+    }
+
+    /// The number of the section at a place.
+    fn id(&self, place: usize) -> SectionId {
+        SectionId(self.view.sections()[place].number)
+    }
+}
+
+impl<'a> Seen<'a> {
+    pub(crate) fn of(file: &'a sys::File, rows: &'a Rows) -> Self {
+        Seen { file, rows }
+    }
+
+    pub(crate) fn num_entries(self) -> usize {
+        self.rows.view.entries().len()
     }
 
     /// The section at a place, where there is one.
-    pub(crate) fn section(&self, place: usize) -> SectionRef<'_> {
-        let row = &self.rows.sections()[place];
-        let entries = &self.rows.entries()[row.entries_at..][..row.entries_len];
-        let seen = self;
-        let body = BodyRef { seen, entries };
-        SectionRef { row, place, body }
+    pub(crate) fn section(self, place: usize) -> SectionRef<'a> {
+        let Seen { file, rows } = self;
+        let row = &rows.view.sections()[place];
+        let entries = &rows.view.entries()[row.entries_at..][..row.entries_len];
+        let body = BodyRef {
+            file,
+            rows,
+            place,
+            entries,
+        };
+        SectionRef { row, body }
+    }
+
+    /// The places of all sections.
+    fn all(self) -> std::ops::Range<usize> {
+        0..self.rows.view.sections().len()
     }
 
     /// All sections, in order.
     pub(crate) fn sections(
-        &self,
-    ) -> impl DoubleEndedIterator<Item = SectionRef<'_>> + ExactSizeIterator {
-        (0..self.rows.sections().len()).map(move |place| self.section(place))
+        self,
+    ) -> impl DoubleEndedIterator<Item = SectionRef<'a>> + ExactSizeIterator {
+        self.all().map(move |place| self.section(place))
+    }
+
+    /// The place of the section that has the number, if one has it.
+    pub(crate) fn place(self, id: SectionId) -> Option<usize> {
+        let sorted = self.rows.by_numbers.get(|| {
+            let mut places: Vec<_> = self.all().collect();
+            places.sort_unstable_by_key(|place| self.rows.id(*place));
+            places
+        });
+        let found = sorted.binary_search_by_key(&id, |place| self.rows.id(*place));
+        found.ok().map(|at| sorted[at])
     }
 
     /// The places of the sections of which this is the order in which they are sorted: those of one name, or of one name and subsection.
-    fn places(&self, order: impl Fn(&HeaderRef<'_>) -> Ordering) -> &[usize] {
-        let sorted = self.by_names.get(|| {
-            let mut places: Vec<_> = (0..self.rows.sections().len()).collect();
+    fn places(self, order: impl Fn(&HeaderRef<'_>) -> Ordering) -> &'a [usize] {
+        let sorted = self.rows.by_names.get(|| {
+            let mut places: Vec<_> = self.all().collect();
             places.sort_by_cached_key(|place| {
                 let header = self.section(*place).header();
                 (header.name.to_ascii_lowercase(), header.subsection_name)
@@ -82,27 +126,23 @@ impl Seen {
     }
 
     /// The sections of a name, in order.
-    pub(crate) fn of_name(&self, name: &str) -> Vec<SectionRef<'_>> {
+    pub(crate) fn of_name(self, name: &str) -> Vec<SectionRef<'a>> {
         let mut places = self.places(|it| by_name(it.name, name.as_bytes())).to_vec();
         places.sort_unstable();
         places.into_iter().map(|it| self.section(it)).collect()
     }
 
     /// The sections of a name and a subsection, or none, in order.
-    pub(crate) fn of_names<'a>(
-        &'a self,
+    pub(crate) fn of_names(
+        self,
         name: &str,
         subsection_name: Option<&BStr>,
-    ) -> impl DoubleEndedIterator<Item = SectionRef<'a>> + ExactSizeIterator + 'a {
+    ) -> impl DoubleEndedIterator<Item = SectionRef<'a>> + ExactSizeIterator {
         let places = self.places(|it| {
             let first = by_name(it.name, name.as_bytes());
             first.then(it.subsection_name.cmp(&subsection_name))
         });
         places.iter().map(move |place| self.section(*place))
-    }
-
-    fn part(&self, part: Part) -> &BStr {
-        self.rows.part(part).as_bstr()
     }
 }
 
@@ -111,7 +151,6 @@ impl Seen {
 #[derive(Clone, Copy)]
 pub struct SectionRef<'a> {
     row: &'a SectionRow,
-    place: usize,
     body: BodyRef<'a>,
 }
 
@@ -119,10 +158,11 @@ impl<'a> SectionRef<'a> {
     /// The section's header.
     #[must_use]
     pub fn header(&self) -> HeaderRef<'a> {
-        let (seen, row) = (self.body.seen, self.row);
+        let (rows, row) = (self.body.rows, self.row);
         HeaderRef {
-            name: seen.part(row.name),
-            subsection_name: row.has_subsection.then(|| seen.part(row.subsection)),
+            name: rows.part(row.name),
+            subsection_name: row.has_subsection.then(|| rows.part(row.subsection)),
+            text: HeaderText::Of(self.body),
         }
     }
 
@@ -135,18 +175,41 @@ impl<'a> SectionRef<'a> {
     /// Where the section comes from. Sections that stand one after the other and come from the same place have one between them.
     #[must_use]
     pub fn meta(&self) -> &'a Metadata {
-        &self.body.seen.metas[self.row.origin]
+        &self.body.rows.metas[self.row.origin]
     }
 
     /// The section's number in its file.
     #[must_use]
     pub fn id(&self) -> SectionId {
-        self.body.seen.ids.at(self.place)
+        SectionId(self.row.number)
+    }
+
+    /// The section as it is written: its header, and all that stands up to the next one.
+    ///
+    /// # Examples
+    ///
+    /// ```
+    /// let file = gix_config::File::try_from("[a]\n\tk = 1 ; one\n[b]\n")?;
+    /// assert_eq!(file.section("a", None)?.to_bstring(), "[a]\n\tk = 1 ; one\n");
+    /// # Ok::<(), Box<dyn std::error::Error>>(())
+    /// ```
+    #[must_use]
+    pub fn to_bstring(&self) -> BString {
+        self.body.section_text().copy()
+    }
+
+    /// Writes the section as [`SectionRef::to_bstring`] has it.
+    ///
+    /// # Errors
+    ///
+    /// Those of the writer.
+    pub fn write_to(&self, out: &mut dyn io::Write) -> io::Result<()> {
+        out.write_all(self.body.section_text().bytes())
     }
 
     /// Its place among the sections of the file, from 0.
     pub(crate) fn place(&self) -> usize {
-        self.place
+        self.body.place
     }
 
     /// A copy that stays when the file is edited.
@@ -155,6 +218,7 @@ impl<'a> SectionRef<'a> {
         let header = self.header();
         let entries = self.body.entries();
         Section {
+            header: header.to_bstring(),
             name: header.name.into(),
             subsection_name: header.subsection_name.map(BString::from),
             meta: self.meta().clone(),
@@ -191,11 +255,38 @@ impl fmt::Debug for SectionRef<'_> {
     }
 }
 
-/// The header of a section.
-#[derive(Clone, Copy, Debug, PartialEq, Eq)]
+/// Where a header is written.
+#[derive(Clone, Copy)]
+pub(crate) enum HeaderText<'a> {
+    /// Before these entries.
+    Of(BodyRef<'a>),
+    /// It is this text.
+    Alone(&'a BStr),
+}
+
+/// The header of a section. Equal ones have the same names, as they are spelled.
+#[derive(Clone, Copy)]
 pub struct HeaderRef<'a> {
     pub(crate) name: &'a BStr,
     pub(crate) subsection_name: Option<&'a BStr>,
+    pub(crate) text: HeaderText<'a>,
+}
+
+impl PartialEq for HeaderRef<'_> {
+    fn eq(&self, other: &Self) -> bool {
+        (self.name, self.subsection_name) == (other.name, other.subsection_name)
+    }
+}
+
+impl Eq for HeaderRef<'_> {}
+
+impl fmt::Debug for HeaderRef<'_> {
+    fn fmt(&self, f: &mut fmt::Formatter<'_>) -> fmt::Result {
+        f.debug_struct("HeaderRef")
+            .field("name", &self.name)
+            .field("subsection_name", &self.subsection_name)
+            .finish()
+    }
 }
 
 impl<'a> HeaderRef<'a> {
@@ -210,13 +301,33 @@ impl<'a> HeaderRef<'a> {
     pub fn subsection_name(&self) -> Option<&'a BStr> {
         self.subsection_name
     }
+
+    /// The header as it is written, with its brackets.
+    #[must_use]
+    pub fn to_bstring(&self) -> BString {
+        match self.text {
+            HeaderText::Of(body) => {
+                let text = body.section_text();
+                text.bytes()[..header_len(text.bytes())].into()
+            }
+            HeaderText::Alone(text) => text.into(),
+        }
+    }
+
+    /// Whether the subsection's name stands behind a dot, and not in quotes.
+    #[must_use]
+    pub fn is_legacy(&self) -> bool {
+        self.subsection_name.is_some() && !self.to_bstring().contains(&b'"')
+    }
 }
 
 /// The entries of a section, as they are until the file is edited. Looked through they are pairs of a name, as it is spelled, and what the
 /// value means, which is empty for an entry without `=`; [`BodyRef::entries`] borrows both.
 #[derive(Clone, Copy)]
 pub struct BodyRef<'a> {
-    seen: &'a Seen,
+    file: &'a sys::File,
+    rows: &'a Rows,
+    place: usize,
     entries: &'a [EntryRow],
 }
 
@@ -264,9 +375,36 @@ pub(crate) fn is_named(name: &BStr, value_name: &str) -> bool {
     name.eq_ignore_ascii_case(value_name.as_bytes())
 }
 
+/// How long the header is that a section's text begins with.
+fn header_len(text: &[u8]) -> usize {
+    let mut is_quoted = false;
+    let mut bytes = text.iter().enumerate();
+    while let Some((at, byte)) = bytes.next() {
+        match byte {
+            b'"' => is_quoted = !is_quoted,
+            b'\\' if is_quoted => drop(bytes.next()),
+            b']' if !is_quoted => return at + 1,
+            _ => {}
+        }
+    }
+    text.len()
+}
+
 impl<'a> BodyRef<'a> {
     fn pairs(&self) -> Entries<'a> {
         self.entries()
+    }
+
+    /// The text of the section, with its header.
+    fn section_text(&self) -> sys::Bytes {
+        self.file.section_text(self.place)
+    }
+
+    /// Whether nothing follows the header, not even a line ending.
+    #[must_use]
+    pub fn is_void(&self) -> bool {
+        let text = self.section_text();
+        header_len(text.bytes()) == text.bytes().len()
     }
 
     lookups!();
@@ -275,8 +413,8 @@ impl<'a> BodyRef<'a> {
     #[must_use]
     pub fn entries(&self) -> Entries<'a> {
         let left = self.entries.iter();
-        let seen = self.seen;
-        Entries { seen, left }
+        let rows = self.rows;
+        Entries { rows, left }
     }
 
     /// The names of the entries, as they are spelled, in order, each as often as it occurs.
@@ -311,14 +449,14 @@ impl fmt::Debug for BodyRef<'_> {
 /// The entries of a section, one after the other.
 #[derive(Clone)]
 pub struct Entries<'a> {
-    seen: &'a Seen,
+    rows: &'a Rows,
     left: std::slice::Iter<'a, EntryRow>,
 }
 
 impl<'a> Entries<'a> {
     fn entry(&self, row: &EntryRow) -> (&'a BStr, Option<&'a BStr>) {
-        let value = row.has_value.then(|| self.seen.part(row.value));
-        (self.seen.part(row.name), value)
+        let value = row.has_value.then(|| self.rows.part(row.value));
+        (self.rows.part(row.name), value)
     }
 }
 

@@ -357,9 +357,13 @@ fn includes_are_put_where_they_stand() {
     assert_eq!(files.1, 3);
 
     let mut other = File::try_from("[include]\n\tpath = /b\n[x]\n").expect("a text");
+    let own: Vec<_> = other.section_ids().collect();
     other
         .resolve_includes_of(options, &mut files)
         .expect("files");
+    let all: Vec<_> = other.section_ids().collect();
+    assert_eq!((all[0], all[2]), (own[0], own[1]));
+    assert!(!own.contains(&all[1]));
     assert_eq!(
         other.to_string(),
         "[include]\n\tpath = /b\n[y]\n\tk = 2\n[x]\n"
@@ -1249,6 +1253,146 @@ fn editors_of_values() {
     assert_eq!(bare.get(), Err(lookup::existing::Error::KeyMissing));
     let none = file.raw_value_mut_filter("a.k", |_| false);
     assert_eq!(none.map(drop), Err(lookup::existing::Error::KeyMissing));
+}
+
+#[test]
+fn sections_are_made_after_all_others() {
+    let put = |file: &mut File, name: &str| {
+        let mut editor = file.new_section(name, None).expect("a section");
+        editor.push("k", name).expect("a name");
+    };
+    let mut file = File::try_from("[a]\n[b]\n").expect("a text");
+    put(&mut file, "c");
+    put(&mut file, "d");
+    file.remove_section("a", None).expect("a section");
+    put(&mut file, "e");
+    file.set_raw_value("f.k", "f").expect("a section");
+    put(&mut file, "g");
+    let more = "[h]\n\tk = h\n[i]\n\tk = i\n";
+    file.append(File::try_from(more).expect("a text"))
+        .expect("room");
+    put(&mut file, "j");
+    let mut copy = file.clone();
+    put(&mut copy, "l");
+    put(&mut file, "m");
+    assert!(file.new_section("n o", None).is_err());
+    put(&mut file, "p");
+    let names = |file: &File| -> Vec<_> {
+        let names = file.sections().map(|it| it.header().name().to_string());
+        names.collect()
+    };
+    let all = ["b", "c", "d", "e", "f", "g", "h", "i", "j"];
+    assert_eq!(names(&copy), [&all[..], &["l"]].concat());
+    assert_eq!(names(&file), [&all[..], &["m", "p"]].concat());
+    for section in file.sections().skip(1) {
+        assert_eq!(section.values("k"), [section.header().name()]);
+    }
+}
+
+#[test]
+fn editors_of_several_values() {
+    let text = "[a]\n\tk = 1\n[b]\n[A]\n\tk = 3 ; three\n\tK\n[a \"s\"]\n\tk = 4\n";
+    let mut file = File::try_from(text).expect("a text");
+    let mut values = file.raw_values_mut("a.k").expect("entries");
+    assert_eq!(values.get(), Ok(texts(&["1", "3", ""])));
+    assert_eq!((values.len(), values.is_empty()), (3, false));
+    values.set_values(["x", "y"]).expect("room");
+    values.set_string_at(2, "z w").expect("room");
+    assert_eq!(values.get(), Ok(texts(&["x", "y", "z w"])));
+    values.delete(1);
+    values.set_at(1, "v").expect("room");
+    assert_eq!(values.get(), Ok(texts(&["x", "v"])));
+    let text = "[a]\n\tk = x\n[b]\n[A]\n\t ; three\n\tk = v\n[a \"s\"]\n\tk = 4\n";
+    assert_eq!(file.to_string(), text);
+
+    let first = file.section_ids().next().expect("a section");
+    let mut editor = file.section_mut_by_id(first).expect("a section");
+    editor.set_trust(Trust::Reduced);
+    let trusted = |meta: &Metadata| meta.trust == Trust::Full;
+    let mut values = file
+        .raw_values_mut_filter_by("a", None, "K", trusted)
+        .expect("entries");
+    assert_eq!(values.get(), Ok(texts(&["v"])));
+    values.set_all("all").expect("room");
+    assert_eq!(file.strings("a.k"), Some(texts(&["x", "all"])));
+    let mut values = file.raw_values_mut_by("a", None, "k").expect("entries");
+    values.delete_all();
+    assert!(values.is_empty());
+    assert_eq!(values.get(), Err(lookup::existing::Error::KeyMissing));
+    assert_eq!(file.strings("a.k"), None);
+    let number = |key, kept| {
+        let mut file = File::try_from("[a]\n\tk = 1\n").expect("a text");
+        let values = file.raw_values_mut_filter(key, |_| kept);
+        values.map(drop).map_err(|it| it.number())
+    };
+    assert_eq!(
+        (number("a.k", true), number("a.k", false)),
+        (Ok(()), Err(9))
+    );
+    assert_eq!((number("a.j", true), number("b.k", true)), (Err(9), Err(7)));
+    assert_eq!(
+        (number("a.s.k", true), number("a.1", true)),
+        (Err(8), Err(6))
+    );
+}
+
+#[test]
+fn texts_of_sections() {
+    let mut file = File::try_from("# mine\n[a]\n\tk = 1 ; one\n\n# b\n[b \"x\"]").expect("a text");
+    let told: Vec<_> = file.sections().map(|it| it.to_bstring()).collect();
+    assert_eq!(told, ["[a]\n\tk = 1 ; one\n\n# b\n", "[b \"x\"]"]);
+    let mut written = Vec::new();
+    let section = file.section("b", "x").expect("a section");
+    section.write_to(&mut written).expect("memory");
+    assert_eq!(written.as_bstr(), "[b \"x\"]");
+    let mut editor = file.section_mut("a", None).expect("a section");
+    editor.set("k", "2").expect("a value");
+    assert_eq!(editor.to_bstring(), "[a]\n\tk = 2 ; one\n\n# b\n");
+}
+
+#[test]
+fn headers_as_they_are_written() {
+    let text = "[a]k\n[B.C]\n[b \"x]\\\"]\"] [b \"c\"]#\n";
+    let mut file = File::try_from(text).expect("a text");
+    let told = |it: SectionRef<'_>| (it.header().to_bstring(), it.header().is_legacy());
+    let all: Vec<_> = file.sections().map(told).collect();
+    let wanted = [
+        ("[a]", false),
+        ("[B.C]", true),
+        ("[b \"x]\\\"]\"]", false),
+        ("[b \"c\"]", false),
+    ];
+    let wanted = wanted.map(|(text, is_legacy)| (BString::from(text), is_legacy));
+    assert_eq!(all, wanted);
+    let sections: Vec<_> = file.sections().map(|it| it.to_owned()).collect();
+    // (the same name of a subsection, as it is read)
+    assert_ne!(sections[1], sections[3]);
+    assert_eq!(sections[1].header().subsection_name(), Some("c".into()));
+    let removed = file.remove_section("b", "c").expect("a section");
+    assert_eq!(
+        (&removed, removed.header().to_bstring()),
+        (&sections[3], "[b \"c\"]".into())
+    );
+}
+
+#[test]
+fn sections_with_nothing_in_them() {
+    let void = |text: &str| -> Vec<_> {
+        let file = File::try_from(text).expect("a text");
+        let each: Vec<_> = file.sections().map(|it| it.body().is_void()).collect();
+        assert_eq!(file.is_void(), !each.contains(&false));
+        each
+    };
+    assert_eq!(void("# front\n"), []);
+    assert_eq!(void("[a][b \"x]\\\"]\"][c.d]"), [true, true, true]);
+    assert_eq!(
+        void("[a]\n[b \"]\"] [c]k\n[d]#\n[e]"),
+        [false, false, false, false, true]
+    );
+    let mut made = File::try_from("[a]").expect("a text");
+    let mut editor = made.section_mut("a", None).expect("a section");
+    assert!(editor.is_void());
+    assert!(!editor.push("k", "v").expect("a name").is_void());
 }
 
 #[test]

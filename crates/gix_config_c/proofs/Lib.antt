@@ -9,3 +9,4 @@ pub mod ValueLemmas
 pub mod HostLemmas
 pub mod KeyLemmas
 pub mod ViewLemmas
+pub mod NthLemmas

@@ -1,17 +1,17 @@
 -- The rows in which sections are laid out say just these sections.
-use Rattle.std.proofs.Common.{◌≡◌, ℕ, zero, suc, ◌+◌, ◌-◌, ◌≤◌, Bool, true, false, List, [], ◌∷◌, ◌++◌, length, min, not, take, drop, Option, Some, None, if◌then◌else◌, refl, ap, sym, subst, ◌∙◌, append_assoc, arith}
+use Rattle.std.proofs.Common.{◌≡◌, ℕ, zero, suc, ◌+◌, ◌-◌, ◌≤◌, Bool, true, false, List, [], ◌∷◌, ◌++◌, length, not, take, drop, Option, Some, None, if◌then◌else◌, refl, ap, sym, subst, ◌∙◌, append_assoc, arith}
 use Rattle.std.specs.Prelude.{◌&&◌, flat_map, is_some, slice_get}
 use Rattle.std.specs.List.{AllZip}
 use Rattle.std.specs.Cmp.Lexicographic.{same_text}
-use Rattle.std.proofs.lemmas.Bool.{eqb-true, leb-true}
+use Rattle.std.proofs.lemmas.Bool.{eqb-true}
 use Rattle.std.proofs.lemmas.Grind.{flat_map-append}
-use Rattle.std.proofs.lemmas.List.{append-nil, drop-append-le, length-append, length-drop, length-take, take-append-le, take_all}
+use Rattle.std.proofs.lemmas.List.{append-nil, drop-append-le, length-append, length-drop, take-append-le, take_all}
 use Rattle.std.proofs.Math.Seq.{drop-append_seam}
 use Rattle.gitconf_sources.specs.Metadata.{Meta}
 use Rattle.gitconf_state.specs.State.{SectionState, entries_of}
 use Rattle.gitconf_text.specs.Document.{DocumentEntry}
 use Rattle.gitconf_text.specs.Header.{name_of, subsection_of}
-use Rattle.gix_config_c.specs.Laying.{bytes_if, is_part, meant, no_rows, origin_at, origin_row, part_for, part_if, said_at, said_last, same_path, says, section_row, with_entries, with_entry, with_names, with_origin, with_section, with_sections}
+use Rattle.gix_config_c.specs.Laying.{is_part, is_zero, meant, no_rows, origin_at, origin_row, part_for, part_if, said_at, said_last, same_path, says, section_row, with_bytes, with_bytes_if, with_entries, with_entry, with_names, with_origin, with_section, with_sections}
 use Rattle.gix_config_c.specs.Views.{AreRowsOf, IsEntryRow, IsOriginRow, IsPart, IsPartIf, IsSectionRow, Rows}
 use Rattle.gix_config_c.specs.declared.view.EntryRow.{EntryRow}
 use Rattle.gix_config_c.specs.declared.view.OriginRow.{OriginRow}
@@ -31,9 +31,6 @@ Begins {A} shorter longer = (more : List A) × (longer ≡ shorter ++ more)
 begins_same : {A : Type 0} (xs : List A) → Begins xs xs
 begins_same xs = ([], sym (append-nil xs))
 
-begins_more : {A : Type 0} (xs more ys : List A) → Begins (xs ++ more) ys → Begins xs ys
-begins_more xs more ys b = (more ++ b.0, b.1 ∙ append_assoc xs more b.0)
-
 begins_all : {A : Type 0} (xs ys zs : List A) → Begins xs ys → Begins ys zs → Begins xs zs
 begins_all xs ys zs b c = (b.0 ++ c.0, c.1 ∙ ap (λ l. l ++ c.0) b.1 ∙ append_assoc xs b.0 c.0)
 
@@ -50,6 +47,17 @@ get_more : {A : Type 0} (xs more : List A) (i : ℕ) (x : A) → slice_get xs i 
 get_more [] more i x h = absurd (let no : ◌≡◌ {A = Option _} None (Some x) = h in cc)
 get_more (y ∷ xs) more zero x h = h
 get_more (y ∷ xs) more (suc i) x h = get_more xs more i x h
+
+get_within : {A : Type 0} (xs : List A) (i : ℕ) (x : A) → slice_get xs i ≡ Some x → suc i ≤ length xs
+get_within [] i x h = absurd (let no : ◌≡◌ {A = Option _} None (Some x) = h in cc)
+get_within (y ∷ xs) zero x h = omega arith
+get_within (y ∷ xs) (suc i) x h = let within = get_within xs i x h in omega arith
+
+get_drop : {A : Type 0} (n : ℕ) (xs : List A) (i k : ℕ) → k ≡ n + i → slice_get (drop n xs) i ≡ slice_get xs k
+get_drop zero xs i k same = ap (slice_get xs) (omega arith)
+get_drop (suc n) [] i k same = refl
+get_drop (suc n) (x ∷ xs) i zero same = absurd (omega arith)
+get_drop (suc n) (x ∷ xs) i (suc k) same = get_drop n xs i k (omega arith)
 
 get_new : {A : Type 0} (xs : List A) (x : A) → slice_get (xs ++ x ∷ []) (length xs) ≡ Some x
 get_new [] x = refl
@@ -76,7 +84,8 @@ zip_long R (x ∷ xs) (y ∷ ys) h = ap suc (zip_long R xs ys h.1)
 -- Parts of a text that grows.
 
 part_more : (text more : List ℕ) (part : Part) (bytes : List ℕ) → IsPart text part bytes → IsPart (text ++ more) part bytes
-part_more text more part bytes h = record { same = slice_more part.at part.len text more h.within ∙ h.same; within = within_more (part.at + part.len) text more h.within }
+part_more text more part bytes h = let within = get_within text (part.at + part.len) 0 h.closed in
+    record { same = slice_more part.at part.len text more (omega arith) ∙ h.same; closed = get_more text more (part.at + part.len) 0 h.closed }
 
 part_in : (text longer : List ℕ) → Begins text longer → (part : Part) (bytes : List ℕ) → IsPart text part bytes → IsPart longer part bytes
 part_in text longer b part bytes h = subst (λ t. IsPart t part bytes) (sym b.1) (part_more text b.0 part bytes h)
@@ -85,10 +94,20 @@ part_if_in : (text longer : List ℕ) → Begins text longer → (is_there : Boo
 part_if_in text longer b is_there part (Some bytes) h = (h.0, part_in text longer b part bytes h.1)
 part_if_in text longer b is_there part None h = h
 
-part_made : (text bytes : List ℕ) → IsPart (text ++ bytes) (part_for text bytes) bytes
-part_made text bytes = record { same = slice_end text bytes; within = rw length-append (omega arith) }
+begins_bytes : (text bytes : List ℕ) → Begins text (with_bytes text bytes)
+begins_bytes text bytes = (bytes ++ 0 ∷ [], append_assoc text bytes (0 ∷ []))
 
-part_if_made : (text : List ℕ) (bytes : Option (List ℕ)) → IsPartIf (text ++ bytes_if bytes) (is_some bytes) (part_if text bytes) bytes
+begins_bytes_if : (text : List ℕ) (bytes : Option (List ℕ)) → Begins text (with_bytes_if text bytes)
+begins_bytes_if text (Some bytes) = begins_bytes text bytes
+begins_bytes_if text None = begins_same text
+
+part_made : (text bytes : List ℕ) → IsPart (with_bytes text bytes) (part_for text bytes) bytes
+part_made text bytes = record {
+  same = slice_more (length text) (length bytes) (text ++ bytes) (0 ∷ []) (rw length-append (omega arith)) ∙ slice_end text bytes;
+  closed = subst (λ n. slice_get (with_bytes text bytes) n ≡ Some 0) (length-append text bytes) (get_new (text ++ bytes) 0);
+}
+
+part_if_made : (text : List ℕ) (bytes : Option (List ℕ)) → IsPartIf (with_bytes_if text bytes) (is_some bytes) (part_if text bytes) bytes
 part_if_made text (Some bytes) = (refl, part_made text bytes)
 part_if_made text None = refl
 
@@ -101,12 +120,12 @@ entry_in text longer b row e h = record {
 }
 
 abbrev row_of : Rows → DocumentEntry → EntryRow
-row_of r e = record { name = part_for r.text e.name; value = part_if (r.text ++ e.name) (meant e); has_value = is_some (meant e) }
+row_of r e = record { name = part_for r.text e.name; value = part_if (with_bytes r.text e.name) (meant e); has_value = is_some (meant e) }
 
 entry_made : (r : Rows) (e : DocumentEntry) → IsEntryRow (with_entry r e).text (row_of r e) e
 entry_made r e = record {
-  name = part_more (r.text ++ e.name) (bytes_if (meant e)) _ _ (part_made r.text e.name);
-  value = part_if_made (r.text ++ e.name) (meant e);
+  name = part_in _ _ (begins_bytes_if (with_bytes r.text e.name) (meant e)) _ _ (part_made r.text e.name);
+  value = part_if_made (with_bytes r.text e.name) (meant e);
 }
 
 -- what entries that are laid out add
@@ -122,7 +141,7 @@ added : (r : Rows) (es : List DocumentEntry) → Added r es
 unfolding with_entries
 added r [] = record { text = begins_same r.text; new = []; entries = sym (append-nil r.entries); rows = tt; origins = refl; sections = refl }
 added r (e ∷ es) = let a = added (with_entry r e) es in record {
-  text = begins_more r.text _ _ (begins_more (r.text ++ e.name) _ _ a.text);
+  text = begins_all _ _ _ (begins_bytes r.text e.name) (begins_all _ _ _ (begins_bytes_if (with_bytes r.text e.name) (meant e)) a.text);
   new = row_of r e ∷ a.new;
   entries = a.entries ∙ append_assoc r.entries (row_of r e ∷ []) a.new;
   rows = (entry_in _ _ a.text (row_of r e) e (entry_made r e), a.rows);
@@ -137,15 +156,17 @@ origin_in text longer b meta row h = record { path = part_if_in text longer b ro
 
 part_holds : (text : List ℕ) (part : Part) (bytes : List ℕ) → is_part text part bytes ≡ true → IsPart text part bytes
 part_holds text part bytes h =
-    let a = both _ _ h in let b = both _ _ a.1 in
-    let inside = leb-true part.at (length text) a.0 in
-    let long = eqb-true part.len (length bytes) b.0 in
-    let same = same_text bytes (take (length bytes) (drop part.at text)) (sym b.1) in
-    let fits : length bytes ≤ length text - part.at = fitting bytes (drop part.at text) (length text - part.at) same (length-drop part.at text) in
-    record { same = ap (λ n. take n (drop part.at text)) long ∙ sym same; within = omega arith }
+    let a = both _ _ h in let b = both _ _ a.1 in let c = both _ _ b.0 in
+    let long = eqb-true part.len (length bytes) c.0 in
+    let same = same_text bytes (take (length bytes) (drop part.at text)) (sym c.1) in
+    record {
+      same = ap (λ n. take n (drop part.at text)) long ∙ sym same;
+      closed = sym (get_drop part.at text (length bytes) (part.at + part.len) (omega arith)) ∙ zero_holds (slice_get (drop part.at text) (length bytes)) b.1;
+    }
   where
-    fitting : (bytes behind : List ℕ) (n : ℕ) → bytes ≡ take (length bytes) behind → length behind ≡ n → length bytes ≤ n
-    fitting bytes behind n same long = let h : length bytes ≡ min (length bytes) (length behind) = ap length same ∙ length-take (length bytes) behind in omega arith
+    zero_holds : (byte : Option ℕ) → is_zero byte ≡ true → byte ≡ Some 0
+    zero_holds (Some byte) h = ap Some (eqb-true byte 0 h)
+    zero_holds None h = absurd (let no : ◌≡◌ {A = Bool} false true = h in cc)
 
 path_holds : (text : List ℕ) (row : OriginRow) (path : Option (List ℕ)) → same_path text row path ≡ true → IsPartIf text row.has_path row.path path
 path_holds text row (Some path) h = let a = both _ _ h in (a.0, part_holds text row.path path a.1)
@@ -187,7 +208,7 @@ placed r meta = go (said_last r meta) refl
     go (Some n) e = let told = said_found r.text (slice_get r.origins (length r.origins - 1)) (length r.origins - 1) n meta e in
         rw (e, origin_at, with_origin) (record { text = begins_same r.text; origins = begins_same r.origins; says = (told.1.0, ap (slice_get r.origins) told.0 ∙ told.1.1, told.1.2); entries = refl; sections = refl })
     go None e = rw (e, origin_at, with_origin) (record {
-      text = (bytes_if meta.path, refl);
+      text = begins_bytes_if r.text meta.path;
       origins = (origin_row r.text meta ∷ [], refl);
       says = (origin_row r.text meta, get_new r.origins (origin_row r.text meta), record { path = part_if_made r.text meta.path; source = refl; level = refl; trust = refl });
       entries = refl;
@@ -210,6 +231,7 @@ section_in r t g row s h = record {
   entries = subst (λ l. AllZip (IsEntryRow t.text) l (entries_of s.items)) (sym (ap (λ l. take row.entries_len (drop row.entries_at l)) g.entries.1 ∙ slice_more row.entries_at row.entries_len r.entries g.entries.0 h.within))
       (zip_so _ _ (entry_in r.text t.text g.text) _ _ h.entries);
   within = subst (λ l. row.entries_at + row.entries_len ≤ length l) (sym g.entries.1) (within_more _ r.entries g.entries.0 h.within);
+  number = h.number;
 }
 
 -- what a section that is laid out adds
@@ -229,7 +251,8 @@ added_section r s =
     let n = with_names o s in
     let a = added n (entries_of s.items) in
     let d = with_entries n (entries_of s.items) in
-    let named : Begins o.text n.text = (name_of s.header ++ bytes_if (subsection_of s.header), append_assoc o.text (name_of s.header) (bytes_if (subsection_of s.header))) in
+    let behind : Begins (with_bytes o.text (name_of s.header)) n.text = begins_bytes_if (with_bytes o.text (name_of s.header)) (subsection_of s.header) in
+    let named : Begins o.text n.text = begins_all _ _ _ (begins_bytes o.text (name_of s.header)) behind in
     let entries : d.entries ≡ r.entries ++ a.new = a.entries ∙ ap (λ l. l ++ a.new) p.entries in
     let count : length a.new ≡ length (entries_of s.items) = zip_long _ a.new (entries_of s.items) a.rows in
     let total : length d.entries ≡ length o.entries + length (entries_of s.items) = ap length a.entries ∙ length-append o.entries a.new ∙ ap (λ k. length o.entries + k) count in
@@ -242,11 +265,12 @@ added_section r s =
       row = section_row o (origin_at r s.meta) s;
       sections = ap (λ l. l ++ section_row o (origin_at r s.meta) s ∷ []) (a.sections ∙ p.sections);
       says = record {
-        name = part_in _ _ (begins_all _ _ _ (bytes_if (subsection_of s.header), refl) a.text) _ _ (part_made o.text (name_of s.header));
-        subsection = part_if_in _ _ a.text _ _ _ (part_if_made (o.text ++ name_of s.header) (subsection_of s.header));
+        name = part_in _ _ (begins_all _ _ _ behind a.text) _ _ (part_made o.text (name_of s.header));
+        subsection = part_if_in _ _ a.text _ _ _ (part_if_made (with_bytes o.text (name_of s.header)) (subsection_of s.header));
         origin = (p.says.0, ap (λ l. slice_get l (origin_at r s.meta)) a.origins ∙ p.says.1, origin_in o.text d.text (begins_all _ _ _ named a.text) s.meta p.says.0 p.says.2);
         entries = subst (λ l. AllZip (IsEntryRow d.text) l (entries_of s.items)) (sym (own o.entries a.new d.entries (length (entries_of s.items)) a.entries count)) a.rows;
         within = omega arith;
+        number = refl;
       };
       new = a.new;
       entries = entries;

@@ -1,5 +1,5 @@
 -- How sections are laid out in the arrays of a view: where the bytes and rows of each go, behind those that are there.
-use Rattle.std.specs.Prelude.{◌++◌, ◌∷◌, [], ◌==◌, ◌&&◌, ◌-◌, ℕ, Bool, not, nat_le, nat_eq, List, length, drop, slice_get, Option, Some, None, is_some, if◌then◌else◌}
+use Rattle.std.specs.Prelude.{◌++◌, ◌∷◌, [], ◌==◌, ◌&&◌, ◌-◌, ℕ, Bool, false, not, nat_le, nat_eq, List, length, drop, slice_get, Option, Some, None, is_some, if◌then◌else◌}
 use Rattle.std.specs.List.{starts_with}
 use Rattle.std.specs.Option.{option_map}
 use Rattle.gitconf_sources.specs.Metadata.{Meta}
@@ -26,10 +26,14 @@ abbrev pub part_if : (text : List ℕ) → Option (List ℕ) → Part
 part_if text (Some bytes) = part_for text bytes
 part_if text None = record { at = 0; len = 0 }
 
--- bytes that there may be
-abbrev pub bytes_if : Option (List ℕ) → List ℕ
-bytes_if (Some bytes) = bytes
-bytes_if None = []
+-- bytes put behind a text, and a zero byte behind them
+abbrev pub with_bytes : (text bytes : List ℕ) → List ℕ
+with_bytes text bytes = (text ++ bytes) ++ 0 ∷ []
+
+-- the same for bytes that there may be
+abbrev pub with_bytes_if : (text : List ℕ) → Option (List ℕ) → List ℕ
+with_bytes_if text (Some bytes) = with_bytes text bytes
+with_bytes_if text None = text
 
 -- what an entry means, if it has `=`
 abbrev pub meant : DocumentEntry → Option (List ℕ)
@@ -38,8 +42,8 @@ meant e = option_map plain e.raw
 -- an entry laid out: its name, and what it means
 abbrev pub with_entry : Rows → DocumentEntry → Rows
 with_entry r e = record r {
-  text = (r.text ++ e.name) ++ bytes_if (meant e);
-  entries = r.entries ++ record { name = part_for r.text e.name; value = part_if (r.text ++ e.name) (meant e); has_value = is_some (meant e) } ∷ [];
+  text = with_bytes_if (with_bytes r.text e.name) (meant e);
+  entries = r.entries ++ record { name = part_for r.text e.name; value = part_if (with_bytes r.text e.name) (meant e); has_value = is_some (meant e) } ∷ [];
 }
 
 -- entries laid out, one after the other
@@ -47,9 +51,14 @@ unfoldable pub with_entries : Rows → List DocumentEntry → Rows
 with_entries r [] = r
 with_entries r (e ∷ es) = with_entries (with_entry r e) es
 
--- whether the bytes are the part of a text
+-- whether a zero byte is at a place
+abbrev pub is_zero : Option ℕ → Bool
+is_zero (Some byte) = byte == 0
+is_zero None = false
+
+-- whether the bytes are the part of a text, and a zero byte is behind them
 abbrev pub is_part : (text : List ℕ) → Part → (bytes : List ℕ) → Bool
-is_part text part bytes = nat_le part.at (length text) && ((part.len == length bytes) && starts_with nat_eq (drop part.at text) bytes)
+is_part text part bytes = nat_le part.at (length text) && (((part.len == length bytes) && starts_with nat_eq (drop part.at text) bytes) && is_zero (slice_get (drop part.at text) (length bytes)))
 
 -- whether a row has the path
 abbrev pub same_path : (text : List ℕ) → OriginRow → Option (List ℕ) → Bool
@@ -81,23 +90,24 @@ origin_at r meta = elim (said_last r meta) [ Some at ↦ at | None ↦ length r.
 abbrev pub with_origin : Rows → Meta → Rows
 with_origin r meta = elim (said_last r meta) [
   | Some at ↦ r
-  | None ↦ record r { text = r.text ++ bytes_if meta.path; origins = r.origins ++ origin_row r.text meta ∷ [] }
+  | None ↦ record r { text = with_bytes_if r.text meta.path; origins = r.origins ++ origin_row r.text meta ∷ [] }
 ]
 
 -- the row of a section whose metadata is at a place
 abbrev pub section_row : Rows → (origin : ℕ) → SectionState → SectionRow
 section_row r origin s = record {
   name = part_for r.text (name_of s.header);
-  subsection = part_if (r.text ++ name_of s.header) (subsection_of s.header);
+  subsection = part_if (with_bytes r.text (name_of s.header)) (subsection_of s.header);
   has_subsection = is_some (subsection_of s.header);
   origin = origin;
   entries_at = length r.entries;
   entries_len = length (entries_of s.items);
+  number = s.number;
 }
 
 -- the rows with the names of a section behind their text
 abbrev pub with_names : Rows → SectionState → Rows
-with_names r s = record r { text = (r.text ++ name_of s.header) ++ bytes_if (subsection_of s.header) }
+with_names r s = record r { text = with_bytes_if (with_bytes r.text (name_of s.header)) (subsection_of s.header) }
 
 -- a row put behind those of the other sections
 abbrev pub with_row : SectionRow → Rows → Rows

@@ -39,3 +39,5 @@ pub mod Metas
 pub mod TextMetas
 pub mod Views
 pub mod Laying
+pub mod NthValues
+pub mod SectionTexts

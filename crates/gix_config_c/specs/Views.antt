@@ -29,10 +29,10 @@ pub record Rows : Type 0 where
 abbrev pub rows : Arrays → Rows
 rows a = record { text = a.text.items; entries = a.entries.items; origins = a.origins.items; sections = a.sections.items }
 
--- the bytes are the part of the text
+-- the bytes are the part of the text, and a zero byte is behind them
 pub record IsPart (text : List ℕ) (part : Part) (bytes : List ℕ) : Type 0 where
   pub same : take part.len (drop part.at text) ≡ bytes
-  pub within : part.at + part.len ≤ length text
+  pub closed : slice_get text (part.at + part.len) ≡ Some 0
 
 -- the same for bytes that there may be
 abbrev pub IsPartIf : (text : List ℕ) (is_there : Bool) → Part → Option (List ℕ) → Type 0
@@ -51,13 +51,14 @@ pub record IsOriginRow (text : List ℕ) (meta : Meta) (row : OriginRow) : Type 
   pub level : row.level ≡ meta.level
   pub trust : row.trust ≡ trust_number meta.trust
 
--- the row says a section: its names, the place of its metadata, and where its entries stand
+-- the row says a section: its names, the place of its metadata, where its entries stand, and its number
 pub record IsSectionRow (r : Rows) (row : SectionRow) (s : SectionState) : Type 0 where
   pub name : IsPart r.text row.name (name_of s.header)
   pub subsection : IsPartIf r.text row.has_subsection row.subsection (subsection_of s.header)
   pub origin : (o : OriginRow) × (slice_get r.origins row.origin ≡ Some o) × IsOriginRow r.text s.meta o
   pub entries : AllZip (IsEntryRow r.text) (take row.entries_len (drop row.entries_at r.entries)) (entries_of s.items)
   pub within : row.entries_at + row.entries_len ≤ length r.entries
+  pub number : row.number ≡ s.number
 
 -- the rows are those of the sections and of all their entries, in order
 pub record AreRowsOf (all : List SectionState) (r : Rows) : Type 0 where

@@ -5,7 +5,7 @@ use crate::object::Object;
 use crate::slot::Slot;
 use std::alloc::Global;
 
-/// Where some bytes lie in the text of a view.
+/// Where some bytes lie in the text of a view. A zero byte is behind them, which they don't count.
 #[repr(C)]
 #[derive(Clone, Copy)]
 pub struct Part {
@@ -59,6 +59,8 @@ pub struct SectionRow {
     pub entries_at: usize,
     /// How many entries it has: they stand one after the other.
     pub entries_len: usize,
+    /// Its number in its file, which stays whatever is added or removed around it, and which no other section gets.
+    pub number: usize,
 }
 
 /// The arrays of a view, and the text in which the bytes of their rows lie.
@@ -89,7 +91,7 @@ pub struct View {
     pub origins: *const OriginRow,
     /// How many they are.
     pub origins_len: usize,
-    /// The bytes of names, values and paths.
+    /// The bytes of names, values and paths, each with a zero byte behind it.
     pub text: *const u8,
     /// How many they are.
     pub text_len: usize,

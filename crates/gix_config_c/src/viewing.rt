@@ -1,5 +1,5 @@
 //! A view of a file made: its sections and entries laid out in arrays.
-ghost use Rattle.std.specs.Prelude.{◌≡◌, ◌++◌, IfOk};
+ghost use Rattle.std.specs.Prelude.{◌≡◌, IfOk};
 ghost use Rattle.std.specs.Option.{option_copied, option_map};
 ghost use Rattle.bstr.specs.Owned.{bstring_bytes};
 ghost use Rattle.gitconf_items.specs.Items.{entry_of};
@@ -7,7 +7,7 @@ ghost use Rattle.gitconf_state.specs.State.{entries_of};
 ghost use Rattle.gitconf_text.specs.Document.{document_entry};
 ghost use Rattle.gitconf_views.specs.Views.{sections_left, shown};
 ghost use Rattle.gix_config_c.specs.Answers.{OfFile};
-ghost use Rattle.gix_config_c.specs.Laying.{bytes_if, is_part, no_rows, origin_at, part_for, part_if, said_last, same_path, says, with_entries, with_entry, with_origin, with_section, with_sections};
+ghost use Rattle.gix_config_c.specs.Laying.{is_part, is_zero, no_rows, origin_at, part_for, part_if, said_last, same_path, says, with_bytes, with_bytes_if, with_entries, with_entry, with_origin, with_section, with_sections};
 ghost use Rattle.gix_config_c.specs.Views.{AreRowsOf, IsEmptied, IsView, rows};
 
 use crate::block::room;
@@ -98,6 +98,7 @@ fn put_section(alloc: Global, arrays: &mut Arrays, section: &SectionRef<'_>) -> 
         origin,
         entries_at: arrays.entries.len(),
         entries_len: section.body().num_values(),
+        number: section.id().number(),
     };
     put_entries(alloc, arrays, section)?;
     arrays.sections.push(row)?;
@@ -190,33 +191,48 @@ fn is_path(text: &[u8], row: &OriginRow, meta: &Metadata) -> bool
     }
 }
 
-/// Whether these bytes lie at the part of a text.
+/// Whether these bytes lie at the part of a text, with a zero byte behind them.
 fn is_part(text: &[u8], part: Part, bytes: &[u8]) -> bool
     ensures { result ≡ is_part text.now part bytes.now }
 {
     match text.get(part.at..) {
-        Some(behind) => part.len == bytes.len() && behind.starts_with(bytes),
+        Some(behind) => {
+            part.len == bytes.len()
+                && behind.starts_with(bytes)
+                && is_zero(behind.get(bytes.len()).copied())
+        }
         None => false,
     }
 }
 
-/// Puts bytes behind a text.
+/// Whether there is a byte, and it is zero.
+fn is_zero(byte: Option<u8>) -> bool
+    ensures { result ≡ is_zero byte }
+{
+    match byte {
+        Some(byte) => byte == 0,
+        None => false,
+    }
+}
+
+/// Puts bytes behind a text, and a zero byte behind them.
 fn put(text: &mut Vec<u8>, bytes: &[u8]) -> Result<Part, NoMemory>
     ensures part { IfOk result (λ part. part ≡ part_for text.old.items bytes.now) }
-    ensures text { IfOk result (λ _. text.new.items ≡ text.old.items ++ bytes.now) }
+    ensures text { IfOk result (λ _. text.new.items ≡ with_bytes text.old.items bytes.now) }
 {
     let part = Part {
         at: text.len(),
         len: bytes.len(),
     };
     text.extend_from_slice(bytes)?;
+    text.push(0)?;
     Ok(part)
 }
 
 /// Puts bytes behind a text, if there are some.
 fn put_if(text: &mut Vec<u8>, bytes: Option<&[u8]>) -> Result<Part, NoMemory>
     ensures part { IfOk result (λ part. part ≡ part_if text.old.items (option_copied bytes.entry)) }
-    ensures text { IfOk result (λ _. text.new.items ≡ text.old.items ++ bytes_if (option_copied bytes.entry)) }
+    ensures text { IfOk result (λ _. text.new.items ≡ with_bytes_if text.old.items (option_copied bytes.entry)) }
 {
     match bytes {
         Some(bytes) => put(text, bytes),
@@ -227,7 +243,7 @@ fn put_if(text: &mut Vec<u8>, bytes: Option<&[u8]>) -> Result<Part, NoMemory>
 /// Puts what a value means behind a text, if there is one.
 fn put_value(text: &mut Vec<u8>, value: &Option<BString>) -> Result<Part, NoMemory>
     ensures part { IfOk result (λ part. part ≡ part_if text.old.items (option_map bstring_bytes value.now)) }
-    ensures text { IfOk result (λ _. text.new.items ≡ text.old.items ++ bytes_if (option_map bstring_bytes value.now)) }
+    ensures text { IfOk result (λ _. text.new.items ≡ with_bytes_if text.old.items (option_map bstring_bytes value.now)) }
 {
     match value {
         Some(value) => put(text, value),
@@ -238,7 +254,7 @@ fn put_value(text: &mut Vec<u8>, value: &Option<BString>) -> Result<Part, NoMemo
 /// Puts the path of metadata behind a text, if there is one.
 fn put_path(text: &mut Vec<u8>, meta: &Metadata) -> Result<Part, NoMemory>
     ensures part { IfOk result (λ part. part ≡ part_if text.old.items meta.now.path) }
-    ensures text { IfOk result (λ _. text.new.items ≡ text.old.items ++ bytes_if meta.now.path) }
+    ensures text { IfOk result (λ _. text.new.items ≡ with_bytes_if text.old.items meta.now.path) }
 {
     match &meta.path {
         Some(path) => put(text, path.as_bytes()),

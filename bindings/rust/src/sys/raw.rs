@@ -426,7 +426,7 @@ pub(crate) struct Assigned<'a> {
     pub(crate) value: Text<'a>,
 }
 
-/// Where some bytes lie in the text of a view.
+/// Where some bytes lie in the text of a view. A zero byte is behind them, which they don't count.
 #[repr(C)]
 #[derive(Clone, Copy, Default)]
 pub(crate) struct Part {
@@ -480,6 +480,9 @@ pub(crate) struct SectionRow {
     pub(crate) entries_at: usize,
     /// How many entries it has: they stand one after the other.
     pub(crate) entries_len: usize,
+    /// Its number in its file, which stays whatever is added or removed around it, and which no
+    /// other section gets.
+    pub(crate) number: usize,
 }
 
 /// All sections and entries of a file as it was when the view was made. They are the program's to
@@ -498,7 +501,7 @@ pub(crate) struct View {
     pub(super) origins: *const OriginRow,
     /// How many they are.
     pub(super) origins_len: usize,
-    /// The bytes of names, values and paths.
+    /// The bytes of names, values and paths, each with a zero byte behind it.
     pub(super) text: *const u8,
     /// How many they are.
     pub(super) text_len: usize,
@@ -668,6 +671,18 @@ extern "C" {
         origin: *mut Origin,
         path: *mut Bytes,
     ) -> u32;
+    pub(super) fn gix_config_set_nth_value(
+        file: *mut File,
+        key: *const Key<'_>,
+        index: usize,
+        value: *const u8,
+        value_len: usize,
+    ) -> u32;
+    pub(super) fn gix_config_delete_nth_value(
+        file: *mut File,
+        key: *const Key<'_>,
+        index: usize,
+    ) -> u32;
     pub(super) fn gix_config_push_line_at(
         file: *mut File,
         place: usize,
@@ -754,6 +769,11 @@ extern "C" {
         file: *const File,
         index: usize,
         list: *mut List,
+    ) -> u32;
+    pub(super) fn gix_config_section_text(
+        file: *const File,
+        place: usize,
+        text: *mut Bytes,
     ) -> u32;
     pub(super) fn gix_config_section_remove(file: *mut File, section: *const Section<'_>) -> u32;
     pub(super) fn gix_config_section_new(file: *mut File, section: *const Section<'_>) -> u32;
