@@ -1,10 +1,10 @@
 -- How calls without options answer, from step to step.
-use Rattle.std.proofs.Common.{◌≡◌, ◌⊎◌, ℕ, Bool, true, false, List, [], ◌∷◌, ◌++◌, Option, Some, None, Result, Ok, Err, Bor, refl, sym, ap, ◌∙◌, subst, inl, inr}
+use Rattle.std.proofs.Common.{◌≡◌, ◌⊎◌, ℕ, Bool, true, false, List, [], Option, Some, None, Result, Ok, Err, Bor, refl, sym, ap, ◌∙◌, subst, inl, inr}
 use Rattle.std.specs.Prelude.{◌&&◌, not, IfSome, if◌then◌else◌, option_and_then}
-use Rattle.std.specs.Io.KnownBytes.{Appends, Keeps}
+use Rattle.std.specs.Io.KnownBytes.{Keeps}
 use Rattle.gitconf_sources.specs.Key.{Key, key_of}
 use Rattle.gitconf_sources.specs.declared.key.KeyRef.{KeyRef}
-use Rattle.gixcfg_words.specs.Plain.{All, Bool as OfBool, Entries, Fmt, Get, Int, Load, Plain, Print, Set, Unset, is_bare, plain_of_fmt, plain_of_get, plain_of_list, plain_of_set, plain_of_unset, values_asked, wanted_key}
+use Rattle.gixcfg_words.specs.Plain.{All, Bool as OfBool, Entries, Fmt, Get, Int, Load, Plain, Set, Unset, is_bare, plain_of_fmt, plain_of_get, plain_of_list, plain_of_set, plain_of_unset, values_asked, wanted_key}
 use Rattle.gixcfg_words.specs.declared.command.Choice.{Choice}
 use Rattle.gixcfg_words.specs.declared.command.Choice.TheVariants as choices
 use Rattle.gixcfg_words.specs.declared.command.Files.{Files}
@@ -30,7 +30,7 @@ use Rattle.gixcfg_core.proofs.Ending.{shown_by}
 use Rattle.gixcfg_core.specs.Shown.{IsPut, IsShown, end_status}
 use Rattle.gixcfg_core.specs.Troubles.{status_of}
 use Rattle.gixcfg_core.specs.declared.trouble.Trouble.{Trouble}
-use Rattle.gixcfg_core.specs.declared.trouble.Trouble.TheVariants.{Input, Memory, Missing}
+use Rattle.gixcfg_core.specs.declared.trouble.Trouble.TheVariants.{Input, Memory}
 use Rattle.gitconf_layout.specs.Layout.{default_options}
 use Rattle.gixcfg_commands.specs.Layouts.{indent_asked, layout_asked, newline_asked}
 use Rattle.gixcfg_commands.specs.Plainly.{Ends, EndsPlainly, Gives, GivesOfInput, IsOutcome, IsValues, Outcome, Prints, PutsOfInput, Misses, Refuses, Tells, ResultsIn, Shows, is_of_input, plain_asked, source_of}

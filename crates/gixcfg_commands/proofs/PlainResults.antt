@@ -1,17 +1,14 @@
 -- What calls without options make of a text or a file.
-use Rattle.std.proofs.Common.{◌≡◌, ◌⊎◌, ◌-◌, ◌++◌, ℕ, zero, suc, Bool, true, false, List, [], ◌∷◌, length, arith, map, filter, flat_map, Option, option_map, Some, None, Result, Ok, Err, refl, sym, ap, ◌∙◌, subst, inl, inr}
+use Rattle.std.proofs.Common.{◌≡◌, ◌⊎◌, ◌-◌, ◌++◌, ℕ, suc, Bool, true, false, List, [], ◌∷◌, length, arith, map, filter, flat_map, Option, option_map, Some, None, Result, Ok, Err, refl, sym, ap, ◌∙◌, subst, inl, inr}
 use Rattle.std.proofs.lemmas.Bool.Decides.{nat_tests}
-use Rattle.std.specs.Prelude.{◌==◌, ◌||◌, IfErr, IfOk, if◌then◌else◌, slice_get}
+use Rattle.std.specs.Prelude.{◌==◌, ◌||◌, IfErr, IfOk, slice_get}
 use Rattle.std.specs.List.{last_or, list_any}
-use Rattle.std.specs.declared.vec.Vec.{Vec}
 use Rattle.bstr.specs.Owned.{bstring_bytes}
 use Rattle.bstr.specs.declared.bstring.BString.{BString}
 use Rattle.gitconf_text.specs.Document.{Document, DocumentEntry, Reads}
 use Rattle.gitconf_text.specs.ValueErrors.{ValueError}
-use Rattle.gitconf_values.specs.Integers.{integer_or_refusal}
 use Rattle.gitconf_sources.specs.Found.{if_any}
 use Rattle.gitconf_sources.specs.Key.{Key}
-use Rattle.gitconf_sources.specs.Metadata.{Meta}
 use Rattle.gitconf_read.specs.EventResult.{IsRefused}
 use Rattle.gitconf_read.specs.ParseError.{Refusal}
 use Rattle.gitconf_parse.specs.Lookup.{value_of}
@@ -32,7 +29,7 @@ use Rattle.gixcfg_words.specs.Keys.{is_nameless}
 use Rattle.gixcfg_core.specs.Troubles.{refusal_status, status_of}
 use Rattle.gixcfg_core.specs.declared.trouble.Trouble.{Trouble}
 use Rattle.gixcfg_core.specs.declared.trouble.Trouble.TheVariants.{Memory, Missing}
-use Rattle.gixcfg_commands.specs.Plainly.{Gives, IsFileOf, IsLast, IsLoad, IsSet, OfFile, OfText, Outcome, Prints, Misses, Refuses, ResultsIn, bool_text, last_number, of_edit, of_last, of_set, of_typed, of_unset, set_refused, setting}
+use Rattle.gixcfg_commands.specs.Plainly.{Gives, IsFileOf, IsLast, IsLoad, IsSet, OfFile, OfText, Outcome, Prints, Refuses, bool_text, last_number, of_edit, of_last, of_set, of_typed, of_unset, set_refused, setting}
 use Rattle.gixcfg_commands.proofs.MeantLemmas.{none_numbered}
 
 -- the same of what follows from an outcome

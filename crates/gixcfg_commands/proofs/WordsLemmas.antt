@@ -1,5 +1,5 @@
 -- How calls with options end, from step to step.
-use Rattle.std.proofs.Common.{◌≡◌, ◌⊎◌, ℕ, Bool, true, List, Option, Some, None, Result, Ok, Err, refl, subst, inl, inr}
+use Rattle.std.proofs.Common.{◌≡◌, ◌⊎◌, ℕ, Bool, true, List, Option, Some, None, Ok, refl, subst, inl, inr}
 use Rattle.gixcfg_words.specs.Asking.{task_asked}
 use Rattle.gixcfg_words.specs.Plain.{IsCallOf, Plain}
 use Rattle.gixcfg_words.specs.Tasks.{task_of}
@@ -7,7 +7,7 @@ use Rattle.gixcfg_words.specs.declared.command.Call.{Call}
 use Rattle.gixcfg_words.specs.declared.fault.Fault.{Fault}
 use Rattle.gixcfg_words.specs.declared.fault.Fault.TheVariants.{Memory}
 use Rattle.gixcfg_words.specs.declared.rules.Rules.TheVariants.{Git}
-use Rattle.gixcfg_commands.specs.Plainly.{Ends, Outcome, Prints, Shows}
+use Rattle.gixcfg_commands.specs.Plainly.{Ends, Prints, Shows}
 use Rattle.gixcfg_commands.specs.ByWords.{EndsBy, EndsByWords, is_told}
 use Rattle.gixcfg_commands.proofs.PlainLemmas.{keeps_same, known_text}
 

@@ -1,4 +1,4 @@
-use Rattle.std.proofs.Common.{◌≡◌, ◌∙◌, Ok}
+use Rattle.std.proofs.Common.{◌≡◌, ◌∙◌}
 use Rattle.gixcfg_words.specs.declared.command.Source.TheVariants as sources
 use Rattle.gixcfg_words.specs.declared.command.Target.TheVariants as targets
 use Rattle.gixcfg_core.specs.declared.origins.Located.TheVariants as places
