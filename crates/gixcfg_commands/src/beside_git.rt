@@ -1,10 +1,13 @@
 //! What git makes of a text that the library reads.
 
+use gitconf_body::entries::next_entry;
+use gitconf_items::entry::Entry;
+use gitconf_views::section::SectionRef;
 use gix_config::{File, NoMemory};
-use gixcfg_core::c_strings::c_string;
-use gixcfg_core::entries::{Found, Sought, add_found};
-use gixcfg_core::git_reading::{GitEntry, GitReading, git_reading};
+use gixcfg_core::entries::means;
+use gixcfg_core::git_reading::{GitEntry, GitWalk, Stop};
 use gixcfg_core::message::message_of_git;
+use gixcfg_core::names::{add_in_lower_case, add_section_names};
 use std::alloc::Global;
 
 /// A place at which git makes something else of a text.
@@ -27,9 +30,8 @@ pub fn messages_of_git(
     text: &[u8],
     file: &File,
 ) -> Result<Vec<String>, NoMemory> {
-    let reading = git_reading(alloc, text)?;
     let mut messages = Vec::new(alloc);
-    for difference in differences(alloc, &reading, file)? {
+    for difference in differences(alloc, text, file)? {
         let Difference { at, what } = difference;
         messages.push(message_of_git(alloc, name, text, at, what)?)?;
     }
@@ -47,51 +49,86 @@ pub fn message_if_git_reads(
     text: &[u8],
     left: usize,
 ) -> Result<Option<String>, NoMemory> {
-    if git_reading(alloc, text)?.refused.is_some() {
-        return Ok(None);
+    match read_on(&mut GitWalk::new(alloc, text)) {
+        Ok(()) => {
+            let at = text.len().saturating_sub(left);
+            Ok(Some(message_of_git(alloc, name, text, at, "reads this text")?))
+        }
+        Err(Stop::Refused(..)) => Ok(None),
+        Err(Stop::Memory) => Err(NoMemory),
     }
-    let at = text.len().saturating_sub(left);
-    Ok(Some(message_of_git(alloc, name, text, at, "reads this text")?))
 }
 
 /// All places at which git reads something else, or refuses the text.
-fn differences(
-    alloc: Global,
-    reading: &GitReading,
-    file: &File,
-) -> Result<Vec<Difference>, NoMemory> {
+fn differences(alloc: Global, text: &[u8], file: &File) -> Result<Vec<Difference>, NoMemory> {
     let mut found = Vec::new(alloc);
-    let mut entries = reading.entries.as_slice();
-    entries = behind_front(entries, &mut found)?;
-    for section in file.sections() {
-        let mut own = Vec::new(alloc);
-        add_found(&mut own, &section, &Sought::all(b""))?;
-        let is_include = is_include_of_git(section.header().name());
-        for (entry, of_git) in own.iter().zip(entries) {
-            compare(entry, of_git, is_include, &mut found)?;
-        }
-        entries = entries.split_at(own.len().min(entries.len())).1;
-    }
-    if let Some((at, why)) = reading.refused {
-        add(&mut found, at, why.words())?;
+    match compare_all(alloc, &mut GitWalk::new(alloc, text), file, &mut found) {
+        Ok(()) => {}
+        Err(Stop::Refused(at, why)) => add(&mut found, at, why.words())?,
+        Err(Stop::Memory) => return Err(NoMemory),
     }
     Ok(found)
 }
 
-/// The entries behind those before the first section, each of which is a difference.
-fn behind_front<'a>(
-    entries: &'a [GitEntry],
+/// Adds all places at which git reads something else, up to where it refuses the text.
+fn compare_all(
+    alloc: Global,
+    walk: &mut GitWalk<'_>,
+    file: &File,
     found: &mut Vec<Difference>,
-) -> Result<&'a [GitEntry], NoMemory> {
-    let count = entries
-        .iter()
-        .take_while(|entry| !entry.key.contains(&b'.'))
-        .count();
-    let (front, others) = entries.split_at(count);
-    for entry in front {
+) -> Result<(), Stop> {
+    let mut has_entry = is_behind_front(walk, found)?;
+    let mut names = Vec::new(alloc);
+    for section in file.sections() {
+        has_entry = compare_section(walk, has_entry, &section, &mut names, found)?;
+    }
+    read_on(walk)
+}
+
+/// Reads the entries before the first section, each of which is a difference, and the one behind them, and returns whether there is one.
+fn is_behind_front(walk: &mut GitWalk<'_>, found: &mut Vec<Difference>) -> Result<bool, Stop> {
+    while walk.advance()? {
+        let entry = walk.entry();
+        if entry.key.contains(&b'.') {
+            return Ok(true);
+        }
         add(found, entry.at, "an entry before the first section")?;
     }
-    Ok(others)
+    Ok(false)
+}
+
+/// Compares the entries of a section with those that git reads, the first of which was read, if there is one, and returns whether there is
+/// one behind them. `names` is room for their names.
+fn compare_section(
+    walk: &mut GitWalk<'_>,
+    has_entry: bool,
+    section: &SectionRef<'_>,
+    names: &mut Vec<u8>,
+    found: &mut Vec<Difference>,
+) -> Result<bool, Stop> {
+    let header = section.header();
+    let is_include = is_include_of_git(header.name());
+    names.clear();
+    add_section_names(names, header.name(), header.subsection_name())?;
+    let len = names.len();
+    let (mut rest, mut has_more) = (section.items, has_entry);
+    while let Some((entry, behind)) = next_entry(rest) {
+        if !has_more {
+            return Ok(false);
+        }
+        names.truncate(len);
+        add_in_lower_case(names, entry.name().bytes_in(section.buffer))?;
+        compare(section, entry, names, &walk.entry(), is_include, found)?;
+        has_more = walk.advance()?;
+        rest = behind;
+    }
+    Ok(has_more)
+}
+
+/// Reads a text to its end.
+fn read_on(walk: &mut GitWalk<'_>) -> Result<(), Stop> {
+    while walk.advance()? {}
+    Ok(())
 }
 
 /// Adds a difference.
@@ -106,32 +143,26 @@ fn is_include_of_git(name: &[u8]) -> bool {
     is_include || is_conditional
 }
 
-/// Adds how git reads an entry, if that is another way.
+/// Adds how git reads an entry of these names, if that is another way.
 fn compare(
-    entry: &Found,
-    of_git: &GitEntry,
+    section: &SectionRef<'_>,
+    entry: &Entry,
+    names: &[u8],
+    of_git: &GitEntry<'_>,
     is_include: bool,
     found: &mut Vec<Difference>,
 ) -> Result<(), NoMemory> {
-    if is_include && entry.names.ends_with(b".path") {
+    if is_include && names.ends_with(b".path") {
         add(
             found,
             of_git.at,
             "includes this path, since case counts for nothing",
         )?;
     }
-    if !entry.names.eq_ignore_ascii_case(&of_git.key) {
+    if names != of_git.key {
         add(found, of_git.at, "reads another key")?;
-    } else if entry.value() != value_of(of_git) {
+    } else if !means(section, entry, of_git.value)? {
         add(found, of_git.at, "reads another value")?;
     }
     Ok(())
-}
-
-/// The value of an entry as git hands it on.
-fn value_of(entry: &GitEntry) -> Option<&[u8]> {
-    match &entry.value {
-        Some(value) => Some(c_string(value)),
-        None => None,
-    }
 }

@@ -5,10 +5,11 @@ ghost use Rattle.gixcfg_core.specs.Answers.{IsTold};
 ghost use Rattle.gixcfg_core.specs.declared.trouble.Trouble.TheVariants.{Text as ATextOf};
 
 use crate::beside_git::{message_if_git_reads, messages_of_git};
-use crate::named::{Text, text_at};
+use crate::named::{Text, entries_of_text, text_at};
 use gix_config::File;
 use gix_config::parse::Error;
 use gixcfg_core::outside::{Inputs, Outside, refused};
+use gixcfg_core::places::meta_of;
 use gixcfg_core::trouble::{MEMORY, Trouble, tell};
 use gixcfg_words::command::Check;
 use std::alloc::{AllocGlobal, Global};
@@ -119,7 +120,7 @@ fn messages_in(
 ) -> Result<Vec<String>, Trouble>
     ensures { IfOk result (λ messages. AreMessages read.now.text.now outside.entry.is_colored is_lenient (map string_bytes messages.items)) }
 {
-    match File::try_from_bytes(alloc, read.text) {
+    match entries_of_text(alloc, read.text, meta_of(alloc, None)?) {
         Ok(file) => messages_of_file(alloc, read, &file, is_lenient),
         Err(refusal) => messages_of_refused(alloc, read, &refusal, is_lenient, outside),
     }

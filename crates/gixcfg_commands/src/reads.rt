@@ -13,11 +13,12 @@ use crate::entries::{all_entries, entries_like, entries_meant, entries_of, put_a
 use crate::including::included;
 use crate::library;
 use crate::loads::Loads;
+use crate::named::entries_or_refused;
 use gix_config::{File, KeyRef};
 use gixcfg_core::entries::Found;
 use gixcfg_core::for_url::{Variables, entries_for_url};
 use gixcfg_core::origins::Located;
-use gixcfg_core::outside::{Inputs, accepted};
+use gixcfg_core::outside::Inputs;
 use gixcfg_core::showing::put_made;
 use gixcfg_core::streams::{put, read_all};
 use gixcfg_core::telling::{lines_of_all, lines_of_found};
@@ -246,8 +247,6 @@ fn file_at<R: Files + Env + Loads + AllocGlobal, I: Read + Drop>(
     if follows {
         Ok(Some(included(rt, read, text, outside)?))
     } else {
-        // (it is copied, since the message of a refusal shows a line of it)
-        let made = File::try_from_bytes(rt.alloc(), &text);
-        Ok(Some(accepted(rt.alloc(), read.name(), &text, made, outside)?))
+        Ok(Some(entries_or_refused(rt.alloc(), read.name(), &text, outside)?))
     }
 }

@@ -1,6 +1,7 @@
 pub mod Answers
 pub mod Entries
 pub mod Line
+pub mod GitReading
 pub mod Message
 pub mod Reason
 pub mod Colors

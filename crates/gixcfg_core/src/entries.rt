@@ -1,6 +1,7 @@
 //! The entries of a section, with those that have no value.
 ghost use Rattle.std.specs.Prelude.{drop, length, take, ◌≤◌, ◌≡◌, ◌++◌, ◌∷◌, ℕ, List, [], map, true, None, option_map, IfOk, Some, if◌then◌else◌};
-ghost use Rattle.std.specs.Option.{option_copied};
+ghost use Rattle.std.specs.Option.{option_copied, option_eq};
+ghost use Rattle.std.specs.Str.{bytes_eq};
 ghost use Rattle.bstr.specs.Owned.{bstring_bytes};
 ghost use Rattle.gitconf_text.specs.Bytes.{fold};
 ghost use Rattle.gitconf_text.specs.Document.{document_entry};
@@ -63,17 +64,6 @@ pub struct Sought<'a> {
     pub value_name: Option<&'a str>,
     /// Whether the subsection is among their names.
     pub has_subsection: bool,
-}
-
-impl<'a> Sought<'a> {
-    /// All, each with this before it.
-    pub fn all(before: &'a [u8]) -> Sought<'a> {
-        Sought {
-            before,
-            value_name: None,
-            has_subsection: true,
-        }
-    }
 }
 
 /// Whether an entry is sought, by its name.
@@ -277,6 +267,42 @@ fn add_decoded(alloc: Global, lines: &mut Vec<u8>, line: &Line, raw: &[u8]) -> R
     match normalize(alloc, raw)? {
         CowSlice::Borrowed(text) => Ok(add_value(lines, line, Some(text))?),
         CowSlice::Owned(text) => Ok(add_value(lines, line, Some(&text))?),
+    }
+}
+
+/// Whether an entry of a section means this; nothing for one without `=`. It takes memory only for a value that has a quote or a
+/// backslash, or goes on over lines.
+///
+/// # Errors
+///
+/// Out of memory.
+pub fn means(
+    section: &SectionRef<'_>,
+    entry: &Entry,
+    value: Option<&[u8]>,
+) -> Result<bool, NoMemory>
+    ensures { let e = document_entry (entry_of section.now.buffer.now entry.now) in
+        IfOk result (λ is. is ≡ option_eq bytes_eq (option_map plain e.raw) (option_copied value.entry)) }
+{
+    match entry.assigned() {
+        AssignedRef::Nothing => Ok(value.is_none()),
+        AssignedRef::Plain { value: raw, .. } => {
+            is_decoded(section.alloc, raw.bytes_in(section.buffer), value)
+        }
+        AssignedRef::Continued(_) => match entry_value(section.alloc, section.buffer, entry)? {
+            Some(own) => Ok(Some(own.as_bytes()) == value),
+            None => Ok(value.is_none()),
+        },
+    }
+}
+
+/// Whether the text of a value means this.
+fn is_decoded(alloc: Global, raw: &[u8], value: Option<&[u8]>) -> Result<bool, NoMemory>
+    ensures { IfOk result (λ is. is ≡ option_eq bytes_eq (Some (plain raw.now)) (option_copied value.entry)) }
+{
+    match normalize(alloc, raw)? {
+        CowSlice::Borrowed(text) => Ok(Some(text) == value),
+        CowSlice::Owned(text) => Ok(Some(text.as_slice()) == value),
     }
 }
 

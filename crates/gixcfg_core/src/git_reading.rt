@@ -4,8 +4,12 @@
 //! return. An entry is a name that begins with a letter, blanks and tabs, and then the end of the line, or `=` and a value. A value has no
 //! white space at its start, and none at its end, also where it goes on over lines.
 
+ghost use Rattle.std.specs.Prelude.{◌≡◌, ◌<◌, ◌≤◌, IfOk, length, true};
+ghost use Rattle.gixcfg_core.specs.GitReading.{entries_left};
+
+use crate::names::add_in_lower_case;
 use gitconf_text::NoMemory;
-use std::alloc::Global;
+use std::alloc::{AllocError, Global};
 
 /// Why git refuses a text.
 #[derive(Clone, Copy, PartialEq, Eq)]
@@ -36,27 +40,19 @@ impl Why {
 }
 
 /// An entry as git reads it.
-#[derive(Drop)]
-pub struct GitEntry {
+#[derive(Clone, Copy)]
+pub struct GitEntry<'a> {
     /// Where its name begins, in bytes.
     pub at: usize,
     /// Its key: the names with dots between them.
-    pub key: Vec<u8>,
-    /// Its value, if it has one.
-    pub value: Option<Vec<u8>>,
-}
-
-/// What git finds in a text.
-#[derive(Drop)]
-pub struct GitReading {
-    /// The entries up to where it refuses the text, or all.
-    pub entries: Vec<GitEntry>,
-    /// Where it refuses the text, in bytes, and why.
-    pub refused: Option<(usize, Why)>,
+    pub key: &'a [u8],
+    /// Its value up to its first byte 0, as git hands it on, if it has one.
+    pub value: Option<&'a [u8]>,
 }
 
 /// Why a text isn't read on.
-enum Stop {
+#[derive(Drop)]
+pub enum Stop {
     /// It is refused for this reason at this place.
     Refused(usize, Why),
     /// Out of memory.
@@ -65,6 +61,12 @@ enum Stop {
 
 impl From<NoMemory> for Stop {
     fn from(_: NoMemory) -> Stop {
+        Stop::Memory
+    }
+}
+
+impl From<AllocError> for Stop {
+    fn from(_: AllocError) -> Stop {
         Stop::Memory
     }
 }
@@ -100,45 +102,27 @@ enum Part {
     ValueComment,
 }
 
-/// A walk over a text.
+/// A walk over a text, from entry to entry. One pass; the memory that it takes is that of the longest key and value.
 #[derive(Drop)]
-struct Walk {
-    alloc: Global,
+pub struct GitWalk<'a> {
+    /// How many bytes the text has.
+    len: usize,
+    /// What isn't read of it.
+    rest: &'a [u8],
+    /// Whether there are no more entries.
+    is_over: bool,
     part: Part,
     /// The names of the section with a dot behind each.
     stem: Vec<u8>,
-    /// The entry that is read.
+    /// The entry that was read last, or is being read.
     name_at: usize,
     key: Vec<u8>,
     value: Vec<u8>,
+    has_value: bool,
     /// How long the value is up to the white space that it ends with, if it does.
     trimmed: Option<usize>,
-    entries: Vec<GitEntry>,
-}
-
-/// How git reads a text.
-///
-/// # Errors
-///
-/// Out of memory.
-pub fn git_reading(alloc: Global, text: &[u8]) -> Result<GitReading, NoMemory> {
-    let mut walk = Walk {
-        alloc,
-        part: Part::Line,
-        stem: Vec::new(alloc),
-        name_at: 0,
-        key: Vec::new(alloc),
-        value: Vec::new(alloc),
-        trimmed: None,
-        entries: Vec::new(alloc),
-    };
-    let refused = match walk.read(text) {
-        Ok(()) => None,
-        Err(Stop::Refused(at, why)) => Some((at, why)),
-        Err(Stop::Memory) => return Err(NoMemory),
-    };
-    let Walk { entries, .. } = walk;
-    Ok(GitReading { entries, refused })
+    /// How long it is up to its first byte 0, if it has one.
+    null: Option<usize>,
 }
 
 /// The mark that a text in UTF-8 may begin with.
@@ -154,35 +138,146 @@ fn is_of_name(byte: u8) -> bool {
     byte.is_ascii_alphanumeric() || byte == b'-'
 }
 
-impl Walk {
-    /// Reads a text.
-    fn read(&mut self, text: &[u8]) -> Result<(), Stop> {
-        let start = if text.starts_with(&MARK) { 3 } else { 0usize };
-        for (at, byte) in text.iter().enumerate() {
-            let is_return = *byte == b'\r' && text.get(at.saturating_add(1)) == Some(&b'\n');
-            if at >= start && !is_return {
-                self.step(at, *byte)?;
-            }
+/// How many bytes at the front of a text are but themselves in a part of it, so that they are read at once.
+fn plain_len(part: Part, text: &[u8]) -> usize
+    ensures { result ≤ length text.now }
+{
+    match part {
+        Part::Line => text.iter().take_while(|byte| is_space(**byte)).count(),
+        Part::Name => text.iter().take_while(|byte| is_of_name(**byte)).count(),
+        Part::Value => text.iter().take_while(|byte| !ends_run(**byte)).count(),
+        Part::Quoted(_) | Part::Subsection(_) => {
+            text.iter()
+                .take_while(|byte| !ends_quoted_run(**byte))
+                .count()
         }
-        self.end(text.len())
+        Part::Comment | Part::ValueComment => {
+            text.iter().take_while(|byte| **byte != b'\n').count()
+        }
+        _ => 0,
+    }
+}
+
+/// The bytes up to `;` that in a value aren't but themselves, a bit for each.
+const ENDS_OF_RUNS: u64 = 1
+    | 1 << b'\t'
+    | 1 << b'\n'
+    | 1 << b'\r'
+    | 1 << b' '
+    | 1 << b'"'
+    | 1 << b'#'
+    | 1 << b';';
+
+/// Whether a byte of a value isn't but itself.
+fn ends_run(byte: u8) -> bool {
+    if byte <= b';' {
+        ENDS_OF_RUNS >> byte & 1 == 1
+    } else {
+        byte == b'\\'
+    }
+}
+
+/// Whether a byte in quotes isn't but itself.
+fn ends_quoted_run(byte: u8) -> bool {
+    matches!(byte, 0 | b'\n' | b'\r' | b'"' | b'\\')
+}
+
+impl<'a> GitWalk<'a> {
+    /// A walk from the start of a text, behind the mark that it may begin with.
+    pub fn new(alloc: Global, text: &'a [u8]) -> GitWalk<'a> {
+        let rest = match text.strip_prefix(&MARK) {
+            Some(rest) => rest,
+            None => text,
+        };
+        GitWalk {
+            len: text.len(),
+            rest,
+            is_over: false,
+            part: Part::Line,
+            stem: Vec::new(alloc),
+            name_at: 0,
+            key: Vec::new(alloc),
+            value: Vec::new(alloc),
+            has_value: false,
+            trimmed: None,
+            null: None,
+        }
     }
 
-    /// Reads a byte.
-    fn step(&mut self, at: usize, byte: u8) -> Result<(), Stop> {
+    /// The entry that was read last.
+    pub fn entry(&self) -> GitEntry<'_> {
+        GitEntry {
+            at: self.name_at,
+            key: &self.key,
+            value: if self.has_value {
+                Some(&self.value)
+            } else {
+                None
+            },
+        }
+    }
+
+    /// Reads on up to the end of the next entry, and returns whether there is one.
+    ///
+    /// # Errors
+    ///
+    /// git refuses the text; out of memory.
+    pub fn advance(&mut self) -> Result<bool, Stop>
+        ensures { IfOk result (λ more. more ≡ true → entries_left self.new < entries_left self.old) }
+    {
+        if self.is_over {
+            return Ok(false);
+        }
+        let mut rest = self.rest;
+        while let Some((byte, behind)) = rest.split_first() {
+            let at = self.len.saturating_sub(rest.len());
+            let is_return = *byte == b'\r' && behind.first() == Some(&b'\n');
+            rest = behind;
+            if !is_return && self.step(at, *byte)? {
+                self.rest = rest;
+                self.is_over = false;
+                return Ok(true);
+            }
+            rest = self.behind_plain(rest)?;
+        }
+        let ends = self.end()?;
+        self.is_over = true;
+        Ok(ends)
+    }
+
+    /// Reads the bytes that are but themselves where the walk is, and returns what is behind them.
+    fn behind_plain<'b>(&mut self, rest: &'b [u8]) -> Result<&'b [u8], NoMemory>
+        ensures { IfOk result (λ behind. length behind.now ≤ length rest.now) }
+    {
+        let (plain, behind) = rest.split_at(plain_len(self.part, rest));
         match self.part {
-            Part::Line => self.in_line(at, byte),
+            Part::Name => add_in_lower_case(&mut self.key, plain)?,
+            Part::Value | Part::Quoted(_) if !plain.is_empty() => {
+                self.trimmed = None;
+                self.value.extend_from_slice(plain)?;
+            }
+            Part::Subsection(_) => self.stem.extend_from_slice(plain)?,
+            _ => {}
+        }
+        Ok(behind)
+    }
+
+    /// Reads a byte, and returns whether an entry ends with it.
+    fn step(&mut self, at: usize, byte: u8) -> Result<bool, Stop> {
+        match self.part {
+            Part::Line => self.in_line(at, byte)?,
             Part::Comment => {
                 if byte == b'\n' {
                     self.part = Part::Line;
                 }
-                Ok(())
             }
-            Part::Name | Part::BehindName => self.in_name(at, byte),
-            Part::Value | Part::Quoted(_) | Part::Escape(..) | Part::ValueComment => self.in_value(
-                at, byte,
-            ),
-            part => self.in_header(part, byte),
+            Part::Name | Part::BehindName => return self.in_name(at, byte),
+            Part::Value | Part::Quoted(_) | Part::Escape(..) | Part::ValueComment => {
+                return self.in_value(at, byte);
+            }
+            part => self.in_header(part, byte)?,
         }
+        Ok(false)
     }
 
     /// Reads a byte that begins something.
@@ -203,7 +298,8 @@ impl Walk {
     /// Begins an entry by the first letter of its name.
     fn begin_entry(&mut self, at: usize, byte: u8) -> Result<(), NoMemory> {
         self.name_at = at;
-        self.key = self.stem.to_vec(self.alloc)?;
+        self.key.clear();
+        self.key.extend_from_slice(&self.stem)?;
         self.key.push(byte.to_ascii_lowercase())?;
         self.part = Part::Name;
         Ok(())
@@ -260,30 +356,37 @@ impl Walk {
         Ok(())
     }
 
-    /// Reads a byte of a name, or behind it.
-    fn in_name(&mut self, at: usize, byte: u8) -> Result<(), Stop> {
+    /// Reads a byte of a name, or behind it, and returns whether an entry ends with it.
+    fn in_name(&mut self, at: usize, byte: u8) -> Result<bool, Stop> {
         match byte {
             byte if self.part == Part::Name && is_of_name(byte) => {
                 add(&mut self.key, byte.to_ascii_lowercase())?;
             }
             b' ' | b'\t' => self.part = Part::BehindName,
-            b'\n' => self.end_entry(false)?,
+            b'\n' => {
+                self.end_entry(false);
+                return Ok(true);
+            }
             b'=' => {
                 self.value.clear();
                 self.trimmed = None;
+                self.null = None;
                 self.part = Part::Value;
             }
             _ => return Err(Stop::Refused(at, Why::BehindName)),
         }
-        Ok(())
+        Ok(false)
     }
 
-    /// Reads a byte of a value, or of the comment behind it.
-    fn in_value(&mut self, at: usize, byte: u8) -> Result<(), Stop> {
+    /// Reads a byte of a value, or of the comment behind it, and returns whether an entry ends with it.
+    fn in_value(&mut self, at: usize, byte: u8) -> Result<bool, Stop> {
         match (self.part, byte) {
-            (Part::Escape(from, quote), byte) => return self.in_escape(from, quote, byte),
+            (Part::Escape(from, quote), byte) => self.in_escape(from, quote, byte)?,
             (Part::Quoted(from), b'\n') => return Err(Stop::Refused(from, Why::Quote)),
-            (Part::Value | Part::ValueComment, b'\n') => self.end_entry(true)?,
+            (Part::Value | Part::ValueComment, b'\n') => {
+                self.end_entry(true);
+                return Ok(true);
+            }
             (Part::ValueComment, _) => {}
             (Part::Value, b'#' | b';') => self.part = Part::ValueComment,
             (Part::Value, byte) if is_space(byte) => self.add_space(byte)?,
@@ -293,10 +396,13 @@ impl Walk {
             (Part::Quoted(_), b'"') => self.part_with(Part::Value),
             (part, byte) => {
                 self.part_with(part);
+                if byte == 0 && self.null.is_none() {
+                    self.null = Some(self.value.len());
+                }
                 add(&mut self.value, byte)?;
             }
         }
-        Ok(())
+        Ok(false)
     }
 
     /// Goes on with what is no white space at the end of a value.
@@ -338,44 +444,30 @@ impl Walk {
     }
 
     /// Ends an entry that has a value or not.
-    fn end_entry(&mut self, has_value: bool) -> Result<(), NoMemory> {
-        let value = if has_value {
-            let end = self.trimmed.unwrap_or(self.value.len());
-            Some(
-                self.value
-                    .split_at(end.min(self.value.len()))
-                    .0
-                    .to_vec(self.alloc)?,
-            )
-        } else {
-            None
-        };
-        let key = self.key.to_vec(self.alloc)?;
-        self.entries.push(GitEntry {
-            at: self.name_at,
-            key,
-            value,
-        })?;
+    fn end_entry(&mut self, has_value: bool) {
+        if let Some(end) = self.null.or(self.trimmed) {
+            self.value.truncate(end);
+        }
+        self.has_value = has_value;
         self.part = Part::Line;
-        Ok(())
     }
 
-    /// Ends a text of this length.
-    fn end(&mut self, len: usize) -> Result<(), Stop> {
+    /// Ends the text, and returns whether an entry ends with it.
+    fn end(&mut self) -> Result<bool, Stop> {
         match self.part {
-            Part::Line | Part::Comment => Ok(()),
-            Part::Name | Part::BehindName => Ok(self.end_entry(false)?),
-            Part::Value | Part::ValueComment => Ok(self.end_entry(true)?),
-            Part::Escape(_, None) => Ok(self.end_entry(true)?),
+            Part::Line | Part::Comment => return Ok(false),
+            Part::Name | Part::BehindName => self.end_entry(false),
+            Part::Value | Part::ValueComment | Part::Escape(_, None) => self.end_entry(true),
             Part::Escape(_, Some(from)) | Part::Quoted(from) => {
-                Err(Stop::Refused(from, Why::Quote))
+                return Err(Stop::Refused(from, Why::Quote));
             }
             Part::Header(at)
             | Part::HeaderBlanks(at)
             | Part::Subsection(at)
             | Part::SubsectionEscape(at)
-            | Part::HeaderEnd(at) => Err(Stop::Refused(at.min(len), Why::Header)),
+            | Part::HeaderEnd(at) => return Err(Stop::Refused(at, Why::Header)),
         }
+        Ok(true)
     }
 }
 
