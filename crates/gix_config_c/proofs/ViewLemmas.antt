@@ -161,7 +161,7 @@ part_holds text part bytes h =
     let same = same_text bytes (take (length bytes) (drop part.at text)) (sym c.1) in
     record {
       same = ap (λ n. take n (drop part.at text)) long ∙ sym same;
-      closed = sym (get_drop part.at text (length bytes) (part.at + part.len) (omega arith)) ∙ zero_holds (slice_get (drop part.at text) (length bytes)) b.1;
+      closed = sym (get_drop part.at text (length bytes) (part.at + part.len) (ap (λ n. part.at + n) long)) ∙ zero_holds (slice_get (drop part.at text) (length bytes)) b.1;
     }
   where
     zero_holds : (byte : Option ℕ) → is_zero byte ≡ true → byte ≡ Some 0

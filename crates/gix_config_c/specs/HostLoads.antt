@@ -1,5 +1,5 @@
 -- What loads answer that ask for variables and for places, besides files.
-use Rattle.std.specs.Prelude.{◌≡◌, ◌⊎◌, if◌then◌else◌, ℕ, List, [], ◌∷◌, ◌++◌, Option, Some, None, Result, Ok, Err, codes, string_bytes}
+use Rattle.std.specs.Prelude.{◌≡◌, ◌⊎◌, if◌then◌else◌, ℕ, List, [], ◌∷◌, ◌++◌, Option, Some, None, Result, Ok, Err, codes}
 use Rattle.std.specs.Str.{bytes_eq}
 use Rattle.gitconf_includes.specs.Rules.{Rules}
 use Rattle.gitconf_loaders.specs.Errors.{env_number, env_says, git_number, git_says, paths_number, paths_says}

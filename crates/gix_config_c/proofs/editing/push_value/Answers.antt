@@ -1,4 +1,4 @@
-use Rattle.std.proofs.Common.{rules, ◌≡◌, Some, sym, subst}
+use Rattle.std.proofs.Common.{rules, ◌≡◌, Some, subst}
 use Rattle.std.specs.Option.{option_copied, option_map}
 use Rattle.gitconf_sources.specs.Key.{key_of}
 use Rattle.gix_config.specs.SectionEditors.{edited, editor, editor_at, number_of}
