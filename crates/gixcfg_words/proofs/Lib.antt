@@ -2,3 +2,4 @@ mod Behind
 mod Calls
 mod Counts
 mod Letters
+mod Worked

@@ -1,0 +1,2 @@
+-- Worked rows: what definitions say of single calls, by computation.
+mod Calls
