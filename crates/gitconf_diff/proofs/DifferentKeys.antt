@@ -24,25 +24,21 @@ use Rattle.gitconf_diff.proofs.Orders.{same_equiv}
 use Rattle.gitconf_lookups.specs.Lookups.{implicit_at, value_at, values_at}
 use Rattle.gitconf_state.specs.State.{AreNumbered, SectionState, State, entries_of}
 use Rattle.gitconf_diff.specs.Settings.{section_settings, setting_of, settings_of}
-use Rattle.gitconf_diff.specs.Differences.{Answers, Different, answers_at, different_cmp, names_at, plainly, values_at_key, AreDifferences, IsFolded}
+use Rattle.gitconf_diff.specs.Differences.{Answers, Different, answers_at, different_cmp, names_at, plainly, same_answers, values_at_key, AreDifferences, IsFolded}
 use Rattle.gitconf_diff.proofs.Said.{all_said, found_said, implicit_said, none_found, none_of_other, values_said}
 
--- whether two answers are the same
-abbrev same_answers : Answers → Answers → Bool
-same_answers a b = pointwise (option_eq bytes_eq) a.values b.values && option_eq bytes_eq a.last b.last
-
-options_decide : (p q : Option (List ℕ)) → (option_eq bytes_eq p q ≡ true → p ≡ q) × (p ≡ q → option_eq bytes_eq p q ≡ true)
+pub options_decide : (p q : Option (List ℕ)) → (option_eq bytes_eq p q ≡ true → p ≡ q) × (p ≡ q → option_eq bytes_eq p q ≡ true)
 options_decide None None = (λ e. refl, λ e. refl)
 options_decide None (Some y) = (λ e. absurd (cc), λ e. absurd (cc))
 options_decide (Some x) None = (λ e. absurd (cc), λ e. absurd (cc))
 options_decide (Some x) (Some y) = (λ e. ap Some ((bytes_decides x y).0 e), λ e. (bytes_decides x y).1 (same_Some x y e))
 
-are_same_answers : (a b : Answers) → same_answers a b ≡ true → a ≡ b
+pub are_same_answers : (a b : Answers) → same_answers a b ≡ true → a ≡ b
 are_same_answers a b same =
     let parts = and_parts (pointwise (option_eq bytes_eq) a.values b.values) (option_eq bytes_eq a.last b.last) same in
     λ i. record { values = (pointwise_decides options_decide a.values b.values).0 parts.0 i; last = (options_decide a.last b.last).0 parts.1 i }
 
-same_from : (a b : Answers) → a ≡ b → same_answers a b ≡ true
+pub same_from : (a b : Answers) → a ≡ b → same_answers a b ≡ true
 same_from a b e =
     and_from (pointwise (option_eq bytes_eq) a.values b.values) (option_eq bytes_eq a.last b.last) ((pointwise_decides options_decide a.values b.values).1 (ap (λ (x : Answers). x.values) e))
     ((options_decide a.last b.last).1 (ap (λ (x : Answers). x.last) e))

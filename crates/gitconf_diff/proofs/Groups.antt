@@ -4,11 +4,12 @@ use Rattle.std.specs.Prelude.{filter, if◌then◌else◌, nat_lt, unwrap_or, po
 use Rattle.std.specs.List.{AllByRecursion, position_or_len, prefix_len}
 use Rattle.std.specs.declared.cmp.Ordering.{Ordering}
 use Rattle.std.specs.declared.cmp.Ordering.TheVariants.{Less, Equal, Greater}
+use Rattle.std.specs.Cmp.{IsTotalOrder}
 use Rattle.std.specs.Ordering.{is_lt, is_eq, ordering_reverse, ordering_then, nat_cmp}
 use Rattle.std.proofs.lemmas.Bool.{ltb-false}
 use Rattle.std.proofs.lemmas.List.Elements.{filter-append, filter_agree}
-use Rattle.gitconf_diff.specs.PlainSettings.{Names, PlainSetting, plain_settings, are_same, differ_alone, differ_in, is_said, marked, marks_of, names_cmp, rank, said_of, same_names, same_side, plain_setting, IsBySide}
-use Rattle.gitconf_diff.specs.declared.setting.Setting.{Setting}
+use Rattle.gitconf_diff.specs.PlainSettings.{Names, PlainSetting, plain_mentions, are_same, differ_alone, differ_in, is_said, kept_of, marked, marks_of, names_cmp, rank, said_of, same_names, same_side, plain_mention, IsBySide}
+use Rattle.gitconf_diff.specs.declared.mention.Mention.{Mention}
 use Rattle.gitconf_diff.specs.declared.setting.Side.{Side}
 use Rattle.gitconf_diff.specs.declared.setting.Side.TheVariants.{One, Other}
 use Rattle.gitconf_diff.proofs.Orders.{same_equiv, names_total, names_tied, before, Ascends}
@@ -24,7 +25,7 @@ NoneIsOf names settings = AllByRecursion (λ t. same_names names t.names ≡ fal
 abbrev pub alike : Names → List PlainSetting → ℕ
 alike names settings = position_or_len (λ t. not (same_names names t.names)) settings
 
-one_more : (n : ℕ) → 1 + n ≡ suc n
+pub one_more : (n : ℕ) → 1 + n ≡ suc n
 one_more n = omega arith
 
 pub at_front : (names : Names) (settings : List PlainSetting) → AreOf names (take (alike names settings) settings)
@@ -36,32 +37,32 @@ at_front names (t ∷ settings) = go (same_names names t.names) refl (at_front n
     go false same more = rw same tt
 
 -- of names: less than others that are not greater than what comes after
-later_by : (o p : Ordering) → is_lt (ordering_then o p) ≡ false → is_lt o ≡ false
+pub later_by : (o p : Ordering) → is_lt (ordering_then o p) ≡ false → is_lt o ≡ false
 later_by Less p h = h
 later_by Equal p h = refl
 later_by Greater p h = refl
 
-untied : (o : Ordering) → is_eq o ≡ false → is_lt (ordering_reverse o) ≡ false → o ≡ Less
+pub untied : (o : Ordering) → is_eq o ≡ false → is_lt (ordering_reverse o) ≡ false → o ≡ Less
 untied Less e h = refl
 untied Equal e h = absurd (cc)
 untied Greater e h = absurd (cc)
 
-not_eq : (o : Ordering) → o ≡ Less → is_eq o ≡ false
+pub not_eq : (o : Ordering) → o ≡ Less → is_eq o ≡ false
 not_eq o e = ap is_eq e
 
--- names that are below some are below what is not before those
-below : (m n k : Names) → names_cmp m n ≡ Less → is_lt (names_cmp k n) ≡ false → names_cmp m k ≡ Less
-below m n k less late = go (names_cmp n k) refl
+-- what is below some is below what is not before those
+pub below : {K : Type 0} {R : K → K → Ordering} → IsTotalOrder R → (m n k : K) → R m n ≡ Less → is_lt (R k n) ≡ false → R m k ≡ Less
+below {K} {R} total m n k less late = go (R n k) refl
   where
-    go : (o : Ordering) → names_cmp n k ≡ o → names_cmp m k ≡ Less
-    go Less e = names_total.trans m n k less e
-    go Equal e = sym (sym less ∙ names_total.antisymm m n ∙ ap ordering_reverse (names_total.congr n k m e) ∙ sym (names_total.antisymm m k))
-    go Greater e = absurd (let h : is_lt (names_cmp k n) ≡ true = ap is_lt (names_total.antisymm k n ∙ ap ordering_reverse e) in cc (h, late))
+    go : (o : Ordering) → R n k ≡ o → R m k ≡ Less
+    go Less e = total.trans m n k less e
+    go Equal e = sym (sym less ∙ total.antisymm m n ∙ ap ordering_reverse (total.congr n k m e) ∙ sym (total.antisymm m k))
+    go Greater e = absurd (let h : is_lt (R k n) ≡ true = ap is_lt (total.antisymm k n ∙ ap ordering_reverse e) in cc (h, late))
 
 past : (names : Names) (u : PlainSetting) → names_cmp names u.names ≡ Less → (settings : List PlainSetting) → AllByRecursion (λ v. before v u ≡ false) settings → NoneIsOf names settings
 past names u less [] late = tt
 past names u less (v ∷ settings) late =
-    (names_tied names v.names ∙ not_eq (names_cmp names v.names) (below names u.names v.names less (later_by (names_cmp v.names u.names) (nat_cmp (rank v.side) (rank u.side)) late.0)), past names u less settings late.1)
+    (names_tied names v.names ∙ not_eq (names_cmp names v.names) (below names_total names u.names v.names less (later_by (names_cmp v.names u.names) (nat_cmp (rank v.side) (rank u.side)) late.0)), past names u less settings late.1)
 
 pub behind_front : (t : PlainSetting) (settings : List PlainSetting) → AllByRecursion (λ u. before u t ≡ false) settings → Ascends settings → NoneIsOf t.names (drop (alike t.names settings) settings)
 behind_front t [] late up = tt
@@ -79,7 +80,7 @@ said_in_group : (names : Names) (side : Side) (group : List PlainSetting) → Ar
 said_in_group names side [] are = refl
 said_in_group names side (t ∷ group) are = rw (are.0, said_in_group names side group are.1) refl
 
-said_outside : (names : Names) (side : Side) (others : List PlainSetting) → NoneIsOf names others → said_of names side others ≡ []
+pub said_outside : (names : Names) (side : Side) (others : List PlainSetting) → NoneIsOf names others → said_of names side others ≡ []
 said_outside names side [] none = refl
 said_outside names side (t ∷ others) none = rw (none.0, said_outside names side others none.1) refl
 
@@ -124,16 +125,27 @@ marks_of_others names group whole are [] none = refl
 marks_of_others names group whole are (t ∷ others) none =
     λ i. differ_of_others t.names group whole (apart names t.names none.0 group are) i ∷ marks_of_others names group whole are others none.1 i
 
-map_append : {X Y : Type 0} (f : X → Y) (xs ys : List X) → map f (xs ++ ys) ≡ map f xs ++ map f ys
+pub map_append : {X Y : Type 0} (f : X → Y) (xs ys : List X) → map f (xs ++ ys) ≡ map f xs ++ map f ys
 map_append f [] ys = refl
 map_append f (x ∷ xs) ys = ap (λ zs. f x ∷ zs) (map_append f xs ys)
 
 -- the marks of a group and of what is behind it
-pub marks_step : (names : Names) (group others : List PlainSetting) → AreOf names group → NoneIsOf names others
+marks_step : (names : Names) (group others : List PlainSetting) → AreOf names group → NoneIsOf names others
     → marks_of (group ++ others) ≡ map (λ _. differ_alone group) group ++ marks_of others
 marks_step names group others are none =
     map_append (λ t. differ_in t.names (group ++ others)) group others
     ∙ (λ i. marks_in_group names (group ++ others) (differ_alone group) (differ_of_group names group others are none) group are i ++ marks_of_others names group others are others none i)
+
+-- what is kept of a group, by one mark for all of it, and of what is behind it
+kept_by_mark : (mark : Bool) (marks : List Bool) (others group : List PlainSetting) → marked (map (λ _. mark) group ++ marks) (group ++ others) ≡ (if mark then group else []) ++ marked marks others
+kept_by_mark true marks others [] = refl
+kept_by_mark false marks others [] = refl
+kept_by_mark true marks others (t ∷ group) = ap (λ ts. t ∷ ts) (kept_by_mark true marks others group)
+kept_by_mark false marks others (t ∷ group) = kept_by_mark false marks others group
+
+pub kept_step : (names : Names) (group others : List PlainSetting) → AreOf names group → NoneIsOf names others
+    → kept_of (group ++ others) ≡ (if differ_alone group then group else []) ++ kept_of others
+kept_step names group others are none = ap (λ ms. marked ms (group ++ others)) (marks_step names group others are none) ∙ kept_by_mark (differ_alone group) (marks_of others) others group
 
 -- of settings of one key that stand in order the first file's come first
 by_rank : (o : Ordering) (m n : ℕ) → is_eq o ≡ true → is_lt (ordering_then o (nat_cmp m n)) ≡ false → n ≤ m
@@ -205,7 +217,7 @@ in_two (t ∷ settings) by = go t.side refl (in_two settings by.1)
         (rw (one, other) (sym (all_other settings late).0), rw other (sym (ap (λ ts. t ∷ ts) (all_other settings late).1)))
 
 -- a place that passes, found in settings of the program
-pub place_of_told : (p : PlainSetting → Bool) (settings : List Setting) → position_or_len (λ s. p (plain_setting s)) settings ≡ position_or_len p (plain_settings settings)
+pub place_of_told : (p : PlainSetting → Bool) (settings : List Mention) → position_or_len (λ s. p (plain_mention s)) settings ≡ position_or_len p (plain_mentions settings)
 place_of_told p [] = refl
 place_of_told p (s ∷ settings) = rw (place_of_told p settings) refl
 

@@ -7,8 +7,8 @@ use Rattle.std.proofs.lemmas.Bool.{and_parts}
 use Rattle.std.proofs.lemmas.List.{get_or-map}
 use Rattle.std.proofs.lemmas.List.Elements.{filter_agree, recursion_from_All, All-from_recursion}
 use Rattle.std.proofs.lemmas.List.Sorted.{All-permutation}
-use Rattle.gitconf_diff.specs.PlainSettings.{Names, PlainSetting, plain_settings, are_same, differ_in, is_said, marked, marks_of, rank, said_of, same_names, same_side, plain_setting, setting_cmp, IsKept}
-use Rattle.gitconf_diff.specs.declared.setting.Setting.{Setting}
+use Rattle.gitconf_diff.specs.PlainSettings.{Names, PlainSetting, plain_mentions, are_same, differ_in, is_said, marked, marks_of, rank, said_of, same_names, same_side, plain_mention, setting_cmp, IsKept}
+use Rattle.gitconf_diff.specs.declared.mention.Mention.{Mention}
 use Rattle.gitconf_diff.specs.declared.setting.Side.{Side}
 use Rattle.gitconf_diff.specs.declared.setting.Side.TheVariants.{One, Other}
 use Rattle.std.specs.Cmp.{nat_eq_equiv}
@@ -16,29 +16,40 @@ use Rattle.gitconf_diff.proofs.Orders.{same_equiv, ties_are_said, before, Ascend
 use Rattle.gitconf_diff.proofs.Groups.{differ_alike, marked_by}
 
 -- the test of the order, on settings of the program
-abbrev pub is_before : Setting → Setting → Bool
-is_before s t = before (plain_setting s) (plain_setting t)
+abbrev pub is_before : Mention → Mention → Bool
+is_before s t = before (plain_mention s) (plain_mention t)
 
--- a setting that passes, or none does
-find_passing : (p : Setting → Bool) (settings : List Setting) → ((s : Setting) × (p s ≡ true)) ⊎ AllByRecursion (λ s. p s ≡ false) settings
+-- an element that passes, or none does
+find_passing : {X : Type 0} (p : X → Bool) (xs : List X) → ((x : X) × (p x ≡ true)) ⊎ AllByRecursion (λ x. p x ≡ false) xs
 find_passing p [] = inr tt
-find_passing p (s ∷ settings) = go (p s) refl (find_passing p settings)
+find_passing {X} p (x ∷ xs) = go (p x) refl (find_passing p xs)
   where
-    go : (b : Bool) → p s ≡ b → ((s : Setting) × (p s ≡ true)) ⊎ AllByRecursion (λ s. p s ≡ false) settings → ((s : Setting) × (p s ≡ true)) ⊎ AllByRecursion (λ s. p s ≡ false) (s ∷ settings)
-    go true is more = inl (s, is)
+    go : (b : Bool) → p x ≡ b → ((x : X) × (p x ≡ true)) ⊎ AllByRecursion (λ x. p x ≡ false) xs → ((x : X) × (p x ≡ true)) ⊎ AllByRecursion (λ x. p x ≡ false) (x ∷ xs)
+    go true is more = inl (x, is)
     go false is (inl found) = inl found
     go false is (inr none) = inr (is, none)
 
-none_pass : (p : Setting → Bool) (settings : List Setting) → AllByRecursion (λ s. p s ≡ false) settings → filter p settings ≡ []
+none_pass : {X : Type 0} (p : X → Bool) (xs : List X) → AllByRecursion (λ x. p x ≡ false) xs → filter p xs ≡ []
 none_pass p [] none = refl
-none_pass p (s ∷ settings) none = rw none.0 (none_pass p settings none.1)
+none_pass p (x ∷ xs) none = rw none.0 (none_pass p xs none.1)
 
-filter_told : (p : PlainSetting → Bool) (settings : List Setting) → filter p (plain_settings settings) ≡ plain_settings (filter (λ s. p (plain_setting s)) settings)
-filter_told p [] = refl
-filter_told p (s ∷ settings) = go (p (plain_setting s)) refl (filter_told p settings)
+-- a stable sort keeps what passes, in order, where all that passes ties
+pub filter_stays : {X : Type 0} (lt : X → X → Bool) (p : X → Bool) → ((x : X) → p x ≡ true → (y : X) → p y ≡ ties lt x y) → (old new : List X) → IsPermutation old new → IsStableBy lt old new
+    → filter p new ≡ filter p old
+filter_stays {X} lt p tie old new moved stable = go (find_passing p old)
   where
-    go : (b : Bool) → p (plain_setting s) ≡ b → filter p (plain_settings settings) ≡ plain_settings (filter (λ s. p (plain_setting s)) settings) → filter p (plain_settings (s ∷ settings)) ≡ plain_settings (filter (λ s. p (plain_setting s)) (s ∷ settings))
-    go true is more = rw is (ap (λ ts. plain_setting s ∷ ts) more)
+    go : ((x : X) × (p x ≡ true)) ⊎ AllByRecursion (λ x. p x ≡ false) old → filter p new ≡ filter p old
+    go (inl found) = filter_agree p (ties lt found.0) (tie found.0 found.1) new ∙ stable found.0 ∙ sym (filter_agree p (ties lt found.0) (tie found.0 found.1) old)
+    go (inr none) =
+        let all : All (λ x. p x ≡ false) new = All-permutation (λ x. p x ≡ false) old new moved (All-from_recursion (λ x. p x ≡ false) old none) in
+        none_pass p new (recursion_from_All (λ x. p x ≡ false) new all) ∙ sym (none_pass p old none)
+
+filter_told : (p : PlainSetting → Bool) (settings : List Mention) → filter p (plain_mentions settings) ≡ plain_mentions (filter (λ s. p (plain_mention s)) settings)
+filter_told p [] = refl
+filter_told p (s ∷ settings) = go (p (plain_mention s)) refl (filter_told p settings)
+  where
+    go : (b : Bool) → p (plain_mention s) ≡ b → filter p (plain_mentions settings) ≡ plain_mentions (filter (λ s. p (plain_mention s)) settings) → filter p (plain_mentions (s ∷ settings)) ≡ plain_mentions (filter (λ s. p (plain_mention s)) (s ∷ settings))
+    go true is more = rw is (ap (λ ts. plain_mention s ∷ ts) more)
     go false is more = rw is more
 
 -- names and a file that some setting has
@@ -48,19 +59,12 @@ same_said names side s is t =
     (λ i. same_equiv.congr names s.names t.names parts.0 i && nat_eq_equiv.congr (rank side) (rank s.side) (rank t.side) parts.1 i) ∙ sym (ties_are_said s t)
 
 -- a stable sort keeps what each file says of each key
-pub said_stays : (names : Names) (side : Side) (old new : List Setting) → IsPermutation old new → IsStableBy is_before old new
-    → said_of names side (plain_settings new) ≡ said_of names side (plain_settings old)
-said_stays names side old new moved stable = filter_told (is_said names side) new ∙ ap plain_settings (go (find_passing (λ s. is_said names side (plain_setting s)) old)) ∙ sym (filter_told (is_said names side) old)
-  where
-    go : ((s : Setting) × (is_said names side (plain_setting s) ≡ true)) ⊎ AllByRecursion (λ s. is_said names side (plain_setting s) ≡ false) old
-        → filter (λ s. is_said names side (plain_setting s)) new ≡ filter (λ s. is_said names side (plain_setting s)) old
-    go (inl found) =
-        let agree : (t : Setting) → is_said names side (plain_setting t) ≡ ties is_before found.0 t = λ t. same_said names side (plain_setting found.0) found.1 (plain_setting t) in
-        filter_agree (λ s. is_said names side (plain_setting s)) (ties is_before found.0) agree new ∙ stable found.0 ∙ sym (filter_agree (λ s. is_said names side (plain_setting s)) (ties is_before found.0) agree old)
-    go (inr none) =
-        let all : All (λ s. is_said names side (plain_setting s) ≡ false) new
-        = All-permutation (λ s. is_said names side (plain_setting s) ≡ false) old new moved (All-from_recursion (λ s. is_said names side (plain_setting s) ≡ false) old none) in
-        none_pass (λ s. is_said names side (plain_setting s)) new (recursion_from_All (λ s. is_said names side (plain_setting s) ≡ false) new all) ∙ sym (none_pass (λ s. is_said names side (plain_setting s)) old none)
+pub said_stays : (names : Names) (side : Side) (old new : List Mention) → IsPermutation old new → IsStableBy is_before old new
+    → said_of names side (plain_mentions new) ≡ said_of names side (plain_mentions old)
+said_stays names side old new moved stable =
+    filter_told (is_said names side) new
+    ∙ ap plain_mentions (filter_stays is_before (λ s. is_said names side (plain_mention s)) (λ s is t. same_said names side (plain_mention s) is (plain_mention t)) old new moved stable)
+    ∙ sym (filter_told (is_said names side) old)
 
 -- a filter behind one that is the same wherever it passes
 filter_both : (p q : PlainSetting → Bool) (b : Bool) → ((t : PlainSetting) → p t ≡ true → q t ≡ b) → (settings : List PlainSetting) → filter p (filter q settings) ≡ (if b then filter p settings else [])
@@ -87,10 +91,10 @@ marks_keep settings names side =
     (λ t is. sym (differ_alike names t.names (and_parts (same_names names t.names) (same_side side t.side) is).0 settings)) settings
 
 -- of settings that were sorted too
-pub kept_of_sorted : (old new : List Setting) → IsPermutation old new → IsStableBy is_before old new → IsKept (plain_settings old) (marked (marks_of (plain_settings new)) (plain_settings new))
+pub kept_of_sorted : (old new : List Mention) → IsPermutation old new → IsStableBy is_before old new → IsKept (plain_mentions old) (marked (marks_of (plain_mentions new)) (plain_mentions new))
 kept_of_sorted old new moved stable names side =
-    let said : (side : Side) → said_of names side (plain_settings new) ≡ said_of names side (plain_settings old) = λ side. said_stays names side old new moved stable in
-    marks_keep (plain_settings new) names side
+    let said : (side : Side) → said_of names side (plain_mentions new) ≡ said_of names side (plain_mentions old) = λ side. said_stays names side old new moved stable in
+    marks_keep (plain_mentions new) names side
     ∙ (λ i. if not (are_same (said One i) (said Other i)) then said side i else [])
 
 all_passing : (P : PlainSetting → Type 0) (test : PlainSetting → Bool) (settings : List PlainSetting) → AllByRecursion P settings → AllByRecursion P (filter test settings)
@@ -116,23 +120,23 @@ marked_sorted settings sorted =
     subst (λ (ts : List PlainSetting). IsSorted setting_cmp ts) (sym (marked_by (λ t. differ_in t.names settings) settings)) (is_sorted (filter (λ t. differ_in t.names settings) settings) up)
 
 -- from settings of the program
-pub told_sorted : (settings : List Setting) → IsSortedBy is_before settings → IsSorted setting_cmp (plain_settings settings)
+pub told_sorted : (settings : List Mention) → IsSortedBy is_before settings → IsSorted setting_cmp (plain_mentions settings)
 told_sorted [] sorted k d low less = absurd (omega arith)
 told_sorted (s ∷ settings) sorted k d low less =
     let within : k + 1 < length (s ∷ settings) = subst (λ (n : ℕ). k + 1 < n) (length_told (s ∷ settings)) less in
     let here : k < length (s ∷ settings) = omega arith in
-    (λ i. before (get_or-map plain_setting (s ∷ settings) (k + 1) s d within i) (get_or-map plain_setting (s ∷ settings) k s d here i)) ∙ sorted k s low within
+    (λ i. before (get_or-map plain_mention (s ∷ settings) (k + 1) s d within i) (get_or-map plain_mention (s ∷ settings) k s d here i)) ∙ sorted k s low within
   where
-    length_told : (settings : List Setting) → length (plain_settings settings) ≡ length settings
+    length_told : (settings : List Mention) → length (plain_mentions settings) ≡ length settings
     length_told [] = refl
     length_told (s ∷ settings) = ap suc (length_told settings)
 
 -- a test of each setting
-all_from_tests : (p : PlainSetting → Bool) (settings : List Setting) → list_all p (plain_settings settings) ≡ true → AllByRecursion (λ s. p (plain_setting s) ≡ true) settings
+all_from_tests : (p : PlainSetting → Bool) (settings : List Mention) → list_all p (plain_mentions settings) ≡ true → AllByRecursion (λ s. p (plain_mention s) ≡ true) settings
 all_from_tests p [] all = tt
-all_from_tests p (s ∷ settings) all = let parts = and_parts (p (plain_setting s)) (list_all p (plain_settings settings)) all in (parts.0, all_from_tests p settings parts.1)
+all_from_tests p (s ∷ settings) all = let parts = and_parts (p (plain_mention s)) (list_all p (plain_mentions settings)) all in (parts.0, all_from_tests p settings parts.1)
 
-tests_from_all : (p : PlainSetting → Bool) (settings : List Setting) → AllByRecursion (λ s. p (plain_setting s) ≡ true) settings → AllByRecursion (λ t. p t ≡ true) (plain_settings settings)
+tests_from_all : (p : PlainSetting → Bool) (settings : List Mention) → AllByRecursion (λ s. p (plain_mention s) ≡ true) settings → AllByRecursion (λ t. p t ≡ true) (plain_mentions settings)
 tests_from_all p [] all = tt
 tests_from_all p (s ∷ settings) all = (all.0, tests_from_all p settings all.1)
 
@@ -140,9 +144,9 @@ all_test : (p : PlainSetting → Bool) (settings : List PlainSetting) → AllByR
 all_test p [] all = refl
 all_test p (t ∷ settings) all = rw all.0 (all_test p settings all.1)
 
-pub all_kept : (old new : List Setting) → IsPermutation old new → (p : PlainSetting → Bool) → list_all p (plain_settings old) ≡ true → list_all p (marked (marks_of (plain_settings new)) (plain_settings new)) ≡ true
+pub all_kept : (old new : List Mention) → IsPermutation old new → (p : PlainSetting → Bool) → list_all p (plain_mentions old) ≡ true → list_all p (marked (marks_of (plain_mentions new)) (plain_mentions new)) ≡ true
 all_kept old new moved p all =
-    let every : AllByRecursion (λ s. p (plain_setting s) ≡ true) new
-    = recursion_from_All (λ s. p (plain_setting s) ≡ true) new (All-permutation (λ s. p (plain_setting s) ≡ true) old new moved (All-from_recursion (λ s. p (plain_setting s) ≡ true) old (all_from_tests p old all))) in
-    ap (list_all p) (marked_by (λ t. differ_in t.names (plain_settings new)) (plain_settings new))
-    ∙ all_test p (filter (λ t. differ_in t.names (plain_settings new)) (plain_settings new)) (all_passing (λ t. p t ≡ true) (λ t. differ_in t.names (plain_settings new)) (plain_settings new) (tests_from_all p new every))
+    let every : AllByRecursion (λ s. p (plain_mention s) ≡ true) new
+    = recursion_from_All (λ s. p (plain_mention s) ≡ true) new (All-permutation (λ s. p (plain_mention s) ≡ true) old new moved (All-from_recursion (λ s. p (plain_mention s) ≡ true) old (all_from_tests p old all))) in
+    ap (list_all p) (marked_by (λ t. differ_in t.names (plain_mentions new)) (plain_mentions new))
+    ∙ all_test p (filter (λ t. differ_in t.names (plain_mentions new)) (plain_mentions new)) (all_passing (λ t. p t ≡ true) (λ t. differ_in t.names (plain_mentions new)) (plain_mentions new) (tests_from_all p new every))

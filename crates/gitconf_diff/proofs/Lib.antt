@@ -1,7 +1,11 @@
+pub mod Folded
 pub mod Orders
 pub mod Groups
+pub mod Headings
 pub mod Kept
 pub mod Walked
+pub mod Joined
 pub mod Said
 pub mod DifferentKeys
+pub mod SortedSections
 pub mod Worked

@@ -26,7 +26,7 @@ names_total =
 pub told_total : IsTotalOrder setting_cmp
 told_total = then_total (on_total (λ (t : PlainSetting). t.names) names_total) (on_total (λ (t : PlainSetting). rank t.side) nat_cmp_total)
 
-options_tied : (p q : Option (List ℕ)) → option_eq bytes_eq p q ≡ is_eq (option_cmp (slice_cmp nat_cmp) p q)
+pub options_tied : (p q : Option (List ℕ)) → option_eq bytes_eq p q ≡ is_eq (option_cmp (slice_cmp nat_cmp) p q)
 options_tied None None = refl
 options_tied None (Some y) = refl
 options_tied (Some x) None = refl
@@ -46,7 +46,7 @@ said_tied s t = both_tied _ _ (names_cmp s.names t.names) (nat_cmp (rank s.side)
 abbrev pub before : PlainSetting → PlainSetting → Bool
 before s t = is_lt (setting_cmp s t)
 
-turned : (o : Ordering) → (not (is_lt o) && not (is_lt (ordering_reverse o))) ≡ is_eq o
+pub turned : (o : Ordering) → (not (is_lt o) && not (is_lt (ordering_reverse o))) ≡ is_eq o
 turned Less = refl
 turned Equal = refl
 turned Greater = refl

@@ -1,3 +1,4 @@
 pub mod PlainSettings
+pub mod PlainSections
 pub mod Settings
 pub mod Differences

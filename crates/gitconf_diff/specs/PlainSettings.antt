@@ -1,12 +1,14 @@
 -- Settings as plain values, their order, and what two files say of a key.
 use Rattle.std.specs.Prelude.{◌≡◌, ◌≤◌, ℕ, Bool, false, not, List, [], ◌∷◌, ◌==◌, ◌&&◌, map, filter, Option, Some, None, if◌then◌else◌}
 use Rattle.std.specs.List.{AllByRecursion}
-use Rattle.std.specs.Option.{option_eq, option_cmp, option_map}
+use Rattle.std.specs.Cow.{cow_slice_items}
+use Rattle.std.specs.Option.{option_copied, option_eq, option_cmp, option_map}
 use Rattle.std.specs.Str.{bytes_eq}
 use Rattle.std.specs.Cmp.Lexicographic.{pointwise, slice_cmp}
 use Rattle.std.specs.Ordering.{nat_cmp, ordering_then}
 use Rattle.std.specs.declared.cmp.Ordering.{Ordering}
 use Rattle.bstr.specs.Owned.{bstring_bytes}
+use Rattle.gitconf_diff.specs.declared.mention.Mention.{Mention}
 use Rattle.gitconf_diff.specs.declared.setting.Setting.{Setting}
 use Rattle.gitconf_diff.specs.declared.setting.Side.{Side}
 use Rattle.gitconf_diff.specs.declared.setting.Side.TheVariants.{One, Other}
@@ -31,6 +33,18 @@ names_of s = record { section = bstring_bytes s.section_name; subsection = optio
 -- a setting of the program, as plain values
 abbrev pub plain_setting : Setting → PlainSetting
 plain_setting s = record { names = names_of s; side = s.side; section = s.section; value = option_map bstring_bytes s.value }
+
+-- the names of an entry of one of two files
+abbrev pub mention_names : Mention → Names
+mention_names m = record { section = m.section_name.now; subsection = option_copied m.subsection_name; name = cow_slice_items m.value_name }
+
+-- an entry of one of two files, as a setting
+abbrev pub plain_mention : Mention → PlainSetting
+plain_mention m = record { names = mention_names m; side = m.side; section = m.section; value = option_map cow_slice_items m.value }
+
+-- entries of two files, as settings
+abbrev pub plain_mentions : List Mention → List PlainSetting
+plain_mentions mentions = map plain_mention mentions
 
 -- settings of the program, as plain values
 abbrev pub plain_settings : List Setting → List PlainSetting
@@ -105,6 +119,10 @@ abbrev pub marked : List Bool → List PlainSetting → List PlainSetting
 marked [] settings = []
 marked (m ∷ marks) [] = []
 marked (m ∷ marks) (t ∷ settings) = if m then t ∷ marked marks settings else marked marks settings
+
+-- what is kept of settings that stand in order
+abbrev pub kept_of : List PlainSetting → List PlainSetting
+kept_of settings = marked (marks_of settings) settings
 
 -- What is kept of settings: those of the names in which the files differ, each file's in the order in which they were.
 abbrev pub IsKept : (settings kept : List PlainSetting) → Type 0

@@ -1,18 +1,16 @@
 //! What two files say of one key, compared.
 ghost use Rattle.std.specs.Prelude.{◌≡◌, unwrap_or, position, ◌<◌, ◌≤◌, ◌+◌, length, drop, None, if◌then◌else◌, slice_index_or};
-ghost use Rattle.std.specs.Option.{option_eq, option_map};
+ghost use Rattle.std.specs.Option.{option_copied, option_eq};
 ghost use Rattle.std.specs.Cmp.Lexicographic.{pointwise};
 ghost use Rattle.std.specs.Str.{bytes_eq};
-ghost use Rattle.bstr.specs.Owned.{bstring_bytes};
-ghost use Rattle.gitconf_diff.specs.PlainSettings.{plain_settings, are_same, differ_alone, found_in, goes_on, same_side, values_of, IsBySide, plain_setting};
+ghost use Rattle.gitconf_diff.specs.PlainSettings.{are_same, differ_alone, found_in, goes_on, plain_mention, plain_mentions, same_side, values_of, IsBySide};
 ghost use Rattle.gitconf_diff.specs.declared.setting.Side.TheVariants.{Other};
 
-use crate::setting::Setting;
-use bstr::BString;
+use crate::mention::{Mention, bytes_of};
 
-/// Whether the settings have the same values, in order.
-fn have_same_values(one: &[Setting], other: &[Setting]) -> bool
-    ensures { result ≡ pointwise (option_eq bytes_eq) (values_of (plain_settings one.now)) (values_of (plain_settings other.now)) }
+/// Whether the entries have the same values, in order.
+fn have_same_values(one: &[Mention<'_>], other: &[Mention<'_>]) -> bool
+    ensures { result ≡ pointwise (option_eq bytes_eq) (values_of (plain_mentions one.now)) (values_of (plain_mentions other.now)) }
 {
     if one.len() != other.len() {
         return false;
@@ -25,28 +23,28 @@ fn have_same_values(one: &[Setting], other: &[Setting]) -> bool
     true
 }
 
-/// The value at a place, if the setting there is the last of its section.
-fn deciding(settings: &[Setting], at: usize) -> Option<&BString>
-    requires { at < length settings.now }
-    ensures { (d : Setting) → option_map (λ v. bstring_bytes v.now) result
-        ≡ (if goes_on (plain_setting (slice_index_or settings.now at d)) (plain_settings (drop (at + 1) settings.now)) then None
-        else (plain_setting (slice_index_or settings.now at d)).value) }
+/// The value at a place, if the entry there is the last of its section.
+fn deciding<'m, 'a>(mentions: &'m [Mention<'a>], at: usize) -> Option<&'m [u8]>
+    requires { at < length mentions.now }
+    ensures { (d : Mention) → option_copied result
+        ≡ (if goes_on (plain_mention (slice_index_or mentions.now at d)) (plain_mentions (drop (at + 1) mentions.now)) then None
+        else (plain_mention (slice_index_or mentions.now at d)).value) }
 {
-    let setting = &settings[at];
-    match settings.get(at + 1) {
-        Some(next) if next.section == setting.section => None,
-        _ => setting.value.as_ref(),
+    let mention = &mentions[at];
+    match mentions.get(at + 1) {
+        Some(next) if next.section == mention.section => None,
+        _ => bytes_of(&mention.value),
     }
 }
 
-/// The value that a lookup finds among the settings of a key.
-fn found_in(settings: &[Setting]) -> Option<&BString>
-    ensures { option_map (λ v. bstring_bytes v.now) result ≡ found_in (plain_settings settings.now) }
+/// The value that a lookup finds among the entries of a key.
+fn found_in<'m, 'a>(mentions: &'m [Mention<'a>]) -> Option<&'m [u8]>
+    ensures { option_copied result ≡ found_in (plain_mentions mentions.now) }
 {
-    let mut at = settings.len();
+    let mut at = mentions.len();
     while at > 0 {
         at -= 1;
-        match deciding(settings, at) {
+        match deciding(mentions, at) {
             Some(value) => return Some(value),
             None => {}
         }
@@ -55,32 +53,32 @@ fn found_in(settings: &[Setting]) -> Option<&BString>
 }
 
 /// Whether two files say the same of a key: the same values, and lookups find the same one.
-fn say_same(one: &[Setting], other: &[Setting]) -> bool
-    ensures { result ≡ are_same (plain_settings one.now) (plain_settings other.now) }
+fn say_same(one: &[Mention<'_>], other: &[Mention<'_>]) -> bool
+    ensures { result ≡ are_same (plain_mentions one.now) (plain_mentions other.now) }
 {
     have_same_values(one, other) && found_in(one) == found_in(other)
 }
 
-/// The place of the first setting that is the other file's.
-fn other_place(settings: &[Setting]) -> Option<usize>
-    ensures { result ≡ position (λ s. same_side Other s.side) settings.now }
+/// The place of the first entry that is the other file's.
+fn other_place(mentions: &[Mention<'_>]) -> Option<usize>
+    ensures { result ≡ position (λ s. same_side Other s.side) mentions.now }
 {
-    settings.iter().position(|s| s.side.is_other())
+    mentions.iter().position(|s| s.side.is_other())
 }
 
-/// How many settings of a key are of the first file, where these come first.
-fn first_count(settings: &[Setting]) -> usize
-    ensures within { result ≤ length settings.now }
-    ensures count { result ≡ unwrap_or (position (λ s. same_side Other s.side) settings.now) (length settings.now) }
+/// How many entries of a key are of the first file, where these come first.
+fn first_count(mentions: &[Mention<'_>]) -> usize
+    ensures within { result ≤ length mentions.now }
+    ensures count { result ≡ unwrap_or (position (λ s. same_side Other s.side) mentions.now) (length mentions.now) }
 {
-    other_place(settings).unwrap_or(settings.len())
+    other_place(mentions).unwrap_or(mentions.len())
 }
 
-/// Whether the files say different things of a key, of whose settings the first file's come first.
-pub fn differ(settings: &[Setting]) -> bool
-    requires { IsBySide (plain_settings settings.now) }
-    ensures { result ≡ differ_alone (plain_settings settings.now) }
+/// Whether the files say different things of a key, of whose entries the first file's come first.
+pub fn differ(mentions: &[Mention<'_>]) -> bool
+    requires { IsBySide (plain_mentions mentions.now) }
+    ensures { result ≡ differ_alone (plain_mentions mentions.now) }
 {
-    let (one, other) = settings.split_at(first_count(settings));
+    let (one, other) = mentions.split_at(first_count(mentions));
     !say_same(one, other)
 }

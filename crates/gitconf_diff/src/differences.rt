@@ -1,63 +1,43 @@
 //! What two files mean differently.
 ghost use Rattle.std.specs.Prelude.{◌≡◌, ℕ, map, IfOk};
-ghost use Rattle.gitconf_diff.specs.PlainSettings.{plain_settings, plain_setting};
+ghost use Rattle.std.specs.List.Sorted.{IsSortedBy};
+ghost use Rattle.gitconf_diff.specs.PlainSections.{is_before, plain_sections, settings_in};
 ghost use Rattle.gitconf_state.specs.State.{AreNumbered};
 ghost use Rattle.gitconf_views.specs.Views.{sections_left};
-ghost use Rattle.gitconf_diff.specs.Differences.{different_of, plainly, AreDifferences};
+ghost use Rattle.gitconf_diff.specs.Differences.{different_of, AreDifferences, AreKept, IsAdded};
 
+use crate::difference::Difference;
 use crate::differing::differing;
-use crate::setting::{Setting, Side};
-use crate::settings::add_settings;
-use bstr::BString;
+use crate::sections::{SideSection, add_sections, alike_count, mentions_of, order};
+use crate::setting::Side;
 use gitconf_text::NoMemory;
 use gitconf_views::section::Sections;
 use std::alloc::Global;
 
-/// An entry of one of two files, at a key of which they say different things.
-#[derive(Clone, Debug, Drop, PartialEq, Eq)]
-pub struct Difference {
-    /// The file that has it.
-    pub side: Side,
-    /// The name of its section, in lower case.
-    pub section_name: BString,
-    /// The subsection, if there is one.
-    pub subsection_name: Option<BString>,
-    /// The name of the value, in lower case.
-    pub value_name: BString,
-    /// What it means; `None` for an entry without `=`.
-    pub value: Option<BString>,
+/// Adds what sections of the same names say differently.
+fn add_of_group(
+    alloc: Global,
+    differences: &mut Vec<Difference>,
+    group: &[SideSection<'_>],
+) -> Result<(), NoMemory>
+    ensures { IfOk result (λ _. IsAdded (settings_in (plain_sections group.now)) (map different_of differences.old.items) (map different_of differences.new.items)) }
+{
+    differing(alloc, differences, mentions_of(alloc, group)?)
 }
 
-/// The difference that a setting is. No memory is taken.
-fn of_setting(setting: Setting) -> Difference
-    ensures { different_of result ≡ plainly (plain_setting setting) }
+/// What sections of two files say differently. They stand in the order of their names.
+fn differences_in(alloc: Global, sections: &[SideSection<'_>]) -> Result<Vec<Difference>, NoMemory>
+    requires { IsSortedBy is_before sections.now }
+    ensures { IfOk result (λ differences. AreKept (settings_in (plain_sections sections.now)) (map different_of differences.items)) }
 {
-    let Setting {
-        section_name,
-        subsection_name,
-        value_name,
-        side,
-        section: _,
-        value,
-    } = setting;
-    Difference {
-        side,
-        section_name,
-        subsection_name,
-        value_name,
-        value,
+    let mut differences = Vec::new(alloc);
+    let mut at = 0;
+    while let Some((first, others)) = sections[at..].split_first() {
+        let end = at + 1 + alike_count(first, others);
+        add_of_group(alloc, &mut differences, &sections[at..end])?;
+        at = end;
     }
-}
-
-/// The differences that settings are, in order.
-fn shown(alloc: Global, settings: Vec<Setting>) -> Result<Vec<Difference>, NoMemory>
-    ensures { IfOk result (λ shown. map different_of shown.items ≡ map plainly (plain_settings settings.items)) }
-{
-    let mut shown = Vec::new(alloc);
-    for setting in settings {
-        shown.push(of_setting(setting))?;
-    }
-    Ok(shown)
+    Ok(differences)
 }
 
 /// What the sections of two files mean differently, sorted by key: of each key of which they say different things the entries of the
@@ -65,7 +45,8 @@ fn shown(alloc: Global, settings: Vec<Setting>) -> Result<Vec<Difference>, NoMem
 /// value; the names are compared in lower case. The files say the same of a key if their entries of it mean the same in order, where
 /// one without `=` means nothing, and if lookups of it find the same value in both.
 ///
-/// It goes over both files once, and sorts their entries by key.
+/// It sorts the sections of both files by their names, and then the entries of those that have the same; only entries that differ are
+/// copied.
 ///
 /// # Errors
 ///
@@ -79,9 +60,9 @@ pub fn differences_of(
     requires other_numbered { (n : ℕ) × AreNumbered n (sections_left other) }
     ensures { IfOk result (λ differences. AreDifferences (sections_left one.entry) (sections_left other.entry) (map different_of differences.items)) }
 {
-    let mut settings = Vec::new(alloc);
-    add_settings(&mut settings, one, Side::One)?;
-    add_settings(&mut settings, other, Side::Other)?;
-    let kept = differing(alloc, settings)?;
-    shown(alloc, kept)
+    let mut sections = Vec::new(alloc);
+    add_sections(&mut sections, one, Side::One)?;
+    add_sections(&mut sections, other, Side::Other)?;
+    sections.sort_by(|one, other| order(one, other))?;
+    differences_in(alloc, &sections)
 }

@@ -1,6 +1,5 @@
 //! The settings of sections, in file order.
 ghost use Rattle.std.specs.Prelude.{◌≡◌, ◌++◌, ◌∷◌, [], map, IfOk};
-ghost use Rattle.std.specs.Option.{option_copied, option_map};
 ghost use Rattle.bstr.specs.Owned.{bstring_bytes};
 ghost use Rattle.gitconf_text.specs.Bytes.{fold};
 ghost use Rattle.gitconf_text.specs.Document.{document_entry};
@@ -9,6 +8,8 @@ ghost use Rattle.gitconf_diff.specs.PlainSettings.{plain_settings, plain_setting
 ghost use Rattle.gitconf_views.specs.Views.{sections_left, shown};
 ghost use Rattle.gitconf_diff.specs.Settings.{section_settings, setting_of, settings_of};
 
+use crate::mention::folded;
+use crate::owned::owned_if;
 use crate::setting::{Setting, Side};
 use bstr::BString;
 use gitconf_body::entries::next_entry;
@@ -18,22 +19,11 @@ use gitconf_text::NoMemory;
 use gitconf_views::section::{SectionRef, Sections};
 use std::alloc::Global;
 
-/// A name as names are compared: in lower case.
-fn folded(alloc: Global, name: &[u8]) -> Result<BString, NoMemory>
+/// A name as names are compared, with memory of its own.
+fn owned_name(alloc: Global, name: &[u8]) -> Result<BString, NoMemory>
     ensures { IfOk result (λ text. bstring_bytes text ≡ fold name.now) }
 {
-    let lower: Vec<u8> = name.iter().map(|b| b.to_ascii_lowercase()).collect(alloc)?;
-    Ok(BString::new(lower))
-}
-
-/// A text with memory of its own, if there is one.
-fn copied(alloc: Global, text: Option<&[u8]>) -> Result<Option<BString>, NoMemory>
-    ensures { IfOk result (λ copy. option_map bstring_bytes copy ≡ option_copied text.entry) }
-{
-    match text {
-        Some(text) => Ok(Some(BString::new(text.to_vec(alloc)?))),
-        None => Ok(None),
-    }
+    Ok(BString::new(folded(alloc, name)?.into_owned(alloc)?))
 }
 
 /// The setting of an entry of a section.
@@ -42,9 +32,9 @@ fn setting(section: &SectionRef<'_>, entry: &Entry, side: Side) -> Result<Settin
 {
     let header = section.header();
     Ok(Setting {
-        section_name: folded(section.alloc, header.name())?,
-        subsection_name: copied(section.alloc, header.subsection_name())?,
-        value_name: folded(section.alloc, entry.name().bytes_in(section.buffer))?,
+        section_name: owned_name(section.alloc, header.name())?,
+        subsection_name: owned_if(section.alloc, header.subsection_name())?,
+        value_name: owned_name(section.alloc, entry.name().bytes_in(section.buffer))?,
         side,
         section: section.id(),
         value: entry_value(section.alloc, section.buffer, entry)?,

@@ -2,7 +2,7 @@
 ghost use Rattle.std.specs.Prelude.{map, IfOk};
 ghost use Rattle.gitconf_diff.specs.Differences.{different_of, AreDifferences};
 
-pub use gitconf_diff::differences::Difference;
+pub use gitconf_diff::difference::Difference;
 use gitconf_diff::differences::differences_of;
 pub use gitconf_diff::setting::Side;
 /// Nothing differs exactly if both files say the same of every key, and then lookups of a key find the same values in both.
@@ -20,7 +20,7 @@ use std::alloc::Global;
 /// It is empty exactly if both say the same of every key ([`laws`]); then [`File::string`], [`File::strings`] and [`File::boolean`]
 /// return the same from both. Calls that report what is missing may report another number.
 ///
-/// It goes over both files once, sorts their entries by key, and goes over these a fixed number of times.
+/// It sorts the sections of both files by their names, and then the entries of those that have the same. Only what it returns is copied.
 ///
 /// # Errors
 ///

@@ -1,0 +1,154 @@
+//! Sections of two files by their names, and the entries in them.
+ghost use Rattle.std.specs.Prelude.{◌≡◌, ◌++◌, map, position, unwrap_or, length, not, ◌≤◌, IfOk};
+ghost use Rattle.gitconf_text.specs.Document.{document_entry};
+ghost use Rattle.gitconf_items.specs.Items.{entry_of};
+ghost use Rattle.gitconf_diff.specs.PlainSettings.{plain_mention, plain_mentions};
+ghost use Rattle.gitconf_diff.specs.PlainSections.{heading, heading_cmp, plain_section, plain_sections, same_heading, setting_in, settings_in, settings_of_one, sided};
+ghost use Rattle.gitconf_views.specs.Views.{sections_left, shown};
+
+use crate::mention::{Mention, folded, value_of};
+use crate::setting::Side;
+use gitconf_body::entries::next_entry;
+use gitconf_items::entry::Entry;
+use gitconf_items::items::Item;
+use gitconf_sections::id::SectionId;
+use gitconf_text::NoMemory;
+use gitconf_views::section::{SectionRef, Sections};
+use std::alloc::Global;
+use std::borrow::CowSlice;
+use std::cmp::Ordering;
+
+/// A section of one of two files, with its names.
+#[derive(Drop)]
+pub struct SideSection<'a> {
+    /// Its name, as names are compared.
+    pub name: CowSlice<'a, u8>,
+    /// The subsection, if there is one.
+    pub subsection_name: Option<&'a [u8]>,
+    /// The file that has it.
+    pub side: Side,
+    /// Its number in that file.
+    pub section: SectionId,
+    /// The buffer that its spans are offsets of.
+    pub buffer: &'a [u8],
+    /// The items of its body.
+    pub items: &'a [Item],
+}
+
+/// A section of one of two files.
+fn side_section<'a>(section: &SectionRef<'a>, side: Side) -> Result<SideSection<'a>, NoMemory>
+    ensures { IfOk result (λ s. plain_section s ≡ sided side (shown section.now)) }
+{
+    let header = section.header();
+    let name = folded(section.alloc, header.name())?;
+    Ok(SideSection {
+        name,
+        subsection_name: header.subsection_name(),
+        side,
+        section: section.id(),
+        buffer: section.buffer,
+        items: section.items,
+    })
+}
+
+/// Adds sections, in order, as those of one of two files.
+///
+/// # Errors
+///
+/// Out of memory. Some of them may have been added.
+pub fn add_sections<'a>(
+    list: &mut Vec<SideSection<'a>>,
+    sections: Sections<'a>,
+    side: Side,
+) -> Result<(), NoMemory>
+    ensures { IfOk result (λ _. plain_sections list.new.items ≡ plain_sections list.old.items ++ map (sided side) (sections_left sections.entry)) }
+{
+    for section in sections {
+        list.push(side_section(&section, side)?)?;
+    }
+    Ok(())
+}
+
+/// How the names of two sections are ordered: by the section's own, and then by the subsection, where none is first.
+pub fn order(one: &SideSection<'_>, other: &SideSection<'_>) -> Ordering
+    ensures { result ≡ heading_cmp (heading one.now) (heading other.now) }
+{
+    let subsections = one.subsection_name.cmp(&other.subsection_name);
+    one.name.cmp(&other.name).then(subsections)
+}
+
+/// Whether two sections have the same names.
+fn have_same_names(one: &SideSection<'_>, other: &SideSection<'_>) -> bool
+    ensures { result ≡ same_heading (heading one.now) (heading other.now) }
+{
+    order(one, other).is_eq()
+}
+
+/// The place of the first section that has not the names of this one.
+fn unlike_place(first: &SideSection<'_>, sections: &[SideSection<'_>]) -> Option<usize>
+    ensures { result ≡ position (λ s. not (same_heading (heading first.now) (heading s))) sections.now }
+{
+    sections.iter().position(|s| !have_same_names(first, s))
+}
+
+/// How many sections at the front have the names of the first, which comes before them.
+pub fn alike_count(first: &SideSection<'_>, sections: &[SideSection<'_>]) -> usize
+    ensures within { result ≤ length sections.now }
+    ensures count { result ≡ unwrap_or (position (λ s. not (same_heading (heading first.now) (heading s))) sections.now) (length sections.now) }
+{
+    unlike_place(first, sections).unwrap_or(sections.len())
+}
+
+/// An entry of a section, by its names.
+fn mention<'a>(
+    alloc: Global,
+    section: &'a SideSection<'a>,
+    entry: &'a Entry,
+) -> Result<Mention<'a>, NoMemory>
+    ensures { IfOk result (λ m. plain_mention m ≡ setting_in (plain_section section.now) (document_entry (entry_of section.now.buffer.now entry.now))) }
+{
+    let value_name = folded(alloc, entry.name().bytes_in(section.buffer))?;
+    let value = value_of(alloc, section.buffer, entry)?;
+    Ok(Mention {
+        section_name: section.name.as_slice(),
+        subsection_name: section.subsection_name,
+        value_name,
+        side: section.side,
+        section: section.section,
+        value,
+    })
+}
+
+/// Adds the entries of a section, in order. One pass over its items.
+fn add_mentions<'a>(
+    alloc: Global,
+    mentions: &mut Vec<Mention<'a>>,
+    section: &'a SideSection<'a>,
+) -> Result<(), NoMemory>
+    ensures { IfOk result (λ _. plain_mentions mentions.new.items ≡ plain_mentions mentions.old.items ++ settings_of_one (plain_section section.now)) }
+{
+    let mut rest = section.items;
+    while let Some((entry, behind)) = next_entry(rest) {
+        mentions.push(mention(alloc, section, entry)?)?;
+        rest = behind;
+    }
+    Ok(())
+}
+
+/// The entries of sections, in order. One pass.
+///
+/// # Errors
+///
+/// Out of memory.
+pub fn mentions_of<'a>(
+    alloc: Global,
+    sections: &'a [SideSection<'a>],
+) -> Result<Vec<Mention<'a>>, NoMemory>
+    ensures { IfOk result (λ mentions. plain_mentions mentions.items ≡ settings_in (plain_sections sections.now)) }
+{
+    let mut mentions = Vec::new(alloc);
+    for section in sections {
+        add_mentions(alloc, &mut mentions, section)?;
+    }
+    Ok(mentions)
+}
