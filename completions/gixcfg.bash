@@ -25,21 +25,24 @@ _gixcfg() {
     --comment) return ;;
     --indent) words="tabs:1 spaces:2 spaces:4 spaces:8" ;;
     --newline) words="lf crlf detect" ;;
+    -o | --output) return ;;
     *)
         case $command:$word in
         :-*) words="--version -h --help" ;;
-        get:-*) words="--file -f --global --system --local --worktree --effective --help -h --all --regexp --value --fixed-value --url --default --type -t --null -z --show-origin --show-scope --includes --no-includes --show-names --name-only" ;;
+        get:-*) words="--file -f --global --system --local --worktree --effective --help -h --all --regexp --value --fixed-value --url --default --type -t --null -z --show-origin --show-scope --show-position --includes --no-includes --show-names --name-only" ;;
         set:-*) words="--file -f --global --system --local --worktree --help -h --all --append --value --fixed-value --type -t --comment --no-sync" ;;
         unset:-*) words="--file -f --global --system --local --worktree --help -h --all --value --fixed-value --no-sync" ;;
-        list:-*) words="--file -f --global --system --local --worktree --effective --help -h --type -t --null -z --show-origin --show-scope --includes --no-includes --show-names --name-only" ;;
+        list:-*) words="--file -f --global --system --local --worktree --effective --help -h --type -t --null -z --show-origin --show-scope --show-position --includes --no-includes --show-names --name-only" ;;
         rename-section:-*) words="--file -f --global --system --local --worktree --help -h --no-sync" ;;
         remove-section:-*) words="--file -f --global --system --local --worktree --help -h --no-sync" ;;
         fmt:-*) words="--file -f --global --system --local --worktree --help -h --check --indent --newline --no-sync" ;;
-        check:-*) words="--help -h --quiet -q --lenient" ;;
+        check:-*) words="--help -h --quiet -q --lenient --names" ;;
         diff:-*) words="--help -h --null -z --quiet -q" ;;
+        explain:-*) words="--file -f --global --system --local --worktree --effective --help -h --null -z --includes --no-includes" ;;
+        merge:-*) words="--help -h --quiet -q --output -o --ours --theirs --union" ;;
         help:-*) words="--help -h" ;;
-        :*) words="get set unset list rename-section remove-section fmt check diff help all bool int print load" ;;
-        help:*) words="get set unset list rename-section remove-section fmt check diff help" ;;
+        :*) words="get set unset list rename-section remove-section fmt check diff explain merge help all bool int print load" ;;
+        help:*) words="get set unset list rename-section remove-section fmt check diff explain merge help" ;;
         fmt:*)
             _gixcfg_files "$word"
             return

@@ -7,6 +7,7 @@ pub mod format;
 pub mod glob;
 pub mod host;
 pub mod lookup;
+pub mod merge;
 pub mod parse;
 pub mod refusals;
 pub mod value;

@@ -9,7 +9,9 @@ pub mod Emptied
 pub mod Entries
 pub mod Getting
 pub mod InPlace
+pub mod Inclusions
 pub mod Layouts
 pub mod Meant
 pub mod Plainly
 pub mod Setting
+pub mod Merging

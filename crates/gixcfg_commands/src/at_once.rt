@@ -36,7 +36,12 @@ pub fn key_alone<'a>(get: &Get<'a>, read: &Located) -> Option<KeyRef<'a>> {
 
 /// Whether values alone are printed, as they are.
 fn is_bare(form: &Form) -> bool {
-    !form.has_scope && !form.has_origin && !form.has_names && form.has_value && form.kind.is_none()
+    !form.has_scope
+        && !form.has_origin
+        && !form.has_position
+        && !form.has_names
+        && form.has_value
+        && form.kind.is_none()
 }
 
 /// Whether there is a dot in a key's subsection, so that a section such as `[a.b "c"]` may be meant, which no lookup finds by it.

@@ -12,7 +12,9 @@ ghost use Rattle.gixcfg_commands.specs.Plainly.{Prints, Shows, is_of_input, plai
 use crate::checks::check;
 use crate::differing::diff;
 use crate::edits::{Edit, carry_out};
+use crate::explaining::explain;
 use crate::layouts::fmt;
+use crate::merging::merge;
 use crate::{Asked, Loads, located, located_target, put_answer};
 use gitconf_sources::Process;
 use gitconf_text::NoMemory;
@@ -194,6 +196,8 @@ fn do_command<R: EditFiles + Env + Loads + AllocGlobal + Copy, I: Read + Drop, W
         Command::Version => print(VERSION, out, err),
         Command::Check(call) => check(inputs, &call, err),
         Command::Diff(call) => diff(inputs, &call, out, err),
+        Command::Explain(call) => explain(inputs, &call, out, err),
+        Command::Merge(call) => merge(inputs, &call, out, err),
         Command::Fmt(call) => fmt(inputs, &call, out, err),
         Command::Get(call) => do_reading(inputs, Asked::Get(&call), out, err),
         Command::List(call) => do_reading(inputs, Asked::List(&call), out, err),

@@ -6,15 +6,17 @@ ghost use Rattle.gixcfg_core.specs.declared.trouble.Trouble.TheVariants.{Text as
 
 use crate::beside_git::{message_if_git_reads, messages_of_git};
 use crate::named::{Text, entries_of_text, text_at};
+use crate::naming::messages_of_names;
 use gix_config::File;
 use gix_config::parse::Error;
 use gixcfg_core::outside::{Inputs, Outside, refused};
 use gixcfg_core::places::meta_of;
 use gixcfg_core::trouble::{MEMORY, Trouble, tell};
+use gixcfg_files::is_own_file;
 use gixcfg_words::command::Check;
 use std::alloc::{AllocGlobal, Global};
 use std::io::{Read, Write};
-use std::rt::Files;
+use std::rt::{Env, Files};
 
 /// How a file was found to be.
 #[derive(Clone, Copy)]
@@ -30,7 +32,7 @@ enum Finding {
 }
 
 /// Reports the faults of each file, and returns the exit status: 1 if a file has one, 4 if one can't be read.
-pub fn check<R: Files + AllocGlobal, I: Read + Drop, E: Write>(
+pub fn check<R: Env + Files + AllocGlobal, I: Read + Drop, E: Write>(
     inputs: &mut Inputs<'_, R, I>,
     call: &Check<'_>,
     err: &mut E,
@@ -63,13 +65,13 @@ fn status_of(has_faulty: bool, has_unread: bool) -> u8
 }
 
 /// Looks at a file, and reports its faults.
-fn found<R: Files + AllocGlobal, I: Read + Drop, E: Write>(
+fn found<R: Env + Files + AllocGlobal, I: Read + Drop, E: Write>(
     inputs: &mut Inputs<'_, R, I>,
     word: &str,
     call: &Check<'_>,
     err: &mut E,
 ) -> Finding {
-    match messages_of(inputs, word, call.is_lenient) {
+    match messages_of(inputs, word, call) {
         Ok(messages) if messages.is_empty() => Finding::Fine,
         Ok(messages) => {
             if !call.is_quiet {
@@ -97,18 +99,38 @@ fn tell_all<E: Write>(messages: &[String], err: &mut E) {
     }
 }
 
-/// The messages of a file's faults: the first that the library finds, and, unless the check is lenient, all that git does.
-fn messages_of<R: Files + AllocGlobal, I: Read + Drop>(
+/// The messages of a file's faults: the first that the library finds, and, unless the check is lenient, all that git does; then, if names are
+/// asked for, those of its settings.
+fn messages_of<R: Env + Files + AllocGlobal, I: Read + Drop>(
     inputs: &mut Inputs<'_, R, I>,
     word: &str,
-    is_lenient: bool,
+    call: &Check<'_>,
 ) -> Result<Vec<String>, Trouble> {
     let text = text_at(inputs, word)?;
     let read = Text {
         name: word,
         text: &text,
     };
-    messages_in(inputs.rt.alloc(), &read, is_lenient, inputs.outside)
+    let alloc = inputs.rt.alloc();
+    let mut messages = messages_in(alloc, &read, call.is_lenient, inputs.outside)?;
+    if has_names(inputs.rt, word, call.names)? {
+        for message in messages_of_names(alloc, word, &text)? {
+            messages.push(message)?;
+        }
+    }
+    Ok(messages)
+}
+
+/// Whether a file's names are compared with those that git knows: as it is said, else if the file is a repository's own.
+fn has_names<R: Env + Files + AllocGlobal>(
+    rt: &R,
+    word: &str,
+    said: Option<bool>,
+) -> Result<bool, Trouble> {
+    match said {
+        Some(is_said) => Ok(is_said),
+        None => Ok(is_own_file(rt, word)?),
+    }
 }
 
 /// The messages of the faults of a text.

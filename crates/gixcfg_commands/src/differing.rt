@@ -64,15 +64,16 @@ fn file_or_status<R: Files + AllocGlobal, I: Read + Drop, E: Write>(
 {
     match file_at(inputs, word) {
         Ok(file) => {
-            tell_front(&file, word, err);
+            tell_front(&file, word, "compared", err);
             Ok(file)
         }
         Err(trouble) => Err(report(&trouble, word, inputs.rules, err)),
     }
 }
 
-/// Tells that a file has entries before its first section, which no section has and so aren't compared. A failed write changes no status.
-fn tell_front<E: Write>(file: &File, name: &str, err: &mut E) {
+/// Tells that a file has entries before its first section, which no section has and so aren't compared, or what else is done. A failed write
+/// changes no status.
+pub fn tell_front<E: Write>(file: &File, name: &str, done: &str, err: &mut E) {
     let Some(events) = file.frontmatter() else {
         return;
     };
@@ -81,7 +82,7 @@ fn tell_front<E: Write>(file: &File, name: &str, err: &mut E) {
             let name = Shown(name);
             let _ = writeln!(
                 err,
-                "gixcfg: {name}: entries before the first section aren't compared"
+                "gixcfg: {name}: entries before the first section aren't {done}"
             );
             return;
         }
@@ -153,7 +154,7 @@ fn add_difference(
 }
 
 /// The bytes of a text, if there is one.
-fn bytes_of(text: &Option<BString>) -> Option<&[u8]>
+pub fn bytes_of(text: &Option<BString>) -> Option<&[u8]>
     ensures { option_copied result ≡ option_map bstring_bytes text.now }
 {
     match text {

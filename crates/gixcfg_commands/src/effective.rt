@@ -36,14 +36,23 @@ pub fn effective<R: Files + Env + Loads + AllocGlobal>(
     let home = outside.home;
     let found = find_repository(rt)?;
     let here = here_from(rt, found.as_ref())?;
-    let metas = match found {
-        Some(found) => metas_of(rt, home, &found)?,
-        None => metas_of_user(rt, home)?,
-    };
+    let metas = metas_of_here(rt, home, found.as_ref())?;
     load(rt, metas, outside, options_of(home, &here, follows))
 }
 
-/// Where all files that git reads are.
+/// Where all files that git reads are, in a repository or outside of one.
+pub fn metas_of_here<R: Files + Env + AllocGlobal>(
+    rt: &R,
+    home: Option<&str>,
+    found: Option<&Repository>,
+) -> Result<Vec<Metadata>, Trouble> {
+    match found {
+        Some(found) => metas_of(rt, home, found),
+        None => Ok(metas_of_user(rt, home)?),
+    }
+}
+
+/// Where all files are that git reads in a repository.
 fn metas_of<R: Files + Env + AllocGlobal>(
     rt: &R,
     home: Option<&str>,
@@ -85,18 +94,25 @@ fn variables_of<R: Files + Env + Loads + AllocGlobal>(
     } else {
         None
     };
-    let Some(text) = variable(rt, "GIT_CONFIG_PARAMETERS")? else {
+    let Some(mut given) = parameters_of_here(rt)? else {
         return Ok(counted);
     };
-    let mut given = file_of_parameters(rt.alloc(), text.as_bytes())?;
     match rt.follow(&mut given, options) {
         Ok(()) => Ok(Some(joined(or_empty(rt.alloc(), counted)?, Some(given))?)),
         Err(refusal) => Err(refused_includes(rt, &refusal, outside)),
     }
 }
 
+/// The file of what `git -c` has given, if it has.
+pub fn parameters_of_here<R: Env + AllocGlobal>(rt: &R) -> Result<Option<File>, Trouble> {
+    match variable(rt, "GIT_CONFIG_PARAMETERS")? {
+        Some(text) => Ok(Some(file_of_parameters(rt.alloc(), text.as_bytes())?)),
+        None => Ok(None),
+    }
+}
+
 /// Whether `GIT_CONFIG_COUNT` is set to something. For git it counts as not set if it is empty, which the library refuses as no number.
-fn has_count<R: Env + AllocGlobal>(rt: &R) -> Result<bool, Trouble> {
+pub fn has_count<R: Env + AllocGlobal>(rt: &R) -> Result<bool, Trouble> {
     match variable(rt, "GIT_CONFIG_COUNT")? {
         Some(count) if is_too_many(&count) => {
             Err(told(rt.alloc(), "too many entries in GIT_CONFIG_COUNT"))
@@ -167,7 +183,7 @@ fn told(alloc: Global, what: &str) -> Trouble {
 }
 
 /// The file of the variables of `GIT_CONFIG_COUNT`, if they have entries. The library takes a key that names no section, and git doesn't.
-fn counted_of<R: Loads + AllocGlobal>(
+pub fn counted_of<R: Loads + AllocGlobal>(
     rt: &R,
     options: init::Options<'_>,
 ) -> Result<Option<File>, Trouble> {

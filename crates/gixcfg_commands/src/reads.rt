@@ -14,6 +14,7 @@ use crate::including::included;
 use crate::library;
 use crate::loads::Loads;
 use crate::named::entries_or_refused;
+use crate::tracing::{Traceable, trace};
 use gix_config::{File, KeyRef};
 use gixcfg_core::entries::Found;
 use gixcfg_core::for_url::{Variables, entries_for_url};
@@ -128,12 +129,57 @@ fn get_as_git<R: Files + Env + Loads + AllocGlobal + Copy, I: Read + Drop>(
         return last_line(inputs, key, &get.form, read);
     }
     let (alloc, home) = (inputs.rt.alloc(), inputs.outside.home);
+    if get.form.has_position {
+        let found = placed(inputs, get, read)?;
+        return lines_of_meant(alloc, found, get, home);
+    }
     let sought = sought_by(alloc, get.wanted)?;
     let found = match file_at(inputs, &get.reading, read)? {
         Some(file) => found_in(alloc, &file, &sought, &get.form, read)?,
         None => Vec::new(alloc),
     };
     lines_of_meant(alloc, found, get, home)
+}
+
+/// The entries that are looked for, each with its place. None are, if there is no such file, as without places.
+fn placed<R: Files + Env + Loads + AllocGlobal + Copy, I: Read + Drop>(
+    inputs: &mut Inputs<'_, R, I>,
+    get: &Get<'_>,
+    read: &Located,
+) -> Result<Vec<Found>, Trouble> {
+    let key = match get.wanted {
+        Wanted::Key(key) => Some(key),
+        Wanted::Keys(_) | Wanted::ForUrl(_) => None,
+    };
+    let found = match placed_entries(inputs, key, &get.reading, &get.form, read) {
+        Err(Trouble::NoFile) => Vec::new(inputs.rt.alloc()),
+        found => found?,
+    };
+    match get.wanted {
+        Wanted::Keys(pattern) => entries_like(inputs.rt.alloc(), found, pattern),
+        Wanted::Key(_) | Wanted::ForUrl(_) => Ok(found),
+    }
+}
+
+/// The entries of a key, or all, of what is read, each with its place.
+fn placed_entries<R: Files + Env + Loads + AllocGlobal, I: Read + Drop>(
+    inputs: &mut Inputs<'_, R, I>,
+    key: Option<KeyRef<'_>>,
+    reading: &Reading<'_>,
+    form: &Form,
+    read: &Located,
+) -> Result<Vec<Found>, Trouble> {
+    let asked = Traceable {
+        key,
+        includes: reading.includes,
+        is_null: form.is_null,
+    };
+    let alloc = inputs.rt.alloc();
+    let mut found = Vec::new(alloc);
+    for row in trace(inputs, asked, read)?.entries {
+        found.push(row.into_found(alloc, form)?)?;
+    }
+    Ok(found)
 }
 
 /// What is looked for.
@@ -220,6 +266,10 @@ fn put_list_as_git<R: Files + Env + Loads + AllocGlobal, I: Read + Drop, W: Writ
     out: &mut W,
 ) -> Result<(), Trouble> {
     let (alloc, home) = (inputs.rt.alloc(), inputs.outside.home);
+    if list.form.has_position {
+        let found = placed_entries(inputs, None, &list.reading, &list.form, read)?;
+        return put(&lines_of_all(alloc, &found, &list.form, home)?, out);
+    }
     match (file_at(inputs, &list.reading, read)?, list.form.kind) {
         (Some(file), None) => put_all_lines(alloc, &file, &list.form, read, out),
         (Some(file), Some(_)) => {

@@ -34,6 +34,11 @@ impl Located {
         }
     }
 
+    /// Whether it is all that git reads.
+    pub fn is_effective(&self) -> bool {
+        matches!(self, Located::Effective)
+    }
+
     /// Whether what is included is read too: as asked for, else where it isn't one file of its own, as git does it.
     pub fn follows(&self, includes: Option<bool>) -> bool {
         match (includes, self) {
@@ -123,7 +128,7 @@ fn add_origin_if(
 }
 
 /// The scope of what was read.
-fn scope_of(meta: &Metadata, read: &Located) -> &'static str
+pub fn scope_of(meta: &Metadata, read: &Located) -> &'static str
     ensures { result.now ≡ origins.scope_of meta.now read.now }
 {
     match read {
@@ -150,7 +155,11 @@ fn scope_of_source(source: Source) -> &'static str
 }
 
 /// Adds what the file is called from which something was read.
-fn add_origin(
+///
+/// # Errors
+///
+/// Out of memory.
+pub fn add_origin(
     before: &mut Vec<u8>,
     meta: &Metadata,
     read: &Located,

@@ -37,6 +37,56 @@ pub struct Place {
     pub under: String,
 }
 
+/// Where something begins in a text.
+#[derive(Clone, Copy)]
+pub struct Position {
+    /// The number of its line, counted from 1.
+    pub line: usize,
+    /// How many characters of the line stand before it, and one more.
+    pub column: usize,
+}
+
+/// Positions in a text, each behind those that were asked for before. One pass over the text for all of them.
+#[derive(Clone, Copy)]
+pub struct Positions<'a> {
+    /// The text from the start of a line on.
+    rest: &'a [u8],
+    /// How many bytes stand before that line.
+    start: usize,
+    /// The number of that line.
+    line: usize,
+}
+
+impl<'a> Positions<'a> {
+    /// Those of a text.
+    pub fn new(text: &'a [u8]) -> Positions<'a> {
+        Positions {
+            rest: text,
+            start: 0,
+            line: 1,
+        }
+    }
+
+    /// The position of what begins that many bytes behind the start of the text.
+    pub fn at(&mut self, offset: usize) -> Position {
+        let len = offset.saturating_sub(self.start).min(self.rest.len());
+        let (read, _) = self.rest.split_at(len);
+        let front = last_line(read);
+        let passed = len.saturating_sub(front.len());
+        self.line = self.line.saturating_add(line_of(read) - 1);
+        self.start = self.start.saturating_add(passed);
+        self.rest = self.rest.split_at(passed.min(self.rest.len())).1;
+        Position {
+            line: self.line,
+            column: column_of(if self.start == 0 {
+                without_mark(front)
+            } else {
+                front
+            }),
+        }
+    }
+}
+
 /// The place in a text after which so many bytes are left.
 ///
 /// # Errors

@@ -35,6 +35,6 @@ pub use place::{Place, Replaced, Replacement};
 pub use places::{system_file, user_file};
 pub use process::Process;
 pub use reading::read;
-pub use repository::{Repository, find_repository, repository_file};
+pub use repository::{Repository, find_repository, is_own_file, repository_file};
 pub use sight::find_file;
 pub use variables::variable;

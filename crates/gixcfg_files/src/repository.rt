@@ -3,7 +3,7 @@ ghost use Rattle.std.specs.Prelude.{◌≡◌, ◌≤◌, ◌++◌, IfOk, codes,
 
 use crate::ceilings::searched_folders;
 use crate::fault::Fault;
-use crate::paths::{as_folder, is_absolute, joined, line_of, within};
+use crate::paths::{as_folder, folder_of, is_absolute, joined, line_of, name_of, within};
 use crate::reading::read;
 use crate::variables::variable;
 use std::alloc::{AllocError, AllocGlobal, Global};
@@ -123,6 +123,19 @@ pub fn repository_file<R: Env + Files + AllocGlobal>(rt: &R) -> Result<String, F
         Some(found) => Ok(found.file(rt.alloc())?),
         None => Err(Fault::NoRepository),
     }
+}
+
+/// Whether a file is a repository's own: `config` or `config.worktree` in the repository's folder.
+///
+/// # Errors
+///
+/// A file that leads to the repository can't be read; out of memory.
+pub fn is_own_file<R: Env + Files + AllocGlobal>(rt: &R, path: &str) -> Result<bool, Fault> {
+    if !matches!(name_of(path), "config" | "config.worktree") {
+        return Ok(false);
+    }
+    let found = repository_in(rt, folder_of(rt.alloc(), path)?)?;
+    Ok(found.is_some())
 }
 
 /// The first repository from the working folder upwards, as far as one is looked for.

@@ -7,9 +7,11 @@ use Rattle.gixcfg_words.specs.Given.{Given, Path, OfGit, Effective, given_by, ha
 use Rattle.gixcfg_words.specs.Keys.{is_nameless, key_meant}
 use Rattle.gixcfg_words.specs.Options.{goes_with}
 use Rattle.gixcfg_words.specs.Spelling.{Said, indent_named, is_option, newline_named}
-use Rattle.gixcfg_words.specs.Tasks.{Any, At, Check, Chosen, Default, Diff, Equal, Everything, Fmt, ForUrl, Get, GitsFile, Help, InPlaceOf, Input, Laid, Last, Entries, Matching, New, OfKey, OfKeys, One, Only, Paths, Placed, RemoveSection, RenameSection, SectionNames, Set, Sought, Task, Unset, Version, Where, Which}
+use Rattle.gixcfg_words.specs.Tasks.{Any, At, Check, Chosen, Default, Diff, Equal, Everything, Explain, Fmt, ForUrl, Get, GitsFile, Help, InPlaceOf, Input, Laid, Last, Entries, Matching, Merge, New, OfKey, OfKeys, One, Only, Paths, Placed, RemoveSection, RenameSection, SectionNames, Set, Sought, Task, Unset, Version, Where, Which}
 use Rattle.gixcfg_words.specs.Tasks as tasks
 use Rattle.gixcfg_words.specs.Verbs.{topic_named, verb_named}
+use Rattle.gixcfg_words.specs.declared.command.Favor.{Favor}
+use Rattle.gixcfg_words.specs.declared.command.Favor.TheVariants as favors
 use Rattle.gixcfg_words.specs.declared.command.Form.{Form}
 use Rattle.gixcfg_words.specs.declared.command.Indent.{Indent}
 use Rattle.gixcfg_words.specs.declared.command.Newline.{Newline}
@@ -28,6 +30,10 @@ abbrev pub two_words : List (List ℕ) → Option ((_ : List ℕ) × List ℕ)
 two_words (one ∷ other ∷ []) = Some (one, other)
 two_words words = None
 
+abbrev pub three_words : List (List ℕ) → Option ((_ : List ℕ) × (_ : List ℕ) × List ℕ)
+three_words (one ∷ other ∷ third ∷ []) = Some (one, other, third)
+three_words words = None
+
 abbrev pub word_and_more : List (List ℕ) → Option ((_ : List ℕ) × Option (List ℕ))
 word_and_more (word ∷ []) = Some (word, None)
 word_and_more (word ∷ more ∷ []) = Some (word, Some more)
@@ -38,9 +44,11 @@ two_words_and_more (one ∷ other ∷ []) = Some (one, other, None)
 two_words_and_more (one ∷ other ∷ more ∷ []) = Some (one, other, Some more)
 two_words_and_more words = None
 
--- what is read where no file is named: standard input, but what git reads where an option says what is done
+-- what is read where no file is named: standard input, but what git works on where an option says what is done, and all that it reads where
+-- a value is explained
 abbrev pub unnamed : Verb → Where
 unnamed verbs.Forms = Default
+unnamed verbs.Explain = Everything
 unnamed verb = Input
 
 -- the file at a path; `-` is standard input
@@ -87,6 +95,7 @@ abbrev pub form_given : Given → (has_names : Truth) → Form
 form_given g has_names = record {
   has_scope = has options.ShowScope g.options;
   has_origin = has options.ShowOrigin g.options;
+  has_position = has options.ShowPosition g.options;
   has_names = has_names;
   has_value = not (has options.NameOnly g.options);
   is_null = has options.Null g.options;
@@ -124,7 +133,9 @@ abbrev pub sought : Given → (word : List ℕ) → Option Sought
 sought g word = if has options.Regexp g.options then Some (OfKeys word) else option_map OfKey (key_meant word)
 
 abbrev pub is_beside_url : Given → Truth
-is_beside_url g = has options.All g.options || has options.Regexp g.options || has options.Value g.options || has options.Default g.options
+is_beside_url g =
+    has options.All g.options || has options.Regexp g.options || has options.Value g.options || has options.Default g.options
+    || has options.ShowPosition g.options
 
 abbrev pub getting : Given → (word : List ℕ) → Which → Chosen → Option Task
 getting g word which chosen =
@@ -223,6 +234,41 @@ diff g = elim (two_words g.words) [
       else Some (Diff words.0 words.1 (has options.Quiet g.options) (has options.Null g.options))
 ]
 
+-- `explain`
+abbrev pub explain : Given → Option Task
+explain g = elim (only_word g.words) [
+  | None ↦ None
+  | Some word ↦ option_map (λ k. Explain (where_given g) (includes_given g) k (has options.Null g.options)) (key_meant word)
+]
+
+-- `merge`
+abbrev pub favor_by : (ours theirs union : Truth) → Option Favor
+favor_by false false false = Some favors.Neither
+favor_by true false false = Some favors.Ours
+favor_by false true false = Some favors.Theirs
+favor_by false false true = Some favors.Union
+favor_by ours theirs union = None
+
+abbrev pub favor_given : Given → Option Favor
+favor_given g = favor_by (has options.Ours g.options) (has options.Theirs g.options) (has options.Union g.options)
+
+abbrev pub is_input : (path : List ℕ) → Truth
+is_input path = bytes_eq path (codes "-")
+
+abbrev pub is_input_twice : (one other third : List ℕ) → Truth
+is_input_twice one other third = if is_input one then is_input other || is_input third else is_input other && is_input third
+
+abbrev pub merge : Given → Option Task
+merge g = elim (three_words g.words) [
+  | None ↦ None
+  | Some words ↦ elim (favor_given g) [
+    | None ↦ None
+    | Some favor ↦
+        if is_input_twice words.0 words.1 words.2 then None
+        else Some (Merge words.0 words.1 words.2 (word_of options.Output g.options) favor (has options.Quiet g.options))
+  ]
+]
+
 -- what options say of a layout
 abbrev pub indent_given : Given → Option Indent
 indent_given g = elim (word_of options.Indent g.options) [ Some word ↦ indent_named word | None ↦ None ]
@@ -249,7 +295,10 @@ fmt g = elim (target_given g) [
 
 -- `check`
 abbrev pub check : Given → Option Task
-check g = elim g.words [ [] ↦ None | word ∷ words ↦ Some (Check g.words (has options.Quiet g.options) (has options.Lenient g.options)) ]
+check g = elim g.words [
+  | [] ↦ None
+  | word ∷ words ↦ Some (Check g.words (has options.Quiet g.options) (has options.Lenient g.options) (state_of options.Names g.options))
+]
 
 -- a command with what it is given
 abbrev pub task_by : Verb → Given → Option Task
@@ -260,6 +309,8 @@ task_by verbs.List g = list g
 task_by verbs.RenameSection g = renaming g
 task_by verbs.RemoveSection g = removal g
 task_by verbs.Diff g = diff g
+task_by verbs.Explain g = explain g
+task_by verbs.Merge g = merge g
 task_by verb g = Some (Help None)
 
 abbrev pub task : Verb → Given → Option Task

@@ -1,8 +1,8 @@
 -- What help says.
 use Rattle.std.specs.Prelude.{ℕ, List, Option, Some, None}
-use Rattle.gixcfg_words.specs.declared.help.TheConstants.{OVERVIEW, GET, SET, UNSET, LIST, RENAME, REMOVE, FMT, CHECK, DIFF, HELP, FORMS}
+use Rattle.gixcfg_words.specs.declared.help.TheConstants.{OVERVIEW, GET, SET, UNSET, LIST, RENAME, REMOVE, FMT, CHECK, DIFF, EXPLAIN, MERGE, HELP, FORMS}
 use Rattle.gixcfg_words.specs.declared.verbs.Verb.{Verb}
-use Rattle.gixcfg_words.specs.declared.verbs.Verb.TheVariants.{Get, Set, Unset, List as TheList, RenameSection, RemoveSection, Fmt, Check, Diff, Help, Forms}
+use Rattle.gixcfg_words.specs.declared.verbs.Verb.TheVariants.{Get, Set, Unset, List as TheList, RenameSection, RemoveSection, Fmt, Check, Diff, Explain, Merge, Help, Forms}
 
 -- the help on a command, or on all
 abbrev pub help_text : Option Verb → List ℕ
@@ -16,5 +16,7 @@ help_text (Some RemoveSection) = REMOVE.now
 help_text (Some Fmt) = FMT.now
 help_text (Some Check) = CHECK.now
 help_text (Some Diff) = DIFF.now
+help_text (Some Explain) = EXPLAIN.now
+help_text (Some Merge) = MERGE.now
 help_text (Some Help) = HELP.now
 help_text (Some Forms) = FORMS.now

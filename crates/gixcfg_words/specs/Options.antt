@@ -56,11 +56,13 @@ is_of_get options.Regexp = true
 is_of_get options.Url = true
 is_of_get options.Default = true
 is_of_get options.ShowNames = true
+is_of_get options.ShowPosition = true
 is_of_get option = is_of_reading option || is_of_values option
 
 abbrev pub is_of_list : Opt → Truth
 is_of_list options.Effective = true
 is_of_list options.ShowNames = true
+is_of_list options.ShowPosition = true
 is_of_list option = is_of_reading option
 
 abbrev pub is_of_set : Opt → Truth
@@ -77,12 +79,27 @@ is_of_fmt option = is_of_editing option
 abbrev pub is_of_check : Opt → Truth
 is_of_check options.Quiet = true
 is_of_check options.Lenient = true
+is_of_check options.Names = true
 is_of_check other = false
 
 abbrev pub is_of_diff : Opt → Truth
 is_of_diff options.Quiet = true
 is_of_diff options.Null = true
 is_of_diff other = false
+
+abbrev pub is_of_explain : Opt → Truth
+is_of_explain options.Effective = true
+is_of_explain options.Includes = true
+is_of_explain options.Null = true
+is_of_explain option = names_file option
+
+abbrev pub is_of_merge : Opt → Truth
+is_of_merge options.Output = true
+is_of_merge options.Ours = true
+is_of_merge options.Theirs = true
+is_of_merge options.Union = true
+is_of_merge options.Quiet = true
+is_of_merge other = false
 
 abbrev pub is_of_forms : Opt → Truth
 is_of_forms (options.Do action) = true
@@ -105,6 +122,8 @@ takes verbs.RemoveSection option = is_of_editing option
 takes verbs.Fmt option = is_of_fmt option
 takes verbs.Check option = is_of_check option
 takes verbs.Diff option = is_of_diff option
+takes verbs.Explain option = is_of_explain option
+takes verbs.Merge option = is_of_merge option
 takes verbs.Help option = false
 takes verbs.Forms option = is_of_forms option
 
@@ -118,6 +137,7 @@ takes_word options.Comment = true
 takes_word options.Indent = true
 takes_word options.Newline = true
 takes_word options.Value = true
+takes_word options.Output = true
 takes_word other = false
 
 -- how an option is written: its word behind two dashes, its letter behind one, if it has one
@@ -220,6 +240,12 @@ number options.Lenient = 24
 number options.Sync = 25
 number (options.Do action) = 26
 number (options.Alone alone) = 27
+number options.Names = 28
+number options.Output = 29
+number options.Ours = 30
+number options.Theirs = 31
+number options.Union = 32
+number options.ShowPosition = 33
 
 -- what is done, likewise
 abbrev pub action_number : Action → ℕ

@@ -51,11 +51,11 @@ input = record { source = sources.Target targets.Input; includes = Some false }
 
 -- values alone, or with their keys, as they are or as a type
 abbrev pub form : (has_names : Truth) → Option Kind → Form
-form has_names kind = record { has_scope = false; has_origin = false; has_names = has_names; has_value = true; is_null = false; kind = kind }
+form has_names kind = record { has_scope = false; has_origin = false; has_position = false; has_names = has_names; has_value = true; is_null = false; kind = kind }
 
 -- nothing else is printed but values, or keys and values, a line each
 abbrev pub is_bare : Form → Truth
-is_bare f = not f.has_scope && not f.has_origin && f.has_value && not f.is_null
+is_bare f = not f.has_scope && not f.has_origin && not f.has_position && f.has_value && not f.is_null
 
 -- the key whose entries are wanted, whatever their values
 abbrev pub wanted_key : Wanted → Values → Option Key

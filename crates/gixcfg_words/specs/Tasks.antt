@@ -7,6 +7,7 @@ use Rattle.gixcfg_words.specs.declared.command.Choice.TheVariants as choices
 use Rattle.gixcfg_words.specs.declared.command.Command.{Command}
 use Rattle.gixcfg_words.specs.declared.command.Command.TheVariants as commands
 use Rattle.gixcfg_words.specs.declared.command.Fallback.{Fallback}
+use Rattle.gixcfg_words.specs.declared.command.Favor.{Favor}
 use Rattle.gixcfg_words.specs.declared.command.Files.{Files}
 use Rattle.gixcfg_words.specs.declared.command.Files.TheVariants as files
 use Rattle.gixcfg_words.specs.declared.command.Form.{Form}
@@ -77,8 +78,10 @@ pub data Task : Type 0 where
   RenameSection : Where → (old new : SectionNames) → (is_synced : Truth) → Task
   RemoveSection : Where → SectionNames → (is_synced : Truth) → Task
   Fmt : Laid → (is_check : Truth) → Option Indent → Option Newline → (is_synced : Truth) → Task
-  Check : (paths : List (List ℕ)) → (is_quiet is_lenient : Truth) → Task
+  Check : (paths : List (List ℕ)) → (is_quiet is_lenient : Truth) → (names : Option Truth) → Task
   Diff : (one other : List ℕ) → (is_quiet is_null : Truth) → Task
+  Explain : Where → (includes : Option Truth) → Key → (is_null : Truth) → Task
+  Merge : (base ours theirs : List ℕ) → (output : Option (List ℕ)) → Favor → (is_quiet : Truth) → Task
   Help : Option Verb → Task
   Version : Task
 
@@ -131,7 +134,9 @@ task_of (commands.Unset u) = Unset (where_of u.target) (key_of u.key) (which_of 
 task_of (commands.RenameSection r) = RenameSection (where_of r.target) (names_of r.old) (names_of r.new) r.is_synced
 task_of (commands.RemoveSection r) = RemoveSection (where_of r.target) (names_of r.names) r.is_synced
 task_of (commands.Fmt f) = Fmt (laid_of f.files) f.is_check f.indent f.newline f.is_synced
-task_of (commands.Check c) = Check (map (λ p. p.now) c.files.items) c.is_quiet c.is_lenient
+task_of (commands.Check c) = Check (map (λ p. p.now) c.files.items) c.is_quiet c.is_lenient c.names
 task_of (commands.Diff d) = Diff d.one.now d.other.now d.is_quiet d.is_null
+task_of (commands.Explain e) = Explain (where_read e.reading.source) e.reading.includes (key_of e.key) e.is_null
+task_of (commands.Merge m) = Merge m.base.now m.ours.now m.theirs.now (option_map (λ o. o.now) m.output) m.favor m.is_quiet
 task_of (commands.Help verb) = Help verb
 task_of commands.Version = Version

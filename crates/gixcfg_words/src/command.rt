@@ -38,6 +38,10 @@ pub enum Command<'a> {
     Check(Check<'a>),
     /// Tells what two files mean differently.
     Diff(Diff<'a>),
+    /// Tells why a key has its value.
+    Explain(Explain<'a>),
+    /// Joins what two files made of a third.
+    Merge(Merge<'a>),
     /// Tells how a command is called, or without one which there are.
     Help(Option<Verb>),
     /// Tells the version of the program.
@@ -150,6 +154,8 @@ pub struct Form {
     pub has_scope: bool,
     /// Whether its file comes next.
     pub has_origin: bool,
+    /// Whether its file comes next, with the line and the column where the entry begins.
+    pub has_position: bool,
     /// Whether its key is printed.
     pub has_names: bool,
     /// Whether its value is printed.
@@ -306,6 +312,8 @@ pub struct Check<'a> {
     pub is_quiet: bool,
     /// Whether what only git refuses is passed over.
     pub is_lenient: bool,
+    /// Whether names are compared with those that git knows, if that is said.
+    pub names: Option<bool>,
 }
 
 /// What `diff` does.
@@ -319,6 +327,47 @@ pub struct Diff<'a> {
     pub is_quiet: bool,
     /// Whether a byte 0 ends each entry, in place of a line feed.
     pub is_null: bool,
+}
+
+/// What `explain` tells about.
+#[derive(Clone, Copy)]
+pub struct Explain<'a> {
+    /// What is read.
+    pub reading: Reading<'a>,
+    /// The key.
+    pub key: KeyRef<'a>,
+    /// Whether a byte 0 ends each field, in place of a tab or a line feed.
+    pub is_null: bool,
+}
+
+/// Whose values a merge takes where both files changed a key.
+#[derive(Clone, Copy, PartialEq, Eq)]
+pub enum Favor {
+    /// Nobody's: it is a conflict.
+    Neither,
+    /// Those of the first file that was changed.
+    Ours,
+    /// Those of the second.
+    Theirs,
+    /// Those of both.
+    Union,
+}
+
+/// What `merge` does.
+#[derive(Clone, Copy)]
+pub struct Merge<'a> {
+    /// The path of the file that both began with; `-` is standard input.
+    pub base: &'a str,
+    /// The path of what one made of it.
+    pub ours: &'a str,
+    /// The path of what the other made of it.
+    pub theirs: &'a str,
+    /// The file that gets the result; it is printed if there is none.
+    pub output: Option<&'a str>,
+    /// Whose values are taken where both changed a key.
+    pub favor: Favor,
+    /// Whether conflicts aren't told.
+    pub is_quiet: bool,
 }
 
 impl Place {
@@ -345,7 +394,12 @@ impl Command<'_> {
             Command::RenameSection(renaming) => renaming.target.is_input(),
             Command::RemoveSection(removal) => removal.target.is_input(),
             Command::Fmt(fmt) => fmt.files.is_input(),
-            Command::Check(_) | Command::Diff(_) | Command::Help(_) | Command::Version => false,
+            Command::Explain(explain) => explain.reading.is_of_input(),
+            Command::Check(_)
+            | Command::Diff(_)
+            | Command::Merge(_)
+            | Command::Help(_)
+            | Command::Version => false,
         }
     }
 }

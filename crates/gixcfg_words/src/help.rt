@@ -17,6 +17,8 @@ usage: gixcfg COMMAND [OPTIONS] [WORDS]
     fmt             lays files out
     check           reports the faults of files
     diff            prints what two files mean differently
+    explain         tells why a key has its value
+    merge           joins what two files made of a third
     help            shows how a command is used
 
 With -f FILE a command works on that file, with --global, --system, --local or --worktree on the file of the user, the
@@ -31,7 +33,7 @@ gixcfg help COMMAND says more about a command.
 
 const GET: &str = "\
 usage: gixcfg get [-f FILE] [--all] [--regexp] [--value PATTERN [--fixed-value]] [--url URL] [--default VALUE]
-                  [--type TYPE] [-z] [--show-origin] [--show-scope] [--show-names] [--name-only] KEY
+                  [--type TYPE] [-z] [--show-origin] [--show-scope] [--show-position] [--show-names] [--name-only] KEY
 
 Prints the last value of a key, or with --all each of its values, a line each.
 
@@ -53,6 +55,7 @@ Prints the last value of a key, or with --all each of its values, a line each.
     -z, --null        a byte 0 in place of each line feed, and a line feed after each key
     --show-origin     the file before each value
     --show-scope      system, global, local, worktree or command before each value
+    --show-position   the file before each value, with line and column
     --includes        what is included too, as with --effective and standard input; or not, by --no-includes
     --show-names      the key before each value
     --name-only       the key without the value
@@ -111,7 +114,7 @@ Ends with 5 if there is no entry, or several of them and --all isn't given.
 ";
 
 const LIST: &str = "\
-usage: gixcfg list [-f FILE] [--type TYPE] [-z] [--name-only] [--show-origin] [--show-scope]
+usage: gixcfg list [-f FILE] [--type TYPE] [-z] [--name-only] [--show-origin] [--show-scope] [--show-position]
 
 Prints all entries, a line each: the key, = and the value.
 
@@ -126,6 +129,7 @@ Prints all entries, a line each: the key, = and the value.
     --name-only       keys without values
     --show-origin     the file before each entry
     --show-scope      system, global, local, worktree or command before each entry
+    --show-position   the file before each entry, with line and column
     --includes        what is included too, as with --effective and standard input; or not, by --no-includes
 
     $ gixcfg list -f .git/config
@@ -187,12 +191,14 @@ in place; - is standard input.
 ";
 
 const CHECK: &str = "\
-usage: gixcfg check [-q] [--lenient] FILE...
+usage: gixcfg check [-q] [--lenient] [--names] FILE...
 
 Reads each file, and reports its first fault: the place, what is wrong, and the line; then each place at which git refuses
 what is read here, or reads something else. - is standard input.
 
     --lenient         what git makes of the file isn't asked
+    --names           reported are also names that git doesn't know in its own sections or has given up, values of a wrong
+                      type, and settings that the file sets again; on for a repository's own file, unless --no-names
     -q, --quiet       nothing is printed
 
 Ends with 1 if a file has a fault, and with 4 if one can't be read.
@@ -214,6 +220,51 @@ Ends with 0 if they mean the same, and with 1 if not.
     $ gixcfg diff .git/config ~/.gitconfig
     -core.bare=false
     +user.name=Ada
+";
+
+const EXPLAIN: &str = "\
+usage: gixcfg explain [-f FILE] [--includes] [-z] KEY
+
+Tells why a key has its value: each of its entries in the order in which they are read, with scope, file, line and column,
+and which one counts; then each include on the way, whether it was followed, and why not. Without a file it is all that
+git reads here.
+
+    -f, --file FILE   the file; - is standard input, with what it includes
+    --global          the user's file, in place of -f: ~/.gitconfig
+    --system          the system's file: /etc/gitconfig
+    --local           the repository's file: .git/config
+    --worktree        the file of the working tree, if each has one of its own, else the repository's
+    --effective       all that git reads here, as without a file
+    --includes        what is included too, as without a file; or not, by --no-includes
+    -z, --null        a byte 0 behind each field: scope, file, line, column, key, value, and what is said of it
+
+Ends with 1 if the key isn't there.
+
+    $ gixcfg explain -f .git/config core.bare
+    command\tfile:.git/config:3:2\tcore.bare=false\tcounts
+";
+
+const MERGE: &str = "\
+usage: gixcfg merge [-o FILE] [--ours|--theirs|--union] [-q] BASE OURS THEIRS
+
+Joins what two files made of a third, by meaning: a key that one side left as it was gets the values of the other. Prints
+OURS with what THEIRS changed; comments, layout and order of OURS stay. A key that both sides changed, and not alike, is a
+conflict: it is reported, and both sides are marked in the text, as git marks them. - is standard input.
+
+    -o, --output FILE the file that gets the result, in place of standard output; it may be OURS
+    --ours            in a conflict the values of OURS are taken
+    --theirs          in a conflict the values of THEIRS are taken
+    --union           in a conflict the values of OURS are taken, and then those that only THEIRS has
+    -q, --quiet       conflicts aren't reported
+
+Ends with 1 if there are conflicts. As git's merge driver:
+
+    [merge \"gixcfg\"]
+        driver = gixcfg merge -q -o %A %O %A %B
+
+    $ gixcfg merge base.config .git/config theirs.config
+    [core]
+    \tbare = false
 ";
 
 const HELP: &str = "\
@@ -265,6 +316,8 @@ pub fn help_on(verb: Option<Verb>) -> &'static str
         Some(Verb::Fmt) => FMT,
         Some(Verb::Check) => CHECK,
         Some(Verb::Diff) => DIFF,
+        Some(Verb::Explain) => EXPLAIN,
+        Some(Verb::Merge) => MERGE,
         Some(Verb::Help) => HELP,
         Some(Verb::Forms) => FORMS,
     }

@@ -101,6 +101,18 @@ pub enum Opt {
     Lenient,
     /// What an edit makes of a file is written down to the disk, unless that is taken back.
     Sync,
+    /// Names are compared with those that git knows.
+    Names,
+    /// The file that gets the result.
+    Output,
+    /// The file, the line and the column of each value.
+    ShowPosition,
+    /// Where both changed a key, the values of the first are taken.
+    Ours,
+    /// Those of the second.
+    Theirs,
+    /// Those of both.
+    Union,
     /// What is done.
     Do(Action),
     /// What only git does.
@@ -111,7 +123,7 @@ pub enum Opt {
 type Spelling = (&'static str, Option<char>, Opt);
 
 /// The options.
-static OPTIONS: [Spelling; 49] = [
+static OPTIONS: [Spelling; 55] = [
     ("file", Some('f'), Opt::File),
     ("global", None, Opt::Place(Place::Global)),
     ("system", None, Opt::Place(Place::System)),
@@ -137,6 +149,7 @@ static OPTIONS: [Spelling; 49] = [
     ("null", Some('z'), Opt::Null),
     ("show-origin", None, Opt::ShowOrigin),
     ("show-scope", None, Opt::ShowScope),
+    ("show-position", None, Opt::ShowPosition),
     ("includes", None, Opt::Includes),
     ("show-names", None, Opt::ShowNames),
     ("name-only", None, Opt::NameOnly),
@@ -146,6 +159,11 @@ static OPTIONS: [Spelling; 49] = [
     ("quiet", Some('q'), Opt::Quiet),
     ("lenient", None, Opt::Lenient),
     ("sync", None, Opt::Sync),
+    ("names", None, Opt::Names),
+    ("output", Some('o'), Opt::Output),
+    ("ours", None, Opt::Ours),
+    ("theirs", None, Opt::Theirs),
+    ("union", None, Opt::Union),
     ("get", None, Opt::Do(Action::Get)),
     ("get-all", None, Opt::Do(Action::GetAll)),
     ("get-regexp", None, Opt::Do(Action::GetRegexp)),
@@ -211,7 +229,12 @@ fn is_of_get(option: Opt) -> bool
         || is_of_values(option)
         || matches!(
             option,
-            Opt::Effective | Opt::Regexp | Opt::Url | Opt::Default | Opt::ShowNames
+            Opt::Effective
+                | Opt::Regexp
+                | Opt::Url
+                | Opt::Default
+                | Opt::ShowNames
+                | Opt::ShowPosition
         )
 }
 
@@ -219,7 +242,7 @@ fn is_of_get(option: Opt) -> bool
 fn is_of_list(option: Opt) -> bool
     ensures { result ≡ spec.is_of_list option }
 {
-    is_of_reading(option) || matches!(option, Opt::Effective | Opt::ShowNames)
+    is_of_reading(option) || matches!(option, Opt::Effective | Opt::ShowNames | Opt::ShowPosition)
 }
 
 /// Whether `set` takes an option.
@@ -230,6 +253,23 @@ fn is_of_set(option: Opt) -> bool
         || is_type(option)
         || is_of_values(option)
         || matches!(option, Opt::Append | Opt::Comment)
+}
+
+/// Whether `explain` takes an option.
+fn is_of_explain(option: Opt) -> bool
+    ensures { result ≡ spec.is_of_explain option }
+{
+    names_file(option) || matches!(option, Opt::Effective | Opt::Includes | Opt::Null)
+}
+
+/// Whether `merge` takes an option.
+fn is_of_merge(option: Opt) -> bool
+    ensures { result ≡ spec.is_of_merge option }
+{
+    matches!(
+        option,
+        Opt::Output | Opt::Ours | Opt::Theirs | Opt::Union | Opt::Quiet
+    )
 }
 
 /// Whether `fmt` takes an option.
@@ -262,8 +302,10 @@ pub(crate) fn takes(verb: Verb, option: Opt) -> bool
         Verb::Unset => is_of_editing(option) || is_of_values(option),
         Verb::RenameSection | Verb::RemoveSection => is_of_editing(option),
         Verb::Fmt => is_of_fmt(option),
-        Verb::Check => matches!(option, Opt::Quiet | Opt::Lenient),
+        Verb::Check => matches!(option, Opt::Quiet | Opt::Lenient | Opt::Names),
         Verb::Diff => matches!(option, Opt::Quiet | Opt::Null),
+        Verb::Explain => is_of_explain(option),
+        Verb::Merge => is_of_merge(option),
         Verb::Help => false,
         Verb::Forms => is_of_forms(option),
     }
@@ -340,6 +382,12 @@ impl Opt {
             Opt::Sync => 25,
             Opt::Do(_) => 26,
             Opt::Alone(_) => 27,
+            Opt::Names => 28,
+            Opt::Output => 29,
+            Opt::Ours => 30,
+            Opt::Theirs => 31,
+            Opt::Union => 32,
+            Opt::ShowPosition => 33,
         }
     }
 
@@ -365,6 +413,7 @@ pub(crate) fn takes_word(option: Opt) -> bool
             | Opt::Indent
             | Opt::Newline
             | Opt::Value
+            | Opt::Output
     )
 }
 

@@ -43,6 +43,21 @@ impl<'a> Given<'a> {
         }
     }
 
+    /// The only three words.
+    ///
+    /// # Errors
+    ///
+    /// There are more or fewer.
+    pub fn three_words(&self) -> Result<(&'a str, &'a str, &'a str), Fault<'a>>
+        ensures { Gives (λ words. (words.0.now, words.1.now, words.2.now)) (asking.three_words (spec.seen self.now).words) result }
+    {
+        match self.spelled.words.as_slice() {
+            [] | [_] | [_, _] => Err(Fault::TooFew(self.verb)),
+            [one, other, third] => Ok((one, other, third)),
+            [_, _, _, word, ..] => Err(Fault::TooMany(self.verb, word)),
+        }
+    }
+
     /// A word and one after it, if there is one.
     ///
     /// # Errors
@@ -76,12 +91,13 @@ impl<'a> Given<'a> {
     }
 
     /// What is read where no file is named.
-    fn unnamed(&self) -> Target<'a>
-        ensures { tasks.where_of result ≡ asking.unnamed self.now.verb }
+    fn unnamed(&self) -> Source<'a>
+        ensures { tasks.where_read result ≡ asking.unnamed self.now.verb }
     {
         match self.verb {
-            Verb::Forms => Target::Default,
-            _ => Target::Input,
+            Verb::Forms => Source::Target(Target::Default),
+            Verb::Explain => Source::Effective,
+            _ => Source::Target(Target::Input),
         }
     }
 
@@ -93,7 +109,7 @@ impl<'a> Given<'a> {
             Some(File::Path(path)) => Source::Target(file_at(path)),
             Some(File::OfGit(place)) => Source::Target(Target::Place(place)),
             Some(File::Effective) => Source::Effective,
-            None => Source::Target(self.unnamed()),
+            None => self.unnamed(),
         }
     }
 
@@ -147,6 +163,7 @@ impl<'a> Given<'a> {
         Form {
             has_scope: self.has(Opt::ShowScope),
             has_origin: self.has(Opt::ShowOrigin),
+            has_position: self.has(Opt::ShowPosition),
             has_names,
             has_value: !self.has(Opt::NameOnly),
             is_null: self.has(Opt::Null),

@@ -75,6 +75,7 @@ fn form(has_names: bool, kind: Option<Kind>) -> Form
     Form {
         has_scope: false,
         has_origin: false,
+        has_position: false,
         has_names,
         has_value: true,
         is_null: false,

@@ -340,7 +340,9 @@ fn read_last<'a>(
 /// The fault of a letter that the command doesn't have.
 fn unknown_letter<'a>(verb: Verb, word: &'a str, letter: char) -> Fault<'a> {
     match verb {
-        Verb::Check | Verb::Diff if word.starts_with("-f") => Fault::NotItsOption(verb, word),
+        Verb::Check | Verb::Diff | Verb::Merge if word.starts_with("-f") => Fault::NotItsOption(
+            verb, word,
+        ),
         _ => Fault::UnknownLetter(letter),
     }
 }

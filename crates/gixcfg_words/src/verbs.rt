@@ -23,6 +23,10 @@ pub enum Verb {
     Check,
     /// Tells what two files mean differently.
     Diff,
+    /// Tells why a key has its value.
+    Explain,
+    /// Joins what two files made of a third.
+    Merge,
     /// Tells how commands are called.
     Help,
     /// None: an option says what is done, as in `git config` before 2.46. Help has it by this word.
@@ -30,7 +34,7 @@ pub enum Verb {
 }
 
 /// The words of the commands, in the order in which help has them.
-pub static COMMANDS: [(&str, Verb); 10] = [
+pub static COMMANDS: [(&str, Verb); 12] = [
     ("get", Verb::Get),
     ("set", Verb::Set),
     ("unset", Verb::Unset),
@@ -40,6 +44,8 @@ pub static COMMANDS: [(&str, Verb); 10] = [
     ("fmt", Verb::Fmt),
     ("check", Verb::Check),
     ("diff", Verb::Diff),
+    ("explain", Verb::Explain),
+    ("merge", Verb::Merge),
     ("help", Verb::Help),
 ];
 
@@ -105,6 +111,8 @@ impl Verb {
             Verb::Fmt => "fmt",
             Verb::Check => "check",
             Verb::Diff => "diff",
+            Verb::Explain => "explain",
+            Verb::Merge => "merge",
             Verb::Help => "help",
             Verb::Forms => "forms",
         }

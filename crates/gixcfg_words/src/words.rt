@@ -9,8 +9,8 @@ ghost use Rattle.gixcfg_words.specs.Tasks as tasks;
 ghost use Rattle.gixcfg_words.specs.Tasks.{task_of};
 
 use crate::command::{
-    Call, Check, Choice, Command, Diff, Files, Fmt, ForUrl, Get, List, Placing, Removal, Renaming,
-    Set, Target, Unset, Values, Wanted,
+    Call, Check, Choice, Command, Diff, Explain, Favor, Files, Fmt, ForUrl, Get, List, Merge,
+    Placing, Removal, Renaming, Set, Target, Unset, Values, Wanted,
 };
 use crate::fault::Fault;
 use crate::given::{Given, given_by};
@@ -93,7 +93,16 @@ fn begins_form(word: &str) -> bool
 /// there is one line.
 pub fn has_options(words: &[&str]) -> bool {
     match words.first() {
-        Some(&("rename-section" | "remove-section" | "check" | "diff" | "help" | "edit")) => true,
+        Some(
+            &("rename-section"
+            | "remove-section"
+            | "check"
+            | "diff"
+            | "explain"
+            | "merge"
+            | "help"
+            | "edit"),
+        ) => true,
         _ => words.iter().any(|word| is_option(word)),
     }
 }
@@ -170,6 +179,8 @@ fn command_by<'a>(verb: Verb, given: &Given<'a>) -> Result<Command<'a>, Fault<'a
         Verb::RenameSection => renaming(given),
         Verb::RemoveSection => removal(given),
         Verb::Diff => diff(given),
+        Verb::Explain => explain(given),
+        Verb::Merge => merge(given),
         Verb::Fmt | Verb::Check | Verb::Help | Verb::Forms => Ok(Command::Help(None)),
     }
 }
@@ -233,6 +244,8 @@ fn beside_url(given: &Given<'_>) -> Option<&'static str>
         Some("--value")
     } else if given.has(Opt::Default) {
         Some("--default")
+    } else if given.has(Opt::ShowPosition) {
+        Some("--show-position")
     } else {
         None
     }
@@ -451,6 +464,68 @@ fn diff<'a>(given: &Given<'a>) -> Result<Command<'a>, Fault<'a>>
     }))
 }
 
+/// What `explain` is asked for.
+fn explain<'a>(given: &Given<'a>) -> Result<Command<'a>, Fault<'a>>
+    ensures { Gives task_of (asking.explain (spec.seen given.now)) result }
+{
+    let word = given.word()?;
+    let key = key_of(word)?;
+    Ok(Command::Explain(Explain {
+        reading: given.reading(),
+        key,
+        is_null: given.has(Opt::Null),
+    }))
+}
+
+/// Whose values `merge` takes, by what is asked for.
+fn favor_by<'a>(ours: bool, theirs: bool, union: bool) -> Result<Favor, Fault<'a>>
+    ensures { Gives (λ favor. favor) (asking.favor_by ours theirs union) result }
+{
+    match (ours, theirs, union) {
+        (true, true, _) => Err(Fault::Both("--ours", "--theirs")),
+        (true, false, true) => Err(Fault::Both("--ours", "--union")),
+        (false, true, true) => Err(Fault::Both("--theirs", "--union")),
+        (true, false, false) => Ok(Favor::Ours),
+        (false, true, false) => Ok(Favor::Theirs),
+        (false, false, true) => Ok(Favor::Union),
+        (false, false, false) => Ok(Favor::Neither),
+    }
+}
+
+/// What `merge` is asked for.
+fn merge<'a>(given: &Given<'a>) -> Result<Command<'a>, Fault<'a>>
+    ensures { Gives task_of (asking.merge (spec.seen given.now)) result }
+{
+    let (base, ours, theirs) = given.three_words()?;
+    let favor = favor_by(
+        given.has(Opt::Ours),
+        given.has(Opt::Theirs),
+        given.has(Opt::Union),
+    )?;
+    if is_input_twice(base, ours, theirs) {
+        return Err(Fault::TwoInputs);
+    }
+    Ok(Command::Merge(Merge {
+        base,
+        ours,
+        theirs,
+        output: given.word_of(Opt::Output),
+        favor,
+        is_quiet: given.has(Opt::Quiet),
+    }))
+}
+
+/// Whether two of three paths are standard input.
+fn is_input_twice(one: &str, other: &str, third: &str) -> bool
+    ensures { result ≡ asking.is_input_twice one.now other.now third.now }
+{
+    if one == "-" {
+        other == "-" || third == "-"
+    } else {
+        other == "-" && third == "-"
+    }
+}
+
 /// What `fmt` is asked for.
 fn fmt<'a>(given: Given<'a>) -> Result<Command<'a>, Fault<'a>>
     ensures { Gives task_of (asking.fmt (spec.seen given.entry)) result }
@@ -491,9 +566,11 @@ fn check<'a>(given: Given<'a>) -> Result<Command<'a>, Fault<'a>>
         return Err(Fault::TooFew(Verb::Check));
     }
     let (is_quiet, is_lenient) = (given.has(Opt::Quiet), given.has(Opt::Lenient));
+    let names = given.state_of(Opt::Names);
     Ok(Command::Check(Check {
         files: given.into_words(),
         is_quiet,
         is_lenient,
+        names,
     }))
 }

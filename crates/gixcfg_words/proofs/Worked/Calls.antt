@@ -16,7 +16,7 @@ use Rattle.gixcfg_words.specs.declared.verbs.Verb.TheVariants.{Forms}
 
 -- values alone, a line each
 abbrev values : Form
-values = record { has_scope = false; has_origin = false; has_names = false; has_value = true; is_null = false; kind = None }
+values = record { has_scope = false; has_origin = false; has_position = false; has_names = false; has_value = true; is_null = false; kind = None }
 
 abbrev key : (section name : String) → Key
 key section name = record { section = codes section; subsection = None; name = codes name }
@@ -40,7 +40,7 @@ unfolding all_go action_from encode chars files first_named is_utf8 kind_from le
 taken_back = refl
 
 -- gixcfg list -zf m
-pub letters_together : task_asked (codes "list" ∷ codes "-zf" ∷ codes "m" ∷ []) ≡ Some (Entries (At (codes "m")) None (record { has_scope = false; has_origin = false; has_names = true; has_value = true; is_null = true; kind = None }))
+pub letters_together : task_asked (codes "list" ∷ codes "-zf" ∷ codes "m" ∷ []) ≡ Some (Entries (At (codes "m")) None (record { has_scope = false; has_origin = false; has_position = false; has_names = true; has_value = true; is_null = true; kind = None }))
 unfolding all_go action_from encode chars files first_named is_utf8 kind_from letters parsed_key read_words state_from those word_from
 letters_together = refl
 
