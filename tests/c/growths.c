@@ -115,26 +115,32 @@ static int refused_list(listing call, const gix_config_file *file, const gix_con
     return count;
 }
 
-/* The room for each of an entry's two names in lower case is asked for ahead; where it is refused, the name grows without it. */
-static void listed(listing call, const gix_config_file *file, const gix_config_file *other_file, size_t len)
+/* Each refusal is told, but those of room that is asked for ahead, without which a list is made all the same. */
+static void listed(listing call, const gix_config_file *file, const gix_config_file *other_file, size_t len, long asked_ahead)
 {
     CHECK(refused_list(call, file, other_file, len, -1) == 0);
-    long all = growths, count = 0, asked_ahead = 2 * (long)len;
+    long all = growths, count = 0;
     for (long growth = 0; growth < all; growth++)
         count += refused_list(call, file, other_file, len, growth);
     CHECK(count == all - asked_ahead);
 }
 
+/* The room for a name with capitals is asked for ahead: of each entry both names, of a difference as a name is compared, so the section's
+   once for all of its entries. */
 static void lists(bool lossy)
 {
-    gix_config_file file = { NULL }, other_file = { NULL };
+    gix_config_file file = { NULL }, other_file = { NULL }, capitals = { NULL };
     gix_config_place place = { 0, 0, 0 };
     CHECK(parse(TEXT, lossy, &file, &place) == GIX_CONFIG_DONE && parse("", lossy, &other_file, &place) == GIX_CONFIG_DONE);
-    listed(all_entries, &file, &other_file, 3);
-    listed(entries_of_second, &file, &other_file, 2);
-    listed(gix_config_differences, &file, &other_file, 3);
+    CHECK(parse("[Core]\n\tEditor = vi\n\tPager = less\n", lossy, &capitals, &place) == GIX_CONFIG_DONE);
+    listed(all_entries, &file, &other_file, 3, 0);
+    listed(entries_of_second, &file, &other_file, 2, 0);
+    listed(gix_config_differences, &file, &other_file, 3, 0);
+    listed(all_entries, &capitals, &other_file, 2, 4);
+    listed(gix_config_differences, &capitals, &other_file, 2, 3);
     gix_config_file_close(&file);
     gix_config_file_close(&other_file);
+    gix_config_file_close(&capitals);
 }
 
 int main(void)
