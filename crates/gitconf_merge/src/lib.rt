@@ -5,6 +5,7 @@ mod changes;
 pub mod conflicts;
 mod deciding;
 mod favor;
+mod groups;
 mod judging;
 mod key;
 pub mod laws;

@@ -15,7 +15,7 @@ use crate::conflicts::{Conflict, Spot, conflicts_of};
 pub use crate::favor::Favor;
 use crate::judging::are_allowed;
 use crate::patches::patched;
-use crate::plan::{Manner, Plan, Work};
+use crate::plan::{Manner, Marks, Plan, Work};
 use crate::sides::Sided;
 use gitconf_diff::differences::differences_of;
 use gitconf_diff::setting::Side;
@@ -224,21 +224,41 @@ fn allowed_text(judge: &Judge<'_>, work: &Work<'_>) -> Result<Allowed, Unmade>
     if let Some(allowed) = made_right(judge, work)? {
         return Ok(allowed);
     }
-    match made_right(judge, &work.apart())? {
+    match made_right(judge, &work.in_manner(work.manner.apart()))? {
         Some(allowed) => Ok(allowed),
         None => Err(Unmade::Unplaced),
     }
 }
 
+/// How the text is put together in which conflicts are marked: as the one without marks, if what is left of it without marks and what THEIRS
+/// has between them says what the merge says.
+fn marked_manner(judge: &Judge<'_>, work: &Work<'_>, manner: Manner) -> Result<Manner, NoMemory>
+    requires judge { AreSorted (plain_changes judge.now.changes.now) }
+    requires work { AreSorted (plain_changes work.now.changes.now) }
+{
+    let left = made_right(judge, &work.in_manner(manner.with_marks(Marks::Left)))?;
+    let manner = if left.is_some() {
+        manner
+    } else {
+        manner.apart()
+    };
+    Ok(manner.with_marks(Marks::Shown))
+}
+
 /// The text with its conflicts marked, if one stays.
-fn marked(work: &Work<'_>, allowed: &Allowed) -> Result<Option<Vec<u8>>, NoMemory>
-    requires { AreSorted (plain_changes work.now.changes.now) }
+fn marked(
+    judge: &Judge<'_>,
+    work: &Work<'_>,
+    allowed: &Allowed,
+) -> Result<Option<Vec<u8>>, NoMemory>
+    requires judge { AreSorted (plain_changes judge.now.changes.now) }
+    requires work { AreSorted (plain_changes work.now.changes.now) }
 {
     if work.manner.favor != Favor::Neither || allowed.spots.is_empty() {
         return Ok(None);
     }
-    let made = made(&work.marking(allowed.manner))?;
-    let Allowed { text, .. } = made;
+    let manner = marked_manner(judge, work, allowed.manner)?;
+    let Allowed { text, .. } = made(&work.in_manner(manner))?;
     Ok(Some(text))
 }
 
@@ -250,7 +270,7 @@ fn finished(judge: &Judge<'_>, work: &Work<'_>) -> Result<Merged, Unmade>
         judge.now.ours.now.sections judge.now.theirs.now.sections merged.text.items (map key_of merged.conflicts.items)) }
 {
     let allowed = allowed_text(judge, work)?;
-    let marked = marked(work, &allowed)?;
+    let marked = marked(judge, work, &allowed)?;
     let conflicts = conflicts_of(judge.alloc, judge.changes, &allowed.spots)?;
     let Allowed { text, .. } = allowed;
     Ok(Merged {
@@ -277,7 +297,7 @@ fn merge_read(judge: &Judge<'_>, texts: &Texts<'_>) -> Result<Merged, Unmade>
         manner: Manner {
             favor: judge.favor,
             is_apart: false,
-            has_marks: false,
+            marks: Marks::Absent,
         },
     };
     finished(judge, &work)

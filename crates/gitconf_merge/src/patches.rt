@@ -1,7 +1,7 @@
 //! The text of OURS with what is changed in it.
 use crate::outline::{Place, Stretch, end_of_line, is_blank, is_empty_space, part};
 use crate::placing::{Home, Homes, at};
-use crate::plan::{Block, OurFate, Plan, TheirFate, Work};
+use crate::plan::{Block, Marks, OurFate, Plan, TheirFate, Work};
 use crate::sides::Sided;
 use gitconf_text::NoMemory;
 use std::alloc::Global;
@@ -394,8 +394,11 @@ fn add_entries(out: &mut Vec<u8>, side: &Sided<'_>, indices: &[usize]) -> Result
     Ok(())
 }
 
-/// Adds a marked conflict.
+/// Adds a conflict, or what is left of it without marks.
 fn add_block(out: &mut Vec<u8>, work: &Work<'_>, block: &Block) -> Result<(), NoMemory> {
+    if work.manner.marks == Marks::Left {
+        return add_entries(out, work.ours, &block.ours);
+    }
     end_line(out)?;
     out.extend_from_slice(b"<<<<<<< OURS\n")?;
     add_entries(out, work.ours, &block.ours)?;

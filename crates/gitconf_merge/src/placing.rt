@@ -1,6 +1,7 @@
 //! Where what comes from THEIRS is put into the text of OURS.
 ghost use Rattle.std.specs.Prelude.{◌≡◌, ◌≤◌, ◌<◌, ◌+◌, length};
 
+use crate::groups::{Grouped, group_at, ours_count};
 use crate::outline::{end_of_line, is_space, part};
 use crate::sides::{SectionName, Sided};
 use gitconf_text::NoMemory;
@@ -39,6 +40,17 @@ struct Row<'a> {
     index: usize,
 }
 
+impl Grouped for Row<'_> {
+    /// Whether both are sections of the same name.
+    fn is_alike(&self, other: &Self) -> bool {
+        self.name == other.name
+    }
+
+    fn is_theirs(&self) -> bool {
+        self.is_theirs
+    }
+}
+
 /// How rows are ordered: by name, and of the same name those of OURS come first.
 fn order(one: &Row<'_>, other: &Row<'_>) -> Ordering {
     match one.name.cmp(other.name) {
@@ -74,35 +86,6 @@ fn rows_of<'a>(
     add_rows(&mut rows, theirs, true)?;
     rows.sort_by(order)?;
     Ok(rows)
-}
-
-/// How many rows at the front have the name of the first, which comes before them.
-fn alike_count(first: &Row<'_>, rows: &[Row<'_>]) -> usize
-    ensures { result ≤ length rows.now }
-{
-    rows.iter()
-        .position(|row| row.name != first.name)
-        .unwrap_or(rows.len())
-}
-
-/// The rows from a place on that have the name of the first of them.
-fn group_at<'a, 'b>(rows: &'a [Row<'b>], at: usize) -> &'a [Row<'b>]
-    requires { at < length rows.now }
-    ensures some { 0 < length result.now }
-    ensures within { at + length result.now ≤ length rows.now }
-{
-    let rest = rows.split_at(at).1;
-    let first = &rest[0];
-    rest.split_at(alike_count(first, &rest[1..]) + 1).0
-}
-
-/// How many rows of a name are sections of OURS.
-fn ours_count(rows: &[Row<'_>]) -> usize
-    ensures { result ≤ length rows.now }
-{
-    rows.iter()
-        .position(|row| row.is_theirs)
-        .unwrap_or(rows.len())
 }
 
 /// Where the last line ends between two offsets that isn't empty; the first offset if there is none.

@@ -5,6 +5,7 @@ use crate::changes::Changes;
 use crate::conflicts::Spot;
 use crate::deciding::{Verdict, verdict_of};
 use crate::favor::Favor;
+use crate::groups::{Grouped, group_at, ours_count};
 use crate::key::{are_same, names_of_setting, order};
 use crate::sides::Sided;
 use gitconf_diff::setting::{Setting, Side};
@@ -40,6 +41,17 @@ pub enum TheirFate {
     Block(usize),
 }
 
+/// How conflicts that stay are shown.
+#[derive(Clone, Copy, PartialEq, Eq)]
+pub enum Marks {
+    /// They aren't: what OURS has of such a key stays where it stands.
+    Absent,
+    /// What OURS has of the key stands together, as between marks, but without them and without what THEIRS has.
+    Left,
+    /// What both sides have of the key stands between marks.
+    Shown,
+}
+
 /// How the two sides are put together.
 #[derive(Clone, Copy)]
 pub struct Manner {
@@ -47,8 +59,28 @@ pub struct Manner {
     pub favor: Favor,
     /// Whether what comes from THEIRS is put at the end, in sections of its own.
     pub is_apart: bool,
-    /// Whether conflicts are marked.
-    pub has_marks: bool,
+    /// How conflicts that stay are shown.
+    pub marks: Marks,
+}
+
+impl Manner {
+    /// The same with what comes from THEIRS at the end.
+    pub fn apart(self) -> Manner {
+        Manner {
+            favor: self.favor,
+            is_apart: true,
+            marks: self.marks,
+        }
+    }
+
+    /// The same with conflicts shown otherwise.
+    pub fn with_marks(self, marks: Marks) -> Manner {
+        Manner {
+            favor: self.favor,
+            is_apart: self.is_apart,
+            marks,
+        }
+    }
 }
 
 /// The entries of a key that is marked as a conflict.
@@ -80,30 +112,8 @@ pub struct Work<'a> {
 impl<'a> Work<'a> {
     ghost use Rattle.std.specs.Prelude.{◌≡◌};
 
-    /// The same with what comes from THEIRS at the end.
-    pub fn apart(&self) -> Work<'a>
-        ensures { result.changes.now ≡ self.now.changes.now }
-    {
-        self.with(Manner {
-            favor: self.manner.favor,
-            is_apart: true,
-            has_marks: false,
-        })
-    }
-
-    /// The same in this manner, with conflicts marked.
-    pub fn marking(&self, manner: Manner) -> Work<'a>
-        ensures { result.changes.now ≡ self.now.changes.now }
-    {
-        self.with(Manner {
-            favor: manner.favor,
-            is_apart: manner.is_apart,
-            has_marks: true,
-        })
-    }
-
     /// The same in another manner.
-    fn with(&self, manner: Manner) -> Work<'a>
+    pub fn in_manner(&self, manner: Manner) -> Work<'a>
         ensures { result.changes.now ≡ self.now.changes.now }
     {
         Work {
@@ -134,12 +144,18 @@ fn order_rows(one: &Row<'_>, other: &Row<'_>) -> Ordering {
     }
 }
 
-/// Whether rows are entries of the same key.
-fn are_of_one_key(one: &Row<'_>, other: &Row<'_>) -> bool {
-    are_same(
-        names_of_setting(one.setting),
-        names_of_setting(other.setting),
-    )
+impl Grouped for Row<'_> {
+    /// Whether both are entries of the same key.
+    fn is_alike(&self, other: &Self) -> bool {
+        are_same(
+            names_of_setting(self.setting),
+            names_of_setting(other.setting),
+        )
+    }
+
+    fn is_theirs(&self) -> bool {
+        matches!(self.setting.side, Side::Other)
+    }
 }
 
 /// Adds the entries of a side.
@@ -161,35 +177,6 @@ fn rows_of<'a>(
     add_rows(&mut rows, theirs)?;
     rows.sort_by(order_rows)?;
     Ok(rows)
-}
-
-/// How many rows at the front have the key of the first, which comes before them.
-fn alike_count(first: &Row<'_>, rows: &[Row<'_>]) -> usize
-    ensures { result ≤ length rows.now }
-{
-    rows.iter()
-        .position(|row| !are_of_one_key(first, row))
-        .unwrap_or(rows.len())
-}
-
-/// The rows from a place on that have the key of the first of them.
-fn group_at<'a, 'b>(rows: &'a [Row<'b>], at: usize) -> &'a [Row<'b>]
-    requires { at < length rows.now }
-    ensures some { 0 < length result.now }
-    ensures within { at + length result.now ≤ length rows.now }
-{
-    let rest = rows.split_at(at).1;
-    let first = &rest[0];
-    rest.split_at(alike_count(first, &rest[1..]) + 1).0
-}
-
-/// How many rows of a key are entries of OURS.
-fn ours_count(rows: &[Row<'_>]) -> usize
-    ensures { result ≤ length rows.now }
-{
-    rows.iter()
-        .position(|row| matches!(row.setting.side, Side::Other))
-        .unwrap_or(rows.len())
 }
 
 /// Whether two entries mean the same.
@@ -304,7 +291,9 @@ impl Plan {
             theirs: last_line(work.theirs, theirs),
         })?;
         match work.manner.favor {
-            Favor::Neither if work.manner.has_marks => return self.mark(work.alloc, ours, theirs),
+            Favor::Neither if work.manner.marks != Marks::Absent => {
+                return self.mark(work.alloc, ours, theirs);
+            }
             Favor::Neither | Favor::Ours => self.pair(ours, theirs),
             Favor::Theirs => self.take(work, ours, theirs),
             Favor::Union => self.unite(work.alloc, ours, theirs)?,

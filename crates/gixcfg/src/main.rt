@@ -28,8 +28,12 @@ fn borrowed(alloc: Global, words: &[String]) -> Result<Vec<&str>, NoMemory> {
 
 /// What of the streams is a terminal. Standard error then shows colors, unless `NO_COLOR` is set to something.
 fn terminal_of(rt: &HostRuntime) -> Result<Terminal, NoMemory> {
+    let is_seen = rt.stdout().is_terminal();
     if !rt.stderr().is_terminal() {
-        return Ok(Terminal::none());
+        return Ok(Terminal {
+            is_seen,
+            ..Terminal::none()
+        });
     }
     let is_colored = match Process::new(*rt).var("NO_COLOR")? {
         EnvVar::Unset => true,
@@ -39,6 +43,7 @@ fn terminal_of(rt: &HostRuntime) -> Result<Terminal, NoMemory> {
     Ok(Terminal {
         is_colored,
         is_typed: rt.stdin().is_terminal(),
+        is_seen,
     })
 }
 

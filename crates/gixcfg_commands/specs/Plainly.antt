@@ -223,12 +223,16 @@ EndsPlainly asked = Ends (IsOutcome asked)
 abbrev pub source_of : Asked → Source
 source_of (asks.Get get) = get.now.reading.source
 source_of (asks.List list) = list.now.reading.source
+source_of (asks.Color color) = color.now.reading.source
+source_of (asks.Colorbool colorbool) = colorbool.now.reading.source
 source_of asks.Input = sources.Target targets.Input
 
 -- what is asked of what is read, if it is one of these
 abbrev pub plain_asked : Asked → Option Plain
 plain_asked (asks.Get get) = plain_of_get get.now
 plain_asked (asks.List list) = plain_of_list list.now.reading.source list.now.reading.includes list.now.form
+plain_asked (asks.Color color) = None
+plain_asked (asks.Colorbool colorbool) = None
 plain_asked asks.Input = Some Print
 
 -- which of these an edit is, if it is one

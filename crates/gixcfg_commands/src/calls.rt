@@ -52,6 +52,8 @@ pub struct Terminal {
     pub is_colored: bool,
     /// Whether standard input is typed by somebody who sees standard error.
     pub is_typed: bool,
+    /// Whether standard output is a terminal.
+    pub is_seen: bool,
 }
 
 impl Terminal {
@@ -60,6 +62,7 @@ impl Terminal {
         Terminal {
             is_colored: false,
             is_typed: false,
+            is_seen: false,
         }
     }
 }
@@ -93,6 +96,7 @@ pub fn run_words<
     let home = home_of(&mut Process::new(*rt))?;
     let outside = Outside {
         is_colored: terminal.is_colored,
+        is_seen: terminal.is_seen,
         home: home.as_deref(),
     };
     Ok(do_call(rt, outside, input, call, out, err))
@@ -201,6 +205,8 @@ fn do_command<R: EditFiles + Env + Loads + AllocGlobal + Copy, I: Read + Drop, W
         Command::Fmt(call) => fmt(inputs, &call, out, err),
         Command::Get(call) => do_reading(inputs, Asked::Get(&call), out, err),
         Command::List(call) => do_reading(inputs, Asked::List(&call), out, err),
+        Command::Color(call) => do_reading(inputs, Asked::Color(&call), out, err),
+        Command::Colorbool(call) => do_reading(inputs, Asked::Colorbool(&call), out, err),
         Command::Print => do_reading(inputs, Asked::Input, out, err),
         Command::Set(call) => do_edit(inputs, call.target, Edit::Set(&call), out, err),
         Command::Unset(call) => do_edit(inputs, call.target, Edit::Unset(&call), out, err),

@@ -93,7 +93,7 @@ fn found<R: Env + Files + AllocGlobal, I: Read + Drop, E: Write>(
 }
 
 /// Prints messages. A failed write changes no status.
-fn tell_all<E: Write>(messages: &[String], err: &mut E) {
+pub fn tell_all<E: Write>(messages: &[String], err: &mut E) {
     for message in messages {
         let _ = err.write_all(message.as_bytes());
     }

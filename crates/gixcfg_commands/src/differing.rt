@@ -18,7 +18,7 @@ use gixcfg_core::trouble::{Trouble, report};
 use gixcfg_words::command::Diff;
 use gixcfg_words::rules::Rules;
 use gixcfg_words::shown::Shown;
-use std::alloc::{AllocGlobal, Global};
+use std::alloc::{AllocError, AllocGlobal, Global};
 use std::io::{Read, Write};
 use std::rt::Files;
 
@@ -62,31 +62,38 @@ fn file_or_status<R: Files + AllocGlobal, I: Read + Drop, E: Write>(
 ) -> Result<File, u8>
     ensures { IfErr result IsStatus }
 {
-    match file_at(inputs, word) {
-        Ok(file) => {
-            tell_front(&file, word, "compared", err);
-            Ok(file)
-        }
+    match file_told(inputs, word, err) {
+        Ok(file) => Ok(file),
         Err(trouble) => Err(report(&trouble, word, inputs.rules, err)),
     }
 }
 
-/// Tells that a file has entries before its first section, which no section has and so aren't compared, or what else is done. A failed write
-/// changes no status.
-pub fn tell_front<E: Write>(file: &File, name: &str, done: &str, err: &mut E) {
-    let Some(events) = file.frontmatter() else {
-        return;
-    };
-    for event in events {
-        if let EventRef::SectionValueName(_) = event {
-            let name = Shown(name);
-            let _ = writeln!(
-                err,
-                "gixcfg: {name}: entries before the first section aren't {done}"
-            );
-            return;
-        }
+/// The file that a word names. It is told if it has entries that aren't compared. A failed write changes no status.
+fn file_told<R: Files + AllocGlobal, I: Read + Drop, E: Write>(
+    inputs: &mut Inputs<'_, R, I>,
+    word: &str,
+    err: &mut E,
+) -> Result<File, Trouble> {
+    let file = file_at(inputs, word)?;
+    if has_front(&file) {
+        let message = front_message(inputs.rt.alloc(), word, "compared")?;
+        let _ = err.write_all(message.as_bytes());
     }
+    Ok(file)
+}
+
+/// Whether a file has entries before its first section, which no section has.
+pub fn has_front(file: &File) -> bool {
+    match file.frontmatter() {
+        Some(mut events) => events.any(|event| matches!(event, EventRef::SectionValueName(_))),
+        None => false,
+    }
+}
+
+/// What is told of a file with such entries, with which this isn't done.
+pub fn front_message(alloc: Global, name: &str, done: &str) -> Result<String, AllocError> {
+    let name = Shown(name);
+    format!(in alloc; "gixcfg: {name}: entries before the first section aren't {done}\n")
 }
 
 /// Prints lines, unless nothing is to be printed, and returns 0 if there are none, else 1.

@@ -1,21 +1,25 @@
-//! Files with what they include.
+//! What a call reads: a file, with what it includes or without, or all that git reads.
 
+use crate::effective::effective;
 use crate::loads::Loads;
+use crate::named::entries_or_refused;
 use crate::placing::refused_init;
 use gix_config::File;
 use gix_config::file::init;
 use gixcfg_core::conditions::{here_from, options_of};
 use gixcfg_core::origins::Located;
-use gixcfg_core::outside::{Outside, refused};
+use gixcfg_core::outside::{Inputs, Outside, refused};
 use gixcfg_core::places::meta_of;
 use gixcfg_core::trouble::Trouble;
 use gixcfg_files::find_repository;
+use gixcfg_words::command::Reading;
 use std::alloc::AllocGlobal;
+use std::io::Read;
 use std::rt::{Env, Files};
 
 /// A text that was read there as a file, with what it includes. The text is copied, for the
 /// message of a refusal.
-pub fn included<R: Files + Env + Loads + AllocGlobal>(
+fn included<R: Files + Env + Loads + AllocGlobal>(
     rt: &R,
     read: &Located,
     text: Vec<u8>,
@@ -31,5 +35,26 @@ pub fn included<R: Files + Env + Loads + AllocGlobal>(
             Err(refused(rt.alloc(), read.name(), &copy, &cause, outside))
         }
         Err(refusal) => Err(refused_init(rt, &refusal, outside)),
+    }
+}
+
+/// What a call reads; none if there is no such file.
+pub fn file_read<R: Files + Env + Loads + AllocGlobal, I: Read + Drop>(
+    inputs: &mut Inputs<'_, R, I>,
+    reading: &Reading<'_>,
+    read: &Located,
+) -> Result<Option<File>, Trouble> {
+    let follows = read.follows(reading.includes);
+    if let Located::Effective = read {
+        return Ok(Some(effective(inputs.rt, inputs.outside, follows)?));
+    }
+    let Some(text) = inputs.text_of(read.path())? else {
+        return Ok(None);
+    };
+    let (rt, outside) = (inputs.rt, inputs.outside);
+    if follows {
+        Ok(Some(included(rt, read, text, outside)?))
+    } else {
+        Ok(Some(entries_or_refused(rt.alloc(), read.name(), &text, outside)?))
     }
 }

@@ -7,6 +7,7 @@ mod beginnings;
 mod beside_git;
 mod calls;
 mod checks;
+mod coloring;
 mod differing;
 mod edits;
 mod effective;

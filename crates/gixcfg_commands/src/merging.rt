@@ -5,8 +5,10 @@ ghost use Rattle.gitconf_merge.specs.Texts.{IsMergeOfTexts};
 ghost use Rattle.gixcfg_core.specs.Troubles.{IsStatus};
 ghost use Rattle.gixcfg_commands.specs.Merging.{favor_asked};
 
-use crate::differing::{bytes_of, tell_front};
+use crate::checks::tell_all;
+use crate::differing::{bytes_of, front_message, has_front};
 use crate::named::{entries_or_refused, text_at};
+use bstr::BStr;
 use gix_config::NoMemory;
 use gix_config::merge::{Conflict, Error, Favor, Merged, Texts};
 use gixcfg_core::names::add_names;
@@ -16,10 +18,9 @@ use gixcfg_core::trouble::{Trouble, report};
 use gixcfg_files::{EditFiles, Fault, Place, Replaced, Replacement, System};
 use gixcfg_words::command::{self, Merge};
 use gixcfg_words::shown::Shown;
-use std::alloc::{AllocGlobal, Global};
+use std::alloc::{AllocError, AllocGlobal, Global};
 use std::io::{Read, Write};
 use std::rt::Files;
-use std::str;
 
 /// The status where a conflict stays.
 const CONFLICTS: u8 = 1;
@@ -37,9 +38,9 @@ pub fn merge<R: EditFiles + AllocGlobal, I: Read + Drop, W: Write, E: Write>(
 {
     match call.output {
         Some(path) => merge_to_file(inputs, call, path, err),
-        None => match merged(inputs, call, err) {
-            Ok(made) => match put(text_of(&made), out) {
-                Ok(()) => status_of(&made),
+        None => match joined(inputs, call, err) {
+            Ok(joined) => match put(text_of(&joined.made), out) {
+                Ok(()) => joined.tell(err),
                 Err(trouble) => report(&trouble, "", inputs.rules, err),
             },
             Err(status) => status,
@@ -61,20 +62,39 @@ fn merge_to_file<R: EditFiles + AllocGlobal, I: Read + Drop, E: Write>(
         Ok(place) => place,
         Err(fault) => return report(&Trouble::from(fault), path, inputs.rules, err),
     };
-    let made = match merged(inputs, call, err) {
-        Ok(made) => made,
+    let joined = match joined(inputs, call, err) {
+        Ok(joined) => joined,
         Err(status) => return status,
     };
     let new = Replacement {
-        text: text_of(&made),
+        text: text_of(&joined.made),
         is_synced: true,
     };
     let trouble = match place.replace(&new, err) {
-        Ok((_, Replaced::Done)) => return status_of(&made),
+        Ok((_, Replaced::Done)) => return joined.tell(err),
         Ok(_) => Trouble::File(Fault::Changing),
         Err(fault) => Trouble::from(fault),
     };
     report(&trouble, path, inputs.rules, err)
+}
+
+/// A merge, and what is told of it where its text went out. So of a merge that isn't done only that is told.
+#[derive(Drop)]
+struct Joined {
+    made: Merged,
+    messages: Vec<String>,
+}
+
+impl Joined {
+    ghost use Rattle.gixcfg_core.specs.Troubles.{IsStatus};
+
+    /// Prints the messages, and returns the exit status.
+    fn tell<E: Write>(&self, err: &mut E) -> u8
+        ensures { IsStatus result }
+    {
+        tell_all(&self.messages, err);
+        status_of(&self.made)
+    }
 }
 
 /// What is printed of a merge: the text with its conflicts marked, or the text if none stays.
@@ -95,71 +115,93 @@ fn status_of(made: &Merged) -> u8
     }
 }
 
-/// The merge that a call asks for, with its conflicts told; or the exit status, when it was reported why there is none.
-fn merged<R: Files + AllocGlobal, I: Read + Drop, E: Write>(
+/// The text of one of the three files.
+#[derive(Drop)]
+struct Given<'a> {
+    /// The word that names the file.
+    word: &'a str,
+    text: Vec<u8>,
+    /// Whether it has entries before its first section, which aren't merged.
+    has_front: bool,
+}
+
+/// The merge that a call asks for; or the exit status, when it was reported why there is none.
+fn joined<R: Files + AllocGlobal, I: Read + Drop, E: Write>(
     inputs: &mut Inputs<'_, R, I>,
     call: &Merge<'_>,
     err: &mut E,
-) -> Result<Merged, u8>
+) -> Result<Joined, u8>
     ensures { IfErr result IsStatus }
 {
-    let base = text_or_status(inputs, call.base, err)?;
-    let ours = text_or_status(inputs, call.ours, err)?;
-    let theirs = text_or_status(inputs, call.theirs, err)?;
-    let texts = Texts {
-        base: &base,
-        ours: &ours,
-        theirs: &theirs,
-    };
-    let alloc = inputs.rt.alloc();
-    match merge_of(alloc, &texts, call, err) {
-        Ok(made) => Ok(made),
+    let base = given_or_status(inputs, call.base, err)?;
+    let ours = given_or_status(inputs, call.ours, err)?;
+    let theirs = given_or_status(inputs, call.theirs, err)?;
+    match joined_of(inputs.rt.alloc(), &base, &ours, &theirs, call) {
+        Ok(joined) => Ok(joined),
         Err(trouble) => Err(report(&trouble, call.ours, inputs.rules, err)),
     }
 }
 
 /// The text of the file that a word names, if it is one of git's configuration; or the exit status, when it was reported why it is none.
-fn text_or_status<R: Files + AllocGlobal, I: Read + Drop, E: Write>(
+fn given_or_status<'a, R: Files + AllocGlobal, I: Read + Drop, E: Write>(
     inputs: &mut Inputs<'_, R, I>,
-    word: &str,
+    word: &'a str,
     err: &mut E,
-) -> Result<Vec<u8>, u8>
+) -> Result<Given<'a>, u8>
     ensures { IfErr result IsStatus }
 {
-    match text_checked(inputs, word, err) {
-        Ok(text) => Ok(text),
+    match given(inputs, word) {
+        Ok(given) => Ok(given),
         Err(trouble) => Err(report(&trouble, word, inputs.rules, err)),
     }
 }
 
-/// The text of the file that a word names. It is told if it has entries before its first section.
-fn text_checked<R: Files + AllocGlobal, I: Read + Drop, E: Write>(
+/// The text of the file that a word names.
+fn given<'a, R: Files + AllocGlobal, I: Read + Drop>(
     inputs: &mut Inputs<'_, R, I>,
-    word: &str,
-    err: &mut E,
-) -> Result<Vec<u8>, Trouble> {
+    word: &'a str,
+) -> Result<Given<'a>, Trouble> {
     let text = text_at(inputs, word)?;
     let file = entries_or_refused(inputs.rt.alloc(), word, &text, inputs.outside)?;
-    tell_front(&file, word, "merged", err);
-    Ok(text)
+    let has_front = has_front(&file);
+    Ok(Given {
+        word,
+        text,
+        has_front,
+    })
 }
 
-/// The merge of three texts that were read before, with its conflicts told, unless nothing is to be told.
-fn merge_of<E: Write>(
+/// The merge of three texts that were read before, and what is told of it: of each that it has entries before its first section, and, unless
+/// nothing is to be told of them, each conflict that stays.
+fn joined_of(
     alloc: Global,
-    texts: &Texts<'_>,
+    base: &Given<'_>,
+    ours: &Given<'_>,
+    theirs: &Given<'_>,
     call: &Merge<'_>,
-    err: &mut E,
-) -> Result<Merged, Trouble> {
-    let made = joined(alloc, texts, favor_of(call.favor))?;
-    if !call.is_quiet && made.marked.is_some() {
-        tell_conflicts(alloc, &made.conflicts, call, err)?;
+) -> Result<Joined, Trouble> {
+    let texts = Texts {
+        base: &base.text,
+        ours: &ours.text,
+        theirs: &theirs.text,
+    };
+    let made = merged(alloc, &texts, favor_of(call.favor))?;
+    let mut messages = Vec::new(alloc);
+    for given in [base, ours, theirs] {
+        if given.has_front {
+            messages.push(front_message(alloc, given.word, "merged")?)?;
+        }
     }
-    Ok(made)
+    if !call.is_quiet && made.marked.is_some() {
+        for conflict in &made.conflicts {
+            messages.push(message_of(alloc, conflict, call)?)?;
+        }
+    }
+    Ok(Joined { made, messages })
 }
 
 /// The merge of three texts.
-fn joined(alloc: Global, texts: &Texts<'_>, favor: Favor) -> Result<Merged, Trouble>
+fn merged(alloc: Global, texts: &Texts<'_>, favor: Favor) -> Result<Merged, Trouble>
     ensures { IfOk result (λ merged. IsMergeOfTexts favor texts.now.base.now texts.now.ours.now texts.now.theirs.now
         merged.text.items (map key_of merged.conflicts.items)) }
 {
@@ -184,40 +226,22 @@ fn favor_of(favor: command::Favor) -> Favor
     }
 }
 
-/// Tells each conflict, a line each. A failed write changes no status.
-fn tell_conflicts<E: Write>(
-    alloc: Global,
-    conflicts: &[Conflict],
-    call: &Merge<'_>,
-    err: &mut E,
-) -> Result<(), NoMemory> {
-    for conflict in conflicts {
-        let key = key_text(alloc, conflict)?;
-        tell_place(call.ours, conflict.lines.ours, "gixcfg: ", err);
-        tell_place(call.theirs, conflict.lines.theirs, ", ", err);
-        tell_key(&key, err);
-    }
-    Ok(())
+/// What is told of a conflict: where each side has it, and its key.
+fn message_of(alloc: Global, conflict: &Conflict, call: &Merge<'_>) -> Result<String, NoMemory> {
+    let names = key_text(alloc, conflict)?;
+    let ours = place_text(alloc, call.ours, conflict.lines.ours)?;
+    let theirs = place_text(alloc, call.theirs, conflict.lines.theirs)?;
+    let key = Shown(BStr::new(&names));
+    Ok(format!(in alloc; "gixcfg: {ours}, {theirs}: conflict: {key}\n")?)
 }
 
-/// Tells where a side has an entry.
-fn tell_place<E: Write>(name: &str, line: Option<usize>, front: &str, err: &mut E) {
+/// Where a side has an entry.
+fn place_text(alloc: Global, name: &str, line: Option<usize>) -> Result<String, AllocError> {
     let name = Shown(name);
-    let _ = match line {
-        Some(line) => write!(err, "{front}{name}:{line}"),
-        None => write!(err, "{front}not in {name}"),
-    };
-}
-
-/// Tells the key of a conflict, and ends the line.
-fn tell_key<E: Write>(key: &[u8], err: &mut E) {
-    let _ = match str::from_utf8(key) {
-        Ok(text) => {
-            let text = Shown(text);
-            writeln!(err, ": conflict: {text}")
-        }
-        Err(_) => err.write_all(b": conflict\n"),
-    };
+    match line {
+        Some(line) => format!(in alloc; "{name}:{line}"),
+        None => format!(in alloc; "not in {name}"),
+    }
 }
 
 /// The key of a conflict, as it is printed.

@@ -8,12 +8,11 @@ ghost use Rattle.gixcfg_core.specs.Entries.{plain_found};
 ghost use Rattle.gixcfg_commands.specs.Getting.{AreFound, AreMeantLines, IsSought};
 
 use crate::at_once::{key_alone, last_line};
-use crate::effective::effective;
+use crate::coloring::{color, colorbool};
 use crate::entries::{all_entries, entries_like, entries_meant, entries_of, put_all_lines};
-use crate::including::included;
+use crate::including::file_read;
 use crate::library;
 use crate::loads::Loads;
-use crate::named::entries_or_refused;
 use crate::tracing::{Traceable, trace};
 use gix_config::{File, KeyRef};
 use gixcfg_core::entries::Found;
@@ -24,7 +23,7 @@ use gixcfg_core::showing::put_made;
 use gixcfg_core::streams::{put, read_all};
 use gixcfg_core::telling::{lines_of_all, lines_of_found};
 use gixcfg_core::trouble::Trouble;
-use gixcfg_words::command::{Form, Get, List, Reading, Source, Target, Wanted};
+use gixcfg_words::command::{Color, Colorbool, Form, Get, List, Reading, Source, Target, Wanted};
 use gixcfg_words::rules::Rules;
 use std::alloc::{AllocGlobal, Global};
 use std::io::{Read, Write};
@@ -37,6 +36,10 @@ pub enum Asked<'a> {
     Get(&'a Get<'a>),
     /// All entries.
     List(&'a List<'a>),
+    /// A color.
+    Color(&'a Color<'a>),
+    /// Whether output is to be colored.
+    Colorbool(&'a Colorbool<'a>),
     /// Standard input.
     Input,
 }
@@ -51,6 +54,8 @@ impl<'a> Asked<'a> {
         match self {
             Asked::Get(get) => get.reading.source,
             Asked::List(list) => list.reading.source,
+            Asked::Color(color) => color.reading.source,
+            Asked::Colorbool(colorbool) => colorbool.reading.source,
             Asked::Input => Source::Target(Target::Input),
         }
     }
@@ -73,6 +78,8 @@ pub fn put_answer<R: Files + Env + Loads + AllocGlobal + Copy, I: Read + Drop, W
     match asked {
         Asked::Get(call) => put_made(get(inputs, call, read), out),
         Asked::List(call) => put_list(inputs, call, read, out),
+        Asked::Color(call) => put_made(color(inputs, call, read), out),
+        Asked::Colorbool(call) => put_made(colorbool(inputs, call, read), out),
         Asked::Input => put_made(printed(inputs), out),
     }
 }
@@ -134,7 +141,7 @@ fn get_as_git<R: Files + Env + Loads + AllocGlobal + Copy, I: Read + Drop>(
         return lines_of_meant(alloc, found, get, home);
     }
     let sought = sought_by(alloc, get.wanted)?;
-    let found = match file_at(inputs, &get.reading, read)? {
+    let found = match file_read(inputs, &get.reading, read)? {
         Some(file) => found_in(alloc, &file, &sought, &get.form, read)?,
         None => Vec::new(alloc),
     };
@@ -270,33 +277,12 @@ fn put_list_as_git<R: Files + Env + Loads + AllocGlobal, I: Read + Drop, W: Writ
         let found = placed_entries(inputs, None, &list.reading, &list.form, read)?;
         return put(&lines_of_all(alloc, &found, &list.form, home)?, out);
     }
-    match (file_at(inputs, &list.reading, read)?, list.form.kind) {
+    match (file_read(inputs, &list.reading, read)?, list.form.kind) {
         (Some(file), None) => put_all_lines(alloc, &file, &list.form, read, out),
         (Some(file), Some(_)) => {
             let found = all_entries(alloc, &file, &list.form, read)?;
             put(&lines_of_all(alloc, &found, &list.form, home)?, out)
         }
         (None, _) => Err(Trouble::NoFile),
-    }
-}
-
-/// What a call reads; none if there is no such file.
-fn file_at<R: Files + Env + Loads + AllocGlobal, I: Read + Drop>(
-    inputs: &mut Inputs<'_, R, I>,
-    reading: &Reading<'_>,
-    read: &Located,
-) -> Result<Option<File>, Trouble> {
-    let follows = read.follows(reading.includes);
-    if let Located::Effective = read {
-        return Ok(Some(effective(inputs.rt, inputs.outside, follows)?));
-    }
-    let Some(text) = inputs.text_of(read.path())? else {
-        return Ok(None);
-    };
-    let (rt, outside) = (inputs.rt, inputs.outside);
-    if follows {
-        Ok(Some(included(rt, read, text, outside)?))
-    } else {
-        Ok(Some(entries_or_refused(rt.alloc(), read.name(), &text, outside)?))
     }
 }

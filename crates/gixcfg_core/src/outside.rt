@@ -18,6 +18,8 @@ use std::rt::Files;
 pub struct Outside<'a> {
     /// Whether standard error shows colors.
     pub is_colored: bool,
+    /// Whether standard output is a terminal.
+    pub is_seen: bool,
     /// The home folder.
     pub home: Option<&'a str>,
 }

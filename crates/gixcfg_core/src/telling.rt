@@ -7,6 +7,7 @@ ghost use Rattle.gixcfg_core.specs.Telling.{default_line as default_line_lem, fo
 use crate::c_strings::c_string;
 use crate::entries::Found;
 use crate::lines::{Line, add_entry};
+use crate::numbers::boolean;
 use crate::origins::before_given;
 use crate::trouble::Trouble;
 use crate::typed::{Fault, Refusal, typed};
@@ -93,7 +94,11 @@ fn default_line(
 }
 
 /// The value of what is given for an entry that is missing, in a type.
-fn typed_default(
+///
+/// # Errors
+///
+/// It isn't of the type; out of memory.
+pub fn typed_default(
     alloc: Global,
     default: Fallback<'_>,
     kind: Kind,
@@ -111,8 +116,30 @@ fn typed_default(
     }
 }
 
+/// Whether a value says yes, of a key of these names. A missing value, as in an entry without `=`, does.
+///
+/// # Errors
+///
+/// It is no boolean, which is told in git's words; out of memory.
+pub fn truth_of(alloc: Global, names: &[u8], value: Option<&[u8]>) -> Result<bool, Trouble> {
+    let Some(value) = value else {
+        return Ok(true);
+    };
+    match boolean(value) {
+        Some(is_true) => Ok(is_true),
+        None => {
+            let (names, value) = (BStr::new(names), BStr::new(value));
+            Err(refused(alloc, Shown(names), Shown(value), Refusal::Boolean))
+        }
+    }
+}
+
 /// The value of a key in a type. What is no boolean or no number is told in git's words, with the key.
-fn typed_of(
+///
+/// # Errors
+///
+/// It isn't of the type; out of memory.
+pub fn typed_of(
     alloc: Global,
     names: &[u8],
     value: Option<&[u8]>,

@@ -4,10 +4,10 @@ use Rattle.std.specs.Prelude.{◌==◌, ◌&&◌, ◌||◌, ℕ, Bool as Truth, 
 use Rattle.std.specs.List.{after_first, before_first, list_any, position_or_len}
 use Rattle.std.specs.Str.{bytes_eq}
 use Rattle.gixcfg_words.specs.Given.{Given, Path, OfGit, Effective, given_by, has, option_in, state_of, word_of}
-use Rattle.gixcfg_words.specs.Keys.{is_nameless, key_meant}
+use Rattle.gixcfg_words.specs.Keys.{is_nameless, key_if, key_meant}
 use Rattle.gixcfg_words.specs.Options.{goes_with}
 use Rattle.gixcfg_words.specs.Spelling.{Said, indent_named, is_option, newline_named}
-use Rattle.gixcfg_words.specs.Tasks.{Any, At, Check, Chosen, Default, Diff, Equal, Everything, Explain, Fmt, ForUrl, Get, GitsFile, Help, InPlaceOf, Input, Laid, Last, Entries, Matching, Merge, New, OfKey, OfKeys, One, Only, Paths, Placed, RemoveSection, RenameSection, SectionNames, Set, Sought, Task, Unset, Version, Where, Which}
+use Rattle.gixcfg_words.specs.Tasks.{Any, At, Check, Chosen, Color, Colorbool, Default, Diff, Equal, Everything, Explain, Fmt, ForUrl, Get, GitsFile, Help, InPlaceOf, Input, Laid, Last, Entries, Matching, Merge, New, OfKey, OfKeys, One, Only, Paths, Placed, RemoveSection, RenameSection, SectionNames, Set, Sought, Task, Unset, Version, Where, Which}
 use Rattle.gixcfg_words.specs.Tasks as tasks
 use Rattle.gixcfg_words.specs.Verbs.{topic_named, verb_named}
 use Rattle.gixcfg_words.specs.declared.command.Favor.{Favor}
@@ -365,6 +365,19 @@ form_get_regexp g = elim (word_and_more g.words) [
 abbrev pub form_get_urlmatch : Given → Option Task
 form_get_urlmatch g = option_map (λ words. for_url g words.0 words.1) (two_words g.words)
 
+-- the color of a key, or what is given if it has none; whether output is colored
+abbrev pub form_get_color : Given → Option Task
+form_get_color g = elim (word_and_more g.words) [
+  | None ↦ None
+  | Some words ↦ option_map (λ k. Color (where_given g) (includes_given g) k (option_map (λ default. (words.0, default)) words.1)) (key_if words.0)
+]
+
+abbrev pub form_get_colorbool : Given → Option Task
+form_get_colorbool g = elim (word_and_more g.words) [
+  | None ↦ None
+  | Some words ↦ option_map (λ k. Colorbool (where_given g) (includes_given g) k words.1) (key_meant words.0)
+]
+
 -- a new entry; a value in place of one, or of all; a key without one of its entries, or all
 abbrev pub form_add : Given → Option Task
 form_add g = elim (two_words g.words) [ None ↦ None | Some words ↦ setting g words.0 words.1 New ]
@@ -387,6 +400,8 @@ form_task actions.Get g = form_get g false
 form_task actions.GetAll g = form_get g true
 form_task actions.GetRegexp g = form_get_regexp g
 form_task actions.GetUrlmatch g = form_get_urlmatch g
+form_task actions.GetColor g = form_get_color g
+form_task actions.GetColorbool g = form_get_colorbool g
 form_task actions.Add g = form_add g
 form_task actions.Set g = form_replace g false
 form_task actions.ReplaceAll g = form_replace g true

@@ -38,3 +38,8 @@ key_asked word = elim (parsed_key word) [
 -- the key that a word of a call with options is
 abbrev pub key_meant : (word : List ℕ) → Option Key
 key_meant word = elim (parsed_key word) [ None ↦ None | Some key ↦ if has_section key then Some key else None ]
+
+-- the key that a word is, or none if it is empty
+abbrev pub key_if : (word : List ℕ) → Option (Option Key)
+key_if [] = Some None
+key_if (b ∷ word) = option_map Some (key_meant (b ∷ word))

@@ -261,6 +261,8 @@ action_number actions.UnsetAll = 8
 action_number actions.RenameSection = 9
 action_number actions.RemoveSection = 10
 action_number actions.List = 11
+action_number actions.GetColor = 12
+action_number actions.GetColorbool = 13
 
 abbrev pub is_same_action : Action → Action → Truth
 is_same_action one other = action_number one == action_number other
@@ -271,6 +273,8 @@ edits actions.Get = false
 edits actions.GetAll = false
 edits actions.GetRegexp = false
 edits actions.GetUrlmatch = false
+edits actions.GetColor = false
+edits actions.GetColorbool = false
 edits actions.List = false
 edits action = true
 
@@ -294,17 +298,26 @@ prints_origins action = false
 
 abbrev pub means_values : Action → Truth
 means_values actions.GetUrlmatch = false
+means_values actions.GetColor = false
+means_values actions.GetColorbool = false
 means_values actions.Add = false
 means_values actions.RenameSection = false
 means_values actions.RemoveSection = false
 means_values actions.List = false
 means_values action = true
 
+abbrev pub has_type : Action → Truth
+has_type actions.GetColor = false
+has_type actions.GetColorbool = false
+has_type action = true
+
 -- an option goes with what is done
 abbrev pub goes_with : Action → Opt → Truth
 goes_with action options.Default = is_same_action action actions.Get
 goes_with action options.Comment = gives_value action
 goes_with action options.Sync = edits action
+goes_with action options.Type = has_type action
+goes_with action (options.Kind kind) = has_type action
 goes_with action options.NameOnly = prints_names action
 goes_with action options.ShowOrigin = prints_origins action
 goes_with action options.FixedValue = means_values action

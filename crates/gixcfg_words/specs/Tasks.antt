@@ -72,6 +72,8 @@ pub data Laid : Type 0 where
 pub data Task : Type 0 where
   Get : Where → (includes : Option Truth) → Sought → Which → Chosen → Form → Task
   Entries : Where → (includes : Option Truth) → Form → Task
+  Color : Where → (includes : Option Truth) → Option Key → (default : Option ((_ : List ℕ) × List ℕ)) → Task
+  Colorbool : Where → (includes : Option Truth) → Key → (is_terminal : Option (List ℕ)) → Task
   Print : Task
   Set : Where → Key → (value : List ℕ) → Option Kind → Placed → (comment : Option (List ℕ)) → (is_synced : Truth) → Task
   Unset : Where → Key → Which → (is_all is_synced : Truth) → Task
@@ -128,6 +130,8 @@ laid_of (files.Paths paths) = Paths (map (λ p. p.now) paths.items)
 abbrev pub task_of : Command → Task
 task_of (commands.Get g) = Get (where_read g.reading.source) g.reading.includes (sought_of g.wanted) (which_of g.values) (chosen_of g.choice) g.form
 task_of (commands.List l) = Entries (where_read l.reading.source) l.reading.includes l.form
+task_of (commands.Color c) = Color (where_read c.reading.source) c.reading.includes (option_map key_of c.key) (option_map fallback_of c.default)
+task_of (commands.Colorbool c) = Colorbool (where_read c.reading.source) c.reading.includes (key_of c.key) (option_map (λ w. w.now) c.is_terminal)
 task_of commands.Print = Print
 task_of (commands.Set s) = Set (where_of s.target) (key_of s.key) s.value.now s.kind (placed_of s.placing) (option_map (λ c. c.now) s.comment) s.is_synced
 task_of (commands.Unset u) = Unset (where_of u.target) (key_of u.key) (which_of u.values) u.is_all u.is_synced

@@ -22,6 +22,10 @@ pub enum Command<'a> {
     Get(Get<'a>),
     /// Prints all entries.
     List(List<'a>),
+    /// Prints a color.
+    Color(Color<'a>),
+    /// Tells whether output is to be colored.
+    Colorbool(Colorbool<'a>),
     /// Prints standard input as it is read.
     Print,
     /// Gives a key a value.
@@ -179,6 +183,28 @@ pub struct Get<'a> {
     pub choice: Choice<'a>,
     /// How they are printed.
     pub form: Form,
+}
+
+/// What `--get-color` prints, as a terminal is told it.
+#[derive(Clone, Copy)]
+pub struct Color<'a> {
+    /// What is read.
+    pub reading: Reading<'a>,
+    /// The key that has the color; without one the color is the default.
+    pub key: Option<KeyRef<'a>>,
+    /// The color if it has none.
+    pub default: Option<Fallback<'a>>,
+}
+
+/// What `--get-colorbool` tells: whether output is to be colored.
+#[derive(Clone, Copy)]
+pub struct Colorbool<'a> {
+    /// What is read.
+    pub reading: Reading<'a>,
+    /// The key that says so.
+    pub key: KeyRef<'a>,
+    /// A boolean: whether the output is a terminal. It is printed then whether output is to be colored.
+    pub is_terminal: Option<&'a str>,
 }
 
 /// What `list` prints.
@@ -389,6 +415,8 @@ impl Command<'_> {
             Command::Print => true,
             Command::Get(get) => get.reading.is_of_input(),
             Command::List(list) => list.reading.is_of_input(),
+            Command::Color(color) => color.reading.is_of_input(),
+            Command::Colorbool(colorbool) => colorbool.reading.is_of_input(),
             Command::Set(set) => set.target.is_input(),
             Command::Unset(unset) => unset.target.is_input(),
             Command::RenameSection(renaming) => renaming.target.is_input(),

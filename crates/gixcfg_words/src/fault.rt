@@ -166,7 +166,6 @@ fn tell_alone<W: Write>(alone: Alone, word: &str, err: &mut W) -> io::Result<()>
     let why = match alone {
         Alone::Edit => "no editor is started here",
         Alone::Blob => "no blob of a repository is read here",
-        Alone::Color => "see get --type=color",
     };
     let word = Shown(word);
     writeln!(err, "gixcfg: {word} is git's alone: {why}")

@@ -284,6 +284,8 @@ Calls as those of git config before 2.46, where an option says what is done, or 
     --get-all KEY [PATTERN]           prints all values
     --get-regexp PATTERN [PATTERN]    prints keys and values of the keys in which a pattern is found
     --get-urlmatch NAME URL           prints what is for a URL, as get --url
+    --get-color KEY [DEFAULT]         prints a color as a terminal is told it, without a line ending
+    --get-colorbool KEY [IS-TERMINAL] ends with 0 if output is to be colored, else with 1; prints true or false with IS-TERMINAL
     KEY VALUE [PATTERN]               gives a key a value
     --add KEY VALUE                   adds an entry
     --replace-all KEY VALUE [PATTERN] gives a key a value in place of all

@@ -1,8 +1,8 @@
 //! Keys and the names of sections, as words have them.
-ghost use Rattle.std.specs.Prelude.{◌≡◌};
+ghost use Rattle.std.specs.Prelude.{◌≡◌, option_map};
 ghost use Rattle.gitconf_sources.specs.Key as keys;
 ghost use Rattle.gixcfg_words.specs.Asking as asking;
-ghost use Rattle.gixcfg_words.specs.Keys.{IsKey, key_meant};
+ghost use Rattle.gixcfg_words.specs.Keys.{IsKey, key_if, key_meant};
 ghost use Rattle.gixcfg_words.specs.Spelling.{Gives};
 ghost use Rattle.gixcfg_words.specs.Tasks as tasks;
 
@@ -32,6 +32,23 @@ pub fn key_of<'a>(word: &'a str) -> Result<KeyRef<'a>, Fault<'a>>
         Some(key) if is_nameless(key.section_name, key.subsection_name) => Err(Fault::Nameless),
         Some(key) => Ok(key),
         None => Err(Fault::NoKey(word)),
+    }
+}
+
+/// The key that a word is, or none if it is empty.
+///
+/// # Errors
+///
+/// As those of [`key_of`].
+pub(crate) fn key_if<'a>(word: &'a str) -> Result<Option<KeyRef<'a>>, Fault<'a>>
+    ensures { Gives (option_map keys.key_of) (key_if word.now) result }
+{
+    if word.is_empty() {
+        return Ok(None);
+    }
+    match key_of(word) {
+        Ok(key) => Ok(Some(key)),
+        Err(fault) => Err(fault),
     }
 }
 

@@ -7,10 +7,10 @@ ghost use Rattle.gixcfg_words.specs.Spelling.{Gives};
 ghost use Rattle.gixcfg_words.specs.Tasks as tasks;
 ghost use Rattle.gixcfg_words.specs.Tasks.{task_of};
 
-use crate::command::{Choice, Command, Get, Placing, Wanted};
+use crate::command::{Choice, Color, Colorbool, Command, Fallback, Get, Placing, Wanted};
 use crate::fault::Fault;
 use crate::given::{Given, given_by};
-use crate::keys::key_of;
+use crate::keys::{key_if, key_of};
 use crate::options::{Action, Opt, goes_with};
 use crate::spelled::Mention;
 use crate::verbs::Verb;
@@ -88,6 +88,8 @@ fn command_of<'a>(given: &Given<'a>, action: Action) -> Result<Command<'a>, Faul
         Action::GetAll => get(given, true),
         Action::GetRegexp => get_regexp(given),
         Action::GetUrlmatch => get_urlmatch(given),
+        Action::GetColor => get_color(given),
+        Action::GetColorbool => get_colorbool(given),
         Action::List => list(given),
         Action::RenameSection => renaming(given),
         Action::RemoveSection => removal(given),
@@ -192,4 +194,33 @@ fn get_urlmatch<'a>(given: &Given<'a>) -> Result<Command<'a>, Fault<'a>>
         Ok((word, url)) => Ok(for_url(given, word, url)),
         Err(fault) => Err(fault),
     }
+}
+
+/// The color of a key, or one that is given if it has none.
+fn get_color<'a>(given: &Given<'a>) -> Result<Command<'a>, Fault<'a>>
+    ensures { Gives task_of (asking.form_get_color (spec.seen given.now)) result }
+{
+    let (word, default) = given.word_and_more()?;
+    let key = key_if(word)?;
+    Ok(Command::Color(Color {
+        reading: given.reading(),
+        key,
+        default: match default {
+            Some(value) => Some(Fallback { word, value }),
+            None => None,
+        },
+    }))
+}
+
+/// Whether output is colored, by a key.
+fn get_colorbool<'a>(given: &Given<'a>) -> Result<Command<'a>, Fault<'a>>
+    ensures { Gives task_of (asking.form_get_colorbool (spec.seen given.now)) result }
+{
+    let (word, is_terminal) = given.word_and_more()?;
+    let key = key_of(word)?;
+    Ok(Command::Colorbool(Colorbool {
+        reading: given.reading(),
+        key,
+        is_terminal,
+    }))
 }

@@ -33,6 +33,10 @@ pub enum Action {
     RemoveSection,
     /// `--list`
     List,
+    /// `--get-color KEY [DEFAULT]`
+    GetColor,
+    /// `--get-colorbool KEY [IS-TERMINAL]`
+    GetColorbool,
 }
 
 /// What only git does.
@@ -42,8 +46,6 @@ pub enum Alone {
     Edit,
     /// It reads a blob of the repository.
     Blob,
-    /// It knows whether its output is colored.
-    Color,
 }
 
 /// An option.
@@ -168,6 +170,8 @@ static OPTIONS: [Spelling; 55] = [
     ("get-all", None, Opt::Do(Action::GetAll)),
     ("get-regexp", None, Opt::Do(Action::GetRegexp)),
     ("get-urlmatch", None, Opt::Do(Action::GetUrlmatch)),
+    ("get-color", None, Opt::Do(Action::GetColor)),
+    ("get-colorbool", None, Opt::Do(Action::GetColorbool)),
     ("add", None, Opt::Do(Action::Add)),
     ("replace-all", None, Opt::Do(Action::ReplaceAll)),
     ("unset", None, Opt::Do(Action::Unset)),
@@ -177,8 +181,6 @@ static OPTIONS: [Spelling; 55] = [
     ("list", Some('l'), Opt::Do(Action::List)),
     ("edit", Some('e'), Opt::Alone(Alone::Edit)),
     ("blob", None, Opt::Alone(Alone::Blob)),
-    ("get-color", None, Opt::Alone(Alone::Color)),
-    ("get-colorbool", None, Opt::Alone(Alone::Color)),
 ];
 
 /// Whether an option names the file that is worked on.
@@ -320,8 +322,15 @@ pub(crate) fn goes_with(action: Action, option: Opt) -> bool
         Opt::Comment => matches!(action, Action::Add | Action::Set | Action::ReplaceAll),
         Opt::Sync => !matches!(
             action,
-            Action::Get | Action::GetAll | Action::GetRegexp | Action::GetUrlmatch | Action::List
+            Action::Get
+                | Action::GetAll
+                | Action::GetRegexp
+                | Action::GetUrlmatch
+                | Action::GetColor
+                | Action::GetColorbool
+                | Action::List
         ),
+        Opt::Type | Opt::Kind(_) => !matches!(action, Action::GetColor | Action::GetColorbool),
         Opt::NameOnly => matches!(action, Action::List | Action::GetRegexp),
         Opt::ShowOrigin => matches!(
             action,
@@ -330,6 +339,8 @@ pub(crate) fn goes_with(action: Action, option: Opt) -> bool
         Opt::FixedValue => !matches!(
             action,
             Action::GetUrlmatch
+                | Action::GetColor
+                | Action::GetColorbool
                 | Action::Add
                 | Action::RenameSection
                 | Action::RemoveSection
