@@ -82,9 +82,13 @@ def left_by_gate(names):
     """The folder of the library of each of these crates, as `rt ci` left it in this clone in a gate that began, and passed, since a source was
     changed; else None. (The libraries may be older: what was kept has the time at which it was proved.)"""
     folders = {name: library(TOP, name) for name in names}
+    return folders if is_of_gate(names) and all(map(os.path.isdir, folders.values())) else None
+
+
+def is_of_gate(names):
+    """Whether a gate began in this clone, and its proofs passed, since a source of these crates was changed."""
     proved = os.path.join(TOP, "out", "proved")
-    is_proved = os.path.exists(proved) and os.path.getmtime(proved) > changed(names) and all(map(os.path.isdir, folders.values()))
-    return folders if is_proved else None
+    return os.path.exists(proved) and os.path.getmtime(proved) > changed(names)
 
 
 def take_from_gate(room, names):
