@@ -3,6 +3,7 @@ import textwrap
 from typing import List
 
 import rattle
+import roff
 from boundary import HANDLES, Boundary, Call, Constants, Kind, Struct, Value
 
 PREFIX = "gix_config_"
@@ -74,25 +75,24 @@ def header(it: Boundary) -> str:
     return "\n".join(parts)
 
 
-def escaped(line: str) -> str:
-    """A line as man reads it: backslashes, dashes and a dot or a quote at its front stand for themselves."""
-    line = line.replace("\\", "\\e").replace("-", "\\-")
-    return "\\&" + line if line[:1] in (".", "'") else line
+def told(line: str) -> str:
+    """A line as man reads it."""
+    return roff.at_front(roff.escaped(line))
 
 
 def manual(it: Boundary) -> str:
     """The manual page: each call with its line and what is said of it, and the numbers."""
     lines = [".\\\" Made by tools/c_header of crates/gix_config_c.", ".TH gix_config 3", ".SH NAME", "gix_config \\- git's configuration files, read and edited",
              ".SH SYNOPSIS", ".B #include <gix_config.h>", ".PP", "Link with", ".IR \\-lgix_config .", ".SH DESCRIPTION",
-             *[escaped(line) if line else ".PP" for line in it.about],
+             *[told(line) if line else ".PP" for line in it.about],
              ".PP", "Structs and what a program owes are in the header and in docs/c.md."]
     for call in it.calls:
-        lines += [f".SS {escaped(call.name)}", ".EX", *map(escaped, prototype(call).splitlines()), ".EE"]
+        lines += [f".SS {told(call.name)}", ".EX", *map(told, prototype(call).splitlines()), ".EE"]
         for paragraph in call.says:
-            lines += [".PP", *map(escaped, wrapped(paragraph))]
+            lines += [".PP", *map(told, wrapped(paragraph))]
     lines.append(".SH RETURN VALUE")
     for value in it.constants[0].named:
-        lines += [".TP", f".BR GIX_CONFIG_{value.name} \" ({it.constants[0].numbers[value.name]})\"", escaped(value.says)]
+        lines += [".TP", f".BR GIX_CONFIG_{value.name} \" ({it.constants[0].numbers[value.name]})\"", told(value.says)]
     lines += [".PP", "Those up to 27 are refusals of docs/refusals.md, which says more of each; gix_config_refusal_text has words for all.",
               ".SH SEE ALSO", ".BR gixcfg (1)"]
     return "\n".join(lines) + "\n"

@@ -1,8 +1,11 @@
-"""The reference for C: one page of the header's calls, in groups, with its structs and numbers."""
+"""The reference for C: one page of the header's calls, in groups, with its structs and numbers; and a manual page for each call."""
 import re
+import shutil
+import subprocess
 from html import escape
 
 from html_page import comment, page, place
+from roff import at_front, escaped
 
 CALL = re.compile(r"/\*(?P<about>(?:(?!\*/).)*)\*/\n(?P<call>[\w *]*?\b(?P<name>gix_config_\w+)\([^;{]*\));", re.DOTALL)
 DECLARED = re.compile(r"\b(gix_config_\w+)\([^;{]*\);")
@@ -30,9 +33,40 @@ def told(name, about, code):
     return [f'<h3 id="{place(name)}"><code>{name}</code></h3>', comment(words(about)), f"<pre>{escape(code)}</pre>"]
 
 
+def calls_of(text):
+    """The calls of the header, by their names."""
+    return {found["name"]: found for found in CALL.finditer(text)}
+
+
+def manual_pages(header, groups):
+    """The manual page of each call: its text by its path, below a folder that `man -M` takes."""
+    calls = calls_of(header.read_text(encoding="utf-8"))
+    return {f"man3/{name}.3": manual_page(calls[name], [it for it in names if it != name])
+            for names in groups_of(calls, groups).values() for name in names}
+
+
+def manual_page(call, others):
+    """The manual page of a call, which leads to the others of its group. Its first sentence sums it up."""
+    paragraphs = [" ".join(it.split()) for it in re.split(r"\n\s*\n", words(call["about"]))]
+    first = re.match(r".*?[.:](?= |$)", paragraphs[0])[0].rstrip(".:")
+    lines = [f'.TH {call["name"].upper()} 3 "" libgix_config', ".SH NAME", f"{escaped(call['name'])} \\- {escaped(first)}",
+             ".SH SYNOPSIS", ".EX", ".B #include <gix_config.h>", "", *(at_front(escaped(line)) for line in f"{call['call']};".splitlines()), ".EE",
+             ".SH DESCRIPTION", *"\n.PP\n".join(at_front(escaped(it)) for it in paragraphs).splitlines(),
+             ".SH SEE ALSO", *(f".BR {escaped(it)} (3)," for it in others), ".BR gix_config (3)"]
+    return "\n".join(lines) + "\n"
+
+
+def faults_of_manual(name, text):
+    """What groff says of a manual page, if it is installed."""
+    if shutil.which("groff") is None:
+        return ""
+    ran = subprocess.run(["groff", "-man", "-ww", "-z", "-Tutf8"], input=text, capture_output=True, text=True, check=False)
+    return ran.stderr.strip()
+
+
 def page_of(header, groups):
     text = header.read_text(encoding="utf-8")
-    calls = {found["name"]: found for found in CALL.finditer(text)}
+    calls = calls_of(text)
     lines = [comment(words(re.match(r"/\*(.*?)\*/", text, re.DOTALL)[1])), "<nav>"]
     grouped = groups_of(calls, groups)
     for title, names in grouped.items():
@@ -51,10 +85,20 @@ def page_of(header, groups):
     return page("libgix_config for C", "\n".join(lines), "../index.html")
 
 
-def results(header, made):
-    """Whether each call that the header declares is on the page, with a comment."""
+def results(header, made, manuals):
+    """Whether each call that the header declares is on the page, with a comment, and has a manual page that groff takes."""
     text = header.read_text(encoding="utf-8")
     has_comment = {found["name"] for found in CALL.finditer(text)}
     for name in sorted(set(DECLARED.findall(text))):
         yield f'id="{place(name)}"' in made, f"{name} isn't on the page for C"
         yield name in has_comment, f"{name} has no comment in the header"
+        manual = manuals.get(f"man3/{name}.3", "")
+        yield call_in(manual) == name, f"{name} has no manual page"
+        fault = faults_of_manual(name, manual)
+        yield not fault, f"the manual page of {name}: {fault}"
+
+
+def call_in(manual):
+    """The call whose manual page this is."""
+    found = re.search(r"^(\S+) \\- \S", manual, re.MULTILINE)
+    return found and found[1]
