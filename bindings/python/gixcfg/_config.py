@@ -44,6 +44,10 @@ class Config(MutableMapping[Key, str]):
     is `"remote.origin.url"` or `("remote", "origin", "url")`, and without a subsection `"core.editor"` or `("core", "editor")`.
 
     Bytes that are not UTF-8 are kept: in a `str` they are lone surrogates, as in the names of files (PEP 383).
+
+    >>> config = Config.parse("[remote \\"origin\\"] url = https://example.com/a.git")
+    >>> config["remote.origin.url"]
+    'https://example.com/a.git'
     """
 
     path: Optional[str]
@@ -78,7 +82,11 @@ class Config(MutableMapping[Key, str]):
 
     @classmethod
     def parse(cls, text: Union[str, bytes]) -> "Config":
-        """The file of a text. Raises ParseError, with line, column and reason, for one that can't be read on at some place."""
+        """The file of a text. Raises ParseError, with line, column and reason, for one that can't be read on at some place.
+
+        >>> Config.parse("[core] editor = vi")["core.editor"]
+        'vi'
+        """
         made = cls()
         made._read(encoded(text) if isinstance(text, str) else text)
         return made
@@ -86,7 +94,13 @@ class Config(MutableMapping[Key, str]):
     @classmethod
     def load(cls, path: PathName, *, source: Source = Source.API) -> "Config":
         """The file at a path, whose sections come from the source. No include is followed, until `resolve_includes` does. Raises OSError for
-        one that can't be read, and ParseError."""
+        one that can't be read, and ParseError.
+
+        >>> with Config.editing("loaded.gitconfig") as config:
+        ...     config["user.name"] = "Ada"
+        >>> Config.load("loaded.gitconfig")["user.name"]
+        'Ada'
+        """
         with open(path, "rb") as file:
             text = file.read()
         made = cls()
@@ -158,7 +172,13 @@ class Config(MutableMapping[Key, str]):
     @contextlib.contextmanager
     def editing(cls, path: PathName) -> Iterator["Config"]:
         """The file at a path, for a `with` statement at whose end it is saved: under FILE.lock from before it is read, so that nobody's edit
-        is lost. A file that isn't there yet is empty. An exception in the statement saves nothing."""
+        is lost. A file that isn't there yet is empty. An exception in the statement saves nothing.
+
+        >>> with Config.editing("edited.gitconfig") as config:
+        ...     config["user.name"] = "Ada"
+        >>> open("edited.gitconfig").read().split()
+        ['[user]', 'name', '=', 'Ada']
+        """
         with Lock(path) as lock:
             config = cls.load(lock.path) if os.path.exists(lock.path) else cls()
             yield config
@@ -168,6 +188,10 @@ class Config(MutableMapping[Key, str]):
         """Writes the file, as git does: the text goes into FILE.lock, made exclusively, then down to the disk, and is renamed to FILE, which
         keeps its rights. So a crash leaves the old file or the new one. Without a path FILE is the one that was loaded. Raises Locked if
         FILE.lock is there, and OSError; then FILE is as it was. What others wrote since the file was loaded is lost: `editing` keeps it.
+
+        >>> Config.parse("[a] k = 1").save("saved.gitconfig")
+        >>> Config.load("saved.gitconfig").get_int("a.k")
+        1
         """
         target = self.path if path is None else path
         if target is None:
@@ -187,7 +211,14 @@ class Config(MutableMapping[Key, str]):
         self.close()
 
     def copy(self) -> "Config":
-        """A copy: edits of the one don't show in the other."""
+        """A copy: edits of the one don't show in the other.
+
+        >>> config = Config.parse("[a] k = 1")
+        >>> other = config.copy()
+        >>> other["a.k"] = 2
+        >>> config["a.k"], other["a.k"]
+        ('1', '2')
+        """
         made = type(self)()
         done(LIBRARY.gix_config_file_clone(self._file, made._file))
         made.path = self.path
@@ -224,7 +255,14 @@ class Config(MutableMapping[Key, str]):
 
     @property
     def text(self) -> str:
-        """The text of the file."""
+        """The text of the file.
+
+        >>> config = Config.parse("[a]\\n  k = 1\\n")
+        >>> config["a.k"] = 2
+        >>> print(config.text, end="")
+        [a]
+          k = 2
+        """
         return decoded(bytes(self))
 
     @property
@@ -238,14 +276,22 @@ class Config(MutableMapping[Key, str]):
 
     def __getitem__(self, key: Key) -> str:
         """What the last value of a key means: quotes and escapes are undone; an entry without `=` is empty, as git prints it. Raises
-        KeyNotFound, which is a KeyError."""
+        KeyNotFound, which is a KeyError.
+
+        >>> Config.parse("[a] k = 1\\n[a] k = \\"2\\"")["a.k"]
+        '2'
+        """
         number, found = self._value(key, None, False)
         if found is None:
             done_of(number, key)
         return found or ""
 
     def __contains__(self, key: object) -> bool:
-        """Whether a key has an entry, with or without `=`."""
+        """Whether a key has an entry, with or without `=`.
+
+        >>> "a.k" in Config.parse("[a] k"), "a.j" in Config.parse("[a] k")
+        (True, False)
+        """
         if not is_key(key):
             return False
         values = c.List()
@@ -296,7 +342,11 @@ class Config(MutableMapping[Key, str]):
 
     def get(self, key: Key, default: Any = None, *, sources: Optional[Iterable[Source]] = None, trusted_only: bool = False) -> Any:
         """What the last value of a key means, or the default if there is none; an entry without `=` is empty. With `sources` only sections that
-        come from these places count, with `trusted_only` only those that are fully trusted."""
+        come from these places count, with `trusted_only` only those that are fully trusted.
+
+        >>> Config.parse("[a] k = 1").get("a.j", "none")
+        'none'
+        """
         number, found = self._value(key, sources, trusted_only)
         if found is None and not is_missing(number):
             done_of(number, key)
@@ -304,7 +354,11 @@ class Config(MutableMapping[Key, str]):
 
     def get_all(self, key: Key, *, sources: Optional[Iterable[Source]] = None, trusted_only: bool = False) -> List[str]:
         """What all values of a key mean, in the file's order; an entry without `=` counts as empty. `sources` and `trusted_only` are as for
-        `get`."""
+        `get`.
+
+        >>> Config.parse("[a] k = 1\\n[a] k = 2").get_all("a.k")
+        ['1', '2']
+        """
         values = c.List()
         number = self._found("values", key, sources, trusted_only, values)
         if is_missing(number):
@@ -321,7 +375,11 @@ class Config(MutableMapping[Key, str]):
 
     def get_bool(self, key: Key, default: Any = None, *, sources: Optional[Iterable[Source]] = None, trusted_only: bool = False) -> Any:
         """The last value of a key as a boolean, as git takes it: yes, on, true and an entry without `=` are true, also a number but 0.
-        The default if there is none; raises NotOfType for a value that is no boolean. `sources` and `trusted_only` are as for `get`."""
+        The default if there is none; raises NotOfType for a value that is no boolean. `sources` and `trusted_only` are as for `get`.
+
+        >>> Config.parse("[core] bare = on").get_bool("core.bare")
+        True
+        """
         value = ctypes.c_bool()
         number = self._found("boolean", key, sources, trusted_only, value)
         if number == c.NOTHING_THERE:
@@ -338,7 +396,11 @@ class Config(MutableMapping[Key, str]):
 
     def get_int(self, key: Key, default: Any = None, *, sources: Optional[Iterable[Source]] = None, trusted_only: bool = False) -> Any:
         """The last value of a key as an integer of 64 bits, times 1024 for a `k` behind it, and so on for `m` and `g`. The default if there
-        is none; raises NotOfType for a value that is no integer. `sources` and `trusted_only` are as for `get`."""
+        is none; raises NotOfType for a value that is no integer. `sources` and `trusted_only` are as for `get`.
+
+        >>> Config.parse("[core] bigFileThreshold = 2k").get_int("core.bigFileThreshold")
+        2048
+        """
         value = ctypes.c_int64()
         number = self._found("integer", key, sources, trusted_only, value)
         if number == c.NOTHING_THERE:
@@ -356,7 +418,11 @@ class Config(MutableMapping[Key, str]):
         """The last value of a key as a path, as git takes it: `~/` at its front is the home folder, which is the user's if none is given, and
         `%(prefix)/` the folder where git is installed. The default if there is none, as for an entry without `=`. Raises NotOfType for a value
         that is empty, that needs the folder of another user or a prefix that isn't given, or that is not UTF-8; Refused for a folder that is
-        not UTF-8."""
+        not UTF-8.
+
+        >>> Config.parse("[core] excludesFile = ~/.ignore").get_path("core.excludesFile", home="/home/ada")
+        '/home/ada/.ignore'
+        """
         block = c.Bytes()
         number = LIBRARY.gix_config_path(self._file, key_of(key), folders(prefix, home), block)
         if number == c.NOTHING_THERE:
@@ -373,7 +439,11 @@ class Config(MutableMapping[Key, str]):
         return iter(View(self._file).names())
 
     def __len__(self) -> int:
-        """How many keys there are."""
+        """How many keys there are.
+
+        >>> len(Config.parse("[a] k = 1\\n[A] K = 2\\n[b] k = 3"))
+        2
+        """
         return len(View(self._file).names())
 
     def items(self) -> ItemsView[Key, str]:
@@ -381,16 +451,28 @@ class Config(MutableMapping[Key, str]):
         return _Items(self)
 
     def values(self) -> ValuesView[str]:
-        """The last values of the keys, as they are when a loop begins."""
+        """The last values of the keys, as they are when a loop begins.
+
+        >>> list(Config.parse("[a] k = 1\\n[b] k = 3").values())
+        ['1', '3']
+        """
         return _Values(self)
 
     def entries(self) -> List[Entry]:
-        """All entries, in the file's order."""
+        """All entries, in the file's order.
+
+        >>> [it.value for it in Config.parse("[a] k = 1\\n[a] k = 2\\n[b] j").entries()]
+        ['1', '2', None]
+        """
         return View(self._file).entries()
 
     def sections(self, name: Optional[str] = None) -> List[Section]:
         """All sections, in the file's order, also those without entries and those of a name that others have too; with a name those that have
-        it, with any subsection or none."""
+        it, with any subsection or none.
+
+        >>> [(it.name, it.subsection) for it in Config.parse("[a]\\n[a \\"s\\"]\\n[b]").sections("A")]
+        [('a', None), ('a', 's')]
+        """
         found = View(self._file).sections()
         return found if name is None else [it for it in found if encoded(it.name).lower() == encoded(name).lower()]
 
@@ -399,14 +481,24 @@ class Config(MutableMapping[Key, str]):
         return View(self._file).places(name, subsection)
 
     def append(self, other: "Config") -> None:
-        """Appends a copy of another file, whose sections then come after all others, so that their values count."""
+        """Appends a copy of another file, whose sections then come after all others, so that their values count.
+
+        >>> config = Config.parse("[a] k = 1")
+        >>> config.append(Config.parse("[a] k = 2"))
+        >>> config["a.k"]
+        '2'
+        """
         if other._file is self._file:
             other = self.copy()
         done(LIBRARY.gix_config_file_append(self._file, other._file))
 
     def __eq__(self, other: object) -> bool:
         """Whether the files have the same sections in order, with the same keys that mean the same. Names are compared without case. Comments,
-        blanks, what is before the first section and where sections come from don't count. As it changes with edits, a `Config` has no hash."""
+        blanks, what is before the first section and where sections come from don't count. As it changes with edits, a `Config` has no hash.
+
+        >>> Config.parse("[A] k = 1") == Config.parse("[a]\\nK = 1 # one")
+        True
+        """
         if not isinstance(other, Config):
             return NotImplemented
         if other._file is self._file:
@@ -419,7 +511,11 @@ class Config(MutableMapping[Key, str]):
 
     def differences(self, other: "Config") -> List[Difference]:
         """The keys of which the files say different things, sorted by their names. There are none if and only if both say the same of every
-        key: the values mean the same in order, and look-ups find the same one."""
+        key: the values mean the same in order, and look-ups find the same one.
+
+        >>> Config.parse("[a] k = 1").differences(Config.parse("[a] k = 2"))
+        [Difference(section='a', subsection=None, name='k', values=['1'], other_values=['2'])]
+        """
         if other._file is self._file:
             return []
         differences, difference = c.List(), c.Difference()
@@ -437,27 +533,52 @@ class Config(MutableMapping[Key, str]):
 
     def set(self, key: Key, value: Value) -> Optional[str]:
         """Gives a key a value: in the last section of its names, whose last entry of the name gets it; entry and section are made if there
-        are none. Returns the raw text of the value that was there, if there was an entry. Raises Refused."""
+        are none. Returns the raw text of the value that was there, if there was an entry. Raises Refused.
+
+        >>> config = Config.parse("[a] k = 1")
+        >>> config.set("a.k", 2)
+        '1'
+        >>> config["a.k"]
+        '2'
+        """
         had, old, given = ctypes.c_bool(), c.Bytes(), encoded(written(value))
         done_of(LIBRARY.gix_config_set_value(self._file, key_of(key), given, len(given), had, old), key)
         text = decoded(taken(old))
         return text if had.value else None
 
     def set_existing(self, key: Key, value: Value) -> None:
-        """Gives the last entry of a key a value; none is made. Raises KeyNotFound, and Refused."""
+        """Gives the last entry of a key a value; none is made. Raises KeyNotFound, and Refused.
+
+        >>> config = Config.parse("[a] k = 1")
+        >>> config.set_existing("a.k", True)
+        >>> config["a.k"]
+        'true'
+        """
         given = encoded(written(value))
         done_of(LIBRARY.gix_config_set_existing_value(self._file, key_of(key), given, len(given)), key)
 
     def set_all(self, key: Key, values: Sequence[Value]) -> None:
         """Gives the entries of a key these values, the first entry the first value and so on, up to the end of the shorter list; none is made.
-        Raises KeyNotFound, and Refused: for a file that would be too long after the entries before have their values."""
+        Raises KeyNotFound, and Refused: for a file that would be too long after the entries before have their values.
+
+        >>> config = Config.parse("[a] k = 1\\n[a] k = 2")
+        >>> config.set_all("a.k", ["3", "4"])
+        >>> config.get_all("a.k")
+        ['3', '4']
+        """
         texts = (c.Text * max(len(values), 1))(*[text_of(written(it)) for it in values])
         done_of(LIBRARY.gix_config_set_existing_values(self._file, key_of(key), texts, len(values)), key)
 
     def replace_all(self, key: Key, values: Sequence[Value]) -> None:
         """Gives a key these values and no others: entries that are there get the first of them, the last entries are removed if there are more,
         and entries are added to the last section of the key's names if there are fewer. Raises Refused, after a part of it is done if the file
-        would be too long."""
+        would be too long.
+
+        >>> config = Config.parse("[a] k = 1\\n[a] k = 2")
+        >>> config.replace_all("a.k", ["3"])
+        >>> config.get_all("a.k")
+        ['3']
+        """
         texts, there = [written(it) for it in values], len(self.get_all(key))
         self._remove_last(key, there - len(texts))
         if there and texts:
@@ -473,18 +594,32 @@ class Config(MutableMapping[Key, str]):
 
     def add(self, key: Key, value: Optional[Value] = None) -> None:
         """Adds an entry to the last section of the key's names, also where there is one of the name already. Without a value it is the name
-        alone, which is true as a boolean. Raises KeyNotFound if there is no such section, and Refused."""
+        alone, which is true as a boolean. Raises KeyNotFound if there is no such section, and Refused.
+
+        >>> config = Config.parse("[a] k = 1")
+        >>> config.add("a.k", 2)
+        >>> config.get_all("a.k")
+        ['1', '2']
+        """
         given = encoded("" if value is None else written(value))
         done_of(LIBRARY.gix_config_push_value(self._file, key_of(key), value is not None, given, len(given)), key)
 
     def remove(self, key: Key) -> str:
-        """Removes the last entry of the key from the last section of its names, and returns the raw text of its value. Raises KeyNotFound."""
+        """Removes the last entry of the key from the last section of its names, and returns the raw text of its value. Raises KeyNotFound.
+
+        >>> Config.parse("[a] k = 1\\n[a] k = 2").remove("a.k")
+        '2'
+        """
         old = c.Bytes()
         done_of(LIBRARY.gix_config_remove_value(self._file, key_of(key), old), key)
         return decoded(taken(old))
 
     def remove_all(self, key: Key) -> int:
-        """Removes all entries of the key, and returns how many these were."""
+        """Removes all entries of the key, and returns how many these were.
+
+        >>> Config.parse("[a] k = 1\\n[a] k = 2").remove_all("a.k")
+        2
+        """
         count = len(self.get_all(key))
         self._remove_last(key, count)
         return count
@@ -498,7 +633,13 @@ class Config(MutableMapping[Key, str]):
             count -= SectionEditor(self, place).remove_last(name, count)
 
     def __delitem__(self, key: Key) -> None:
-        """Removes all entries of the key. Raises KeyNotFound if there is none."""
+        """Removes all entries of the key. Raises KeyNotFound if there is none.
+
+        >>> config = Config.parse("[a] k = 1\\n[a] k = 2\\n[b] k = 3")
+        >>> del config["a.k"]
+        >>> list(config.values())
+        ['3']
+        """
         self[key]
         self.remove_all(key)
 
@@ -518,23 +659,46 @@ class Config(MutableMapping[Key, str]):
         return SectionEditor(self, place)
 
     def edit(self, name: str, subsection: Optional[str] = None) -> SectionEditor:
-        """The editor of the last section of a name and a subsection, or none. Raises KeyNotFound."""
+        """The editor of the last section of a name and a subsection, or none. Raises KeyNotFound.
+
+        >>> config = Config.parse("[remote \\"origin\\"] url = a")
+        >>> config.edit("remote", "origin").set("url", "b")
+        'a'
+        """
         places = self._places(name, subsection)
         if not places:
             refuse(c.SUBSECTION_MISSING if self.sections(name) else c.SECTION_MISSING, name if subsection is None else f"{name}.{subsection}")
         return SectionEditor(self, places[-1])
 
     def new_section(self, name: str, subsection: Optional[str] = None) -> SectionEditor:
-        """Makes a section after all others, and returns its editor. Raises Refused."""
+        """Makes a section after all others, and returns its editor. Raises Refused.
+
+        >>> config = Config()
+        >>> config.new_section("a", "s").add("k", 1)
+        >>> config["a.s.k"]
+        '1'
+        """
         done(LIBRARY.gix_config_section_new(self._file, section_of(name, subsection)), name)
         return SectionEditor(self, self._places(name, subsection)[-1])
 
     def rename_section(self, names: Tuple[str, Optional[str]], new_names: Tuple[str, Optional[str]]) -> None:
-        """Gives all sections of a name and a subsection, or None, another name and subsection. Raises KeyNotFound, and Refused."""
+        """Gives all sections of a name and a subsection, or None, another name and subsection. Raises KeyNotFound, and Refused.
+
+        >>> config = Config.parse("[branch \\"old\\"] remote = origin")
+        >>> config.rename_section(("branch", "old"), ("branch", "new"))
+        >>> config["branch.new.remote"]
+        'origin'
+        """
         done(LIBRARY.gix_config_section_rename(self._file, section_of(*names), section_of(*new_names)), names[0])
 
     def remove_section(self, place: int) -> None:
-        """Removes a section by its place in `sections()`, from 0. Raises IndexError."""
+        """Removes a section by its place in `sections()`, from 0. Raises IndexError.
+
+        >>> config = Config.parse("[a] k = 1\\n[b] k = 2")
+        >>> config.remove_section(0)
+        >>> [it.name for it in config.sections()]
+        ['b']
+        """
         number = LIBRARY.gix_config_section_remove_at(self._file, place)
         if number == c.NOTHING_THERE:
             raise IndexError(f"no section is at {place}")

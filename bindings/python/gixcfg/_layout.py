@@ -37,7 +37,11 @@ def normalize(text: AnyStr, *, indent: str = "\t", newline: Optional[str] = None
     around `=`, and without `final_newline` the end stays as it is. Blank lines are limited ahead of the first line that isn't blank, and where
     they stand together behind it; with None all stay. An indent is of tabs alone or of spaces alone.
 
-    Raises ParseError for a text that can't be read on at some place, and ValueError for another indent, newline or limit."""
+    Raises ParseError for a text that can't be read on at some place, and ValueError for another indent, newline or limit.
+
+    >>> normalize("[a]\\nk=1")
+    '[a]\\n\\tk = 1\\n'
+    """
     if newline not in (None, "\n", "\r\n"):
         raise ValueError(f"{newline!r} ends no line")
     layout = c.Layout()

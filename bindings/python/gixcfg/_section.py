@@ -47,20 +47,34 @@ class SectionEditor:
         return entries_of(entries)
 
     def add(self, name: str, value: Optional[Value] = None, comment: Optional[str] = None) -> None:
-        """Adds an entry after all others, also of a name that is there, with the blanks that the section uses. Raises Refused."""
+        """Adds an entry after all others, also of a name that is there, with the blanks that the section uses. Raises Refused.
+
+        >>> config = Config.parse("[a] k = 1")
+        >>> config.edit("a").add("k", 2, comment="why")
+        >>> config.get_all("a.k")
+        ['1', '2']
+        """
         text = "" if value is None else written(value)
         line = c.Line(text_of(name), value is not None, text_of(text), comment is not None, text_of(comment or ""))
         done(LIBRARY.gix_config_push_line_at(self._file, self._place, line), name)
 
     def set(self, name: str, value: Value) -> Optional[str]:
-        """Gives the last entry of a name a value, or adds one. Returns the raw text of the value that was there. Raises Refused."""
+        """Gives the last entry of a name a value, or adds one. Returns the raw text of the value that was there. Raises Refused.
+
+        >>> Config.parse("[a] k = 1").edit("a").set("k", 2)
+        '1'
+        """
         had, old, assigned = ctypes.c_bool(), c.Bytes(), c.Assigned(text_of(name), text_of(written(value)))
         done(LIBRARY.gix_config_set_value_at(self._file, self._place, assigned, had, old), name)
         text = decoded(taken(old))
         return text if had.value else None
 
     def remove(self, name: str) -> str:
-        """Removes the last entry of a name, and returns the raw text of its value. Raises KeyNotFound."""
+        """Removes the last entry of a name, and returns the raw text of its value. Raises KeyNotFound.
+
+        >>> Config.parse("[a] k = 1").edit("a").remove("k")
+        '1'
+        """
         old, given = c.Bytes(), encoded(name)
         done(LIBRARY.gix_config_remove_value_at(self._file, self._place, given, len(given), old), name)
         return decoded(taken(old))
@@ -87,7 +101,11 @@ class SectionEditor:
         return removed.value
 
     def pop(self) -> Tuple[str, str]:
-        """Removes the last entry, with all that is after it, and returns its name and what its value means. Raises KeyNotFound."""
+        """Removes the last entry, with all that is after it, and returns its name and what its value means. Raises KeyNotFound.
+
+        >>> Config.parse("[a] k = 1").edit("a").pop()
+        ('k', '1')
+        """
         name, value = c.Bytes(), c.Bytes()
         done(LIBRARY.gix_config_pop_value_at(self._file, self._place, name, value), "an entry")
         return decoded(taken(name)), decoded(taken(value))

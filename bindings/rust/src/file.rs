@@ -196,6 +196,15 @@ impl File {
     /// # Errors
     ///
     /// There is no such section, subsection or value; or the key is none.
+    ///
+    /// # Examples
+    ///
+    /// ```
+    /// let file = gix_config::File::try_from("[core]\n\teditor = \"vi -n\" # mine\n")?;
+    /// assert_eq!(file.raw_value("core.editor")?, "vi -n");
+    /// assert!(file.raw_value("core.pager").is_err());
+    /// # Ok::<(), Box<dyn std::error::Error>>(())
+    /// ```
     pub fn raw_value(&self, key: impl AsKey) -> Result<BString, lookup::existing::Error> {
         let key = key_of(&key)?;
         self.raw_value_by(key.section_name, key.subsection_name, key.value_name)
@@ -246,6 +255,15 @@ impl File {
     }
 
     /// What the last value of a key means, if there is one.
+    ///
+    /// # Examples
+    ///
+    /// ```
+    /// let file = gix_config::File::try_from("[core]\n\teditor = vi\n")?;
+    /// assert_eq!(file.string("core.editor").as_deref(), Some("vi".into()));
+    /// assert_eq!(file.string("core.pager"), None);
+    /// # Ok::<(), Box<dyn std::error::Error>>(())
+    /// ```
     #[must_use]
     pub fn string(&self, key: impl AsKey) -> Option<BString> {
         self.raw_value(key).ok()
@@ -264,6 +282,14 @@ impl File {
     }
 
     /// What all values of a key mean, in the file's order, if there are some.
+    ///
+    /// # Examples
+    ///
+    /// ```
+    /// let file = gix_config::File::try_from("[remote \"o\"]\n\tfetch = a\n\tfetch = b\n")?;
+    /// assert_eq!(file.strings("remote.o.fetch").expect("two"), ["a", "b"]);
+    /// # Ok::<(), Box<dyn std::error::Error>>(())
+    /// ```
     #[must_use]
     pub fn strings(&self, key: impl AsKey) -> Option<Vec<BString>> {
         self.raw_values(key).ok()
@@ -300,6 +326,14 @@ impl File {
     }
 
     /// How many entries the sections have.
+    ///
+    /// # Examples
+    ///
+    /// ```
+    /// let file = gix_config::File::try_from("[a]\n\tk = 1\n\tj\n")?;
+    /// assert_eq!(file.num_values(), 2);
+    /// # Ok::<(), Box<dyn std::error::Error>>(())
+    /// ```
     #[must_use]
     pub fn num_values(&self) -> usize {
         self.sys.seen().num_entries()
@@ -324,6 +358,15 @@ impl File {
     }
 
     /// The sections in the file's order. The first call after an edit takes a pass over the file; the others take none.
+    ///
+    /// # Examples
+    ///
+    /// ```
+    /// let file = gix_config::File::try_from("[a]\n[b \"s\"]\n")?;
+    /// let names: Vec<_> = file.sections().map(|it| it.header().name().to_string()).collect();
+    /// assert_eq!(names, ["a", "b"]);
+    /// # Ok::<(), Box<dyn std::error::Error>>(())
+    /// ```
     pub fn sections(&self) -> impl DoubleEndedIterator<Item = SectionRef<'_>> + ExactSizeIterator {
         self.sys.seen().sections()
     }
@@ -413,6 +456,14 @@ impl File {
     /// # Errors
     ///
     /// There is no such section, or the key is none.
+    ///
+    /// # Examples
+    ///
+    /// ```
+    /// let file = gix_config::File::try_from("[remote \"origin\"]\n\turl = a\n")?;
+    /// assert_eq!(file.section_by_key("remote.origin")?.num_values(), 1);
+    /// # Ok::<(), Box<dyn std::error::Error>>(())
+    /// ```
     pub fn section_by_key(
         &self,
         section_key: impl AsBStr,
@@ -436,6 +487,15 @@ impl File {
     }
 
     /// The sections that have the name, without ASCII case, and any subsection or none, in the file's order; `None` if there are none.
+    ///
+    /// # Examples
+    ///
+    /// ```
+    /// let file = gix_config::File::try_from("[remote \"a\"]\n[remote \"b\"]\n")?;
+    /// assert_eq!(file.sections_by_name("Remote").expect("some").count(), 2);
+    /// assert!(file.sections_by_name("core").is_none());
+    /// # Ok::<(), Box<dyn std::error::Error>>(())
+    /// ```
     #[must_use]
     pub fn sections_by_name(
         &self,
@@ -473,6 +533,15 @@ impl File {
     /// # Errors
     ///
     /// There is no such section.
+    ///
+    /// # Examples
+    ///
+    /// ```
+    /// let mut file = gix_config::File::try_from("[a]\n\tk = 1\n")?;
+    /// file.section_mut("a", None)?.set("k", "2")?;
+    /// assert_eq!(file.to_string(), "[a]\n\tk = 2\n");
+    /// # Ok::<(), Box<dyn std::error::Error>>(())
+    /// ```
     pub fn section_mut(
         &mut self,
         name: impl AsRef<str>,
@@ -541,6 +610,15 @@ impl File {
     /// # Errors
     ///
     /// A section can't be made of the names, or the file would be too long. The file is then as it was.
+    ///
+    /// # Examples
+    ///
+    /// ```
+    /// let mut file = gix_config::File::default();
+    /// file.new_section("remote", Some("origin".into()))?.push("url", Some("a".into()))?;
+    /// assert_eq!(file.raw_value("remote.origin.url")?, "a");
+    /// # Ok::<(), Box<dyn std::error::Error>>(())
+    /// ```
     pub fn new_section(
         &mut self,
         name: impl AsRef<str>,
@@ -585,6 +663,15 @@ impl File {
     }
 
     /// Removes the last section that has the name, without ASCII case, and exactly the subsection. Returns it as it was, if there was one.
+    ///
+    /// # Examples
+    ///
+    /// ```
+    /// let mut file = gix_config::File::try_from("[a]\n\tk = 1\n[b]\n")?;
+    /// assert!(file.remove_section("a", None).is_some());
+    /// assert_eq!(file.to_string(), "[b]\n");
+    /// # Ok::<(), Box<dyn std::error::Error>>(())
+    /// ```
     pub fn remove_section(
         &mut self,
         name: impl AsRef<str>,
@@ -639,6 +726,15 @@ impl File {
     /// # Panics
     ///
     /// If the key is none.
+    ///
+    /// # Examples
+    ///
+    /// ```
+    /// let mut file = gix_config::File::try_from("[a]\n\tk = 1\n")?;
+    /// assert_eq!(file.set_raw_value("a.k", "2")?.expect("a value"), "1");
+    /// assert_eq!(file.to_string(), "[a]\n\tk = 2\n");
+    /// # Ok::<(), Box<dyn std::error::Error>>(())
+    /// ```
     pub fn set_raw_value(
         &mut self,
         key: impl AsKey,
@@ -729,6 +825,16 @@ impl File {
     /// # Panics
     ///
     /// If the key is none.
+    ///
+    /// # Examples
+    ///
+    /// ```
+    /// let mut file = gix_config::File::try_from("[a]\n\tk = 1\n")?;
+    /// file.set_existing_raw_value("a.k", "2")?;
+    /// assert!(file.set_existing_raw_value("a.j", "2").is_err());
+    /// assert_eq!(file.to_string(), "[a]\n\tk = 2\n");
+    /// # Ok::<(), Box<dyn std::error::Error>>(())
+    /// ```
     pub fn set_existing_raw_value(
         &mut self,
         key: impl AsKey,
@@ -770,6 +876,15 @@ impl File {
     /// # Panics
     ///
     /// If the key is none.
+    ///
+    /// # Examples
+    ///
+    /// ```
+    /// let mut file = gix_config::File::try_from("[a]\n\tk = 1\n\tk = 2\n")?;
+    /// file.set_existing_raw_multi_value("a.k", ["3", "4"])?;
+    /// assert_eq!(file.raw_values("a.k")?, ["3", "4"]);
+    /// # Ok::<(), Box<dyn std::error::Error>>(())
+    /// ```
     pub fn set_existing_raw_multi_value<Iter, Item>(
         &mut self,
         key: impl AsKey,
@@ -814,6 +929,15 @@ impl File {
     /// # Errors
     ///
     /// There is no such section, a name can't be written, or the file would be too long. The file is then as it was.
+    ///
+    /// # Examples
+    ///
+    /// ```
+    /// let mut file = gix_config::File::try_from("[branch \"old\"]\n\tremote = o\n")?;
+    /// file.rename_section("branch", Some("old".into()), "branch", Some("new".into()))?;
+    /// assert_eq!(file.to_string(), "[branch \"new\"]\n\tremote = o\n");
+    /// # Ok::<(), Box<dyn std::error::Error>>(())
+    /// ```
     pub fn rename_section(
         &mut self,
         name: impl AsRef<str>,
@@ -861,6 +985,15 @@ impl File {
     /// # Errors
     ///
     /// The file would have more than 4294967295 bytes, or as many sections. It is then as it was.
+    ///
+    /// # Examples
+    ///
+    /// ```
+    /// let mut file = gix_config::File::try_from("[a]\n\tk = 1\n")?;
+    /// file.append(gix_config::File::try_from("[a]\n\tk = 2\n")?)?;
+    /// assert_eq!(file.raw_values("a.k")?, ["1", "2"]);
+    /// # Ok::<(), Box<dyn std::error::Error>>(())
+    /// ```
     pub fn append(&mut self, other: File) -> Result<&mut File, parse::span::Error> {
         match self.sys.append(&other.sys) {
             Ok(()) => Ok(self),
@@ -891,6 +1024,16 @@ impl File {
     /// # Errors
     ///
     /// Those of the writer.
+    ///
+    /// # Examples
+    ///
+    /// ```
+    /// let file = gix_config::File::try_from("[a]\n\tk = 1 # one\n")?;
+    /// let mut text = Vec::new();
+    /// file.write_to(&mut text)?;
+    /// assert_eq!(text, b"[a]\n\tk = 1 # one\n");
+    /// # Ok::<(), Box<dyn std::error::Error>>(())
+    /// ```
     pub fn write_to(&self, mut out: impl io::Write) -> io::Result<()> {
         out.write_all(self.sys.text(None).bytes())
     }

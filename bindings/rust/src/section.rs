@@ -235,6 +235,15 @@ impl<'a> SectionMut<'a> {
     /// # Errors
     ///
     /// The name can't be a value's, or the file would be too long.
+    ///
+    /// # Examples
+    ///
+    /// ```
+    /// let mut file = gix_config::File::try_from("[a]\n\tk = 1\n")?;
+    /// file.section_mut("a", None)?.push("k", Some("2".into()))?.push("flag", None)?;
+    /// assert_eq!(file.to_string(), "[a]\n\tk = 1\n\tk = 2\n\tflag\n");
+    /// # Ok::<(), Box<dyn std::error::Error>>(())
+    /// ```
     pub fn push(
         &mut self,
         value_name: impl AsRef<str>,
@@ -302,6 +311,14 @@ impl<'a> SectionMut<'a> {
     /// # Errors
     ///
     /// Those of [`SectionMut::push`].
+    ///
+    /// # Examples
+    ///
+    /// ```
+    /// let mut file = gix_config::File::try_from("[a]\n\tk = 1\n")?;
+    /// assert_eq!(file.section_mut("a", None)?.set("k", "2")?.expect("a value"), "1");
+    /// # Ok::<(), Box<dyn std::error::Error>>(())
+    /// ```
     pub fn set(
         &mut self,
         value_name: impl AsRef<str>,
@@ -313,6 +330,15 @@ impl<'a> SectionMut<'a> {
     }
 
     /// Removes the last entry of the name. Returns the raw text of its value, if there was one.
+    ///
+    /// # Examples
+    ///
+    /// ```
+    /// let mut file = gix_config::File::try_from("[a]\n\tk = 1\n\tk = 2\n")?;
+    /// assert_eq!(file.section_mut("a", None)?.remove("k").expect("an entry"), "2");
+    /// assert_eq!(file.to_string(), "[a]\n\tk = 1\n");
+    /// # Ok::<(), Box<dyn std::error::Error>>(())
+    /// ```
     pub fn remove(&mut self, value_name: &str) -> Option<BString> {
         found(self.file.sys.remove_value_at(self.place, value_name))
     }

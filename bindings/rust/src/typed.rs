@@ -119,6 +119,16 @@ impl File {
     /// # Errors
     ///
     /// The value is no boolean.
+    ///
+    /// # Examples
+    ///
+    /// ```
+    /// let file = gix_config::File::try_from("[core]\n\tbare = on\n\tfilemode\n")?;
+    /// assert_eq!(file.boolean("core.bare")?, Some(true));
+    /// assert_eq!(file.boolean("core.filemode")?, Some(true));
+    /// assert_eq!(file.boolean("core.ignorecase")?, None);
+    /// # Ok::<(), Box<dyn std::error::Error>>(())
+    /// ```
     pub fn boolean(&self, key: impl AsKey) -> Result<Option<bool>, value::Error> {
         let key = match key.try_as_key() {
             Some(key) => key,
@@ -153,6 +163,14 @@ impl File {
     /// # Errors
     ///
     /// The value is no integer of 64 bits.
+    ///
+    /// # Examples
+    ///
+    /// ```
+    /// let file = gix_config::File::try_from("[core]\n\tbigFileThreshold = 2k\n")?;
+    /// assert_eq!(file.integer("core.bigFileThreshold")?, Some(2048));
+    /// # Ok::<(), Box<dyn std::error::Error>>(())
+    /// ```
     pub fn integer(&self, key: impl AsKey) -> Result<Option<i64>, value::Error> {
         let key = match key.try_as_key() {
             Some(key) => key,
@@ -190,6 +208,14 @@ impl File {
     /// # Errors
     ///
     /// One of them is no integer of 64 bits.
+    ///
+    /// # Examples
+    ///
+    /// ```
+    /// let file = gix_config::File::try_from("[a]\n\tk = 1\n\tk = 2\n")?;
+    /// assert_eq!(file.integers("a.k")?, Some(vec![1, 2]));
+    /// # Ok::<(), Box<dyn std::error::Error>>(())
+    /// ```
     pub fn integers(&self, key: impl AsKey) -> Result<Option<Vec<i64>>, value::Error> {
         integers_of(self.strings(key))
     }
