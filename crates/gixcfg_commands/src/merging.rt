@@ -38,7 +38,7 @@ pub fn merge<R: EditFiles + AllocGlobal, I: Read + Drop, W: Write, E: Write>(
 {
     match call.output {
         Some(path) => merge_to_file(inputs, call, path, err),
-        None => match joined(inputs, call, err) {
+        None => match merge_of(inputs, call, err) {
             Ok(joined) => match put(text_of(&joined.made), out) {
                 Ok(()) => joined.tell(err),
                 Err(trouble) => report(&trouble, "", inputs.rules, err),
@@ -62,7 +62,7 @@ fn merge_to_file<R: EditFiles + AllocGlobal, I: Read + Drop, E: Write>(
         Ok(place) => place,
         Err(fault) => return report(&Trouble::from(fault), path, inputs.rules, err),
     };
-    let joined = match joined(inputs, call, err) {
+    let joined = match merge_of(inputs, call, err) {
         Ok(joined) => joined,
         Err(status) => return status,
     };
@@ -126,7 +126,7 @@ struct Given<'a> {
 }
 
 /// The merge that a call asks for; or the exit status, when it was reported why there is none.
-fn joined<R: Files + AllocGlobal, I: Read + Drop, E: Write>(
+fn merge_of<R: Files + AllocGlobal, I: Read + Drop, E: Write>(
     inputs: &mut Inputs<'_, R, I>,
     call: &Merge<'_>,
     err: &mut E,
@@ -150,14 +150,14 @@ fn given_or_status<'a, R: Files + AllocGlobal, I: Read + Drop, E: Write>(
 ) -> Result<Given<'a>, u8>
     ensures { IfErr result IsStatus }
 {
-    match given(inputs, word) {
+    match read_given(inputs, word) {
         Ok(given) => Ok(given),
         Err(trouble) => Err(report(&trouble, word, inputs.rules, err)),
     }
 }
 
 /// The text of the file that a word names.
-fn given<'a, R: Files + AllocGlobal, I: Read + Drop>(
+fn read_given<'a, R: Files + AllocGlobal, I: Read + Drop>(
     inputs: &mut Inputs<'_, R, I>,
     word: &'a str,
 ) -> Result<Given<'a>, Trouble> {
@@ -173,11 +173,11 @@ fn given<'a, R: Files + AllocGlobal, I: Read + Drop>(
 
 /// The merge of three texts that were read before, and what is told of it: of each that it has entries before its first section, and, unless
 /// nothing is to be told of them, each conflict that stays.
-fn joined_of(
+fn joined_of<'a>(
     alloc: Global,
-    base: &Given<'_>,
-    ours: &Given<'_>,
-    theirs: &Given<'_>,
+    base: &'a Given<'a>,
+    ours: &'a Given<'a>,
+    theirs: &'a Given<'a>,
     call: &Merge<'_>,
 ) -> Result<Joined, Trouble> {
     let texts = Texts {
