@@ -2,6 +2,7 @@
 import re
 import shutil
 import subprocess
+import textwrap
 from html import escape
 
 from html_page import comment, page, place
@@ -11,7 +12,10 @@ CALL = re.compile(r"/\*(?P<about>(?:(?!\*/).)*)\*/\n(?P<call>[\w *]*?\b(?P<name>
 DECLARED = re.compile(r"\b(gix_config_\w+)\([^;{]*\);")
 STRUCT = re.compile(r"/\*(?P<about>(?:(?!\*/).)*)\*/\ntypedef struct (?P<name>\w+) \{\n(?P<fields>.*?)^\} \w+;", re.DOTALL | re.MULTILINE)
 NUMBERS = re.compile(r"/\*(?P<about>(?:(?!\*/).)*)\*/\nenum \{\n(?P<numbers>.*?)^\};", re.DOTALL | re.MULTILINE)
+EXAMPLE = re.compile(r"^static void (\w+)_example\(void\)\n\{\n(.*?)^\}\n", re.MULTILINE | re.DOTALL)
 OTHERS = "Others"
+# What the examples share, told above them.
+SHARED = "Of tests/c/examples.c, which has the functions that it calls beside those of the library."
 
 
 def words(about):
@@ -33,25 +37,31 @@ def told(name, about, code):
     return [f'<h3 id="{place(name)}"><code>{name}</code></h3>', comment(words(about)), f"<pre>{escape(code)}</pre>"]
 
 
+def examples_of(path):
+    """The examples by the calls that they are of: the bodies of the functions of a program, which tools/c_library runs."""
+    return {name: textwrap.dedent(body) for name, body in EXAMPLE.findall(path.read_text(encoding="utf-8"))}
+
+
 def calls_of(text):
     """The calls of the header, by their names."""
     return {found["name"]: found for found in CALL.finditer(text)}
 
 
-def manual_pages(header, groups):
+def manual_pages(header, groups, examples):
     """The manual page of each call: its text by its path, below a folder that `man -M` takes."""
     calls = calls_of(header.read_text(encoding="utf-8"))
-    return {f"man3/{name}.3": manual_page(calls[name], [it for it in names if it != name])
+    return {f"man3/{name}.3": manual_page(calls[name], examples.get(name), [it for it in names if it != name])
             for names in groups_of(calls, groups).values() for name in names}
 
 
-def manual_page(call, others):
-    """The manual page of a call, which leads to the others of its group. Its first sentence sums it up."""
+def manual_page(call, example, others):
+    """The manual page of a call, with its example if it has one, which leads to the others of its group. Its first sentence sums it up."""
     paragraphs = [" ".join(it.split()) for it in re.split(r"\n\s*\n", words(call["about"]))]
     first = re.match(r".*?[.:](?= |$)", paragraphs[0])[0].rstrip(".:")
     lines = [f'.TH {call["name"].upper()} 3 "" libgix_config', ".SH NAME", f"{escaped(call['name'])} \\- {escaped(first)}",
              ".SH SYNOPSIS", ".EX", ".B #include <gix_config.h>", "", *(at_front(escaped(line)) for line in f"{call['call']};".splitlines()), ".EE",
              ".SH DESCRIPTION", *"\n.PP\n".join(at_front(escaped(it)) for it in paragraphs).splitlines(),
+             *([".SH EXAMPLES", SHARED, ".PP", ".EX", *(at_front(escaped(line)) for line in example.splitlines()), ".EE"] if example else []),
              ".SH SEE ALSO", *(f".BR {escaped(it)} (3)," for it in others), ".BR gix_config (3)"]
     return "\n".join(lines) + "\n"
 
@@ -64,7 +74,7 @@ def faults_of_manual(name, text):
     return ran.stderr.strip()
 
 
-def page_of(header, groups):
+def page_of(header, groups, examples):
     text = header.read_text(encoding="utf-8")
     calls = calls_of(text)
     lines = [comment(words(re.match(r"/\*(.*?)\*/", text, re.DOTALL)[1])), "<nav>"]
@@ -76,6 +86,8 @@ def page_of(header, groups):
         lines.append(f"<h2>{escape(title)}</h2>")
         for name in names:
             lines += told(name, calls[name]["about"], calls[name]["call"] + ";")
+            if name in examples:
+                lines.append(f"<details><summary>Example</summary><p>{escape(SHARED)}</p><pre>{escape(examples[name])}</pre></details>")
     lines.append('<h2 id="structs">Structs</h2>')
     for found in STRUCT.finditer(text):
         lines += told(found["name"], found["about"], found["fields"])
@@ -85,9 +97,12 @@ def page_of(header, groups):
     return page("libgix_config for C", "\n".join(lines), "../index.html")
 
 
-def results(header, made, manuals):
-    """Whether each call that the header declares is on the page, with a comment, and has a manual page that groff takes."""
+def results(header, made, manuals, examples):
+    """Whether each call that the header declares is on the page, with a comment, and has a manual page that groff takes; and whether each
+    example is of such a call, and makes it."""
     text = header.read_text(encoding="utf-8")
+    for name, body in examples.items():
+        yield name in DECLARED.findall(text) and f"{name}(" in body, f"the example of {name} is of no call, or doesn't make it"
     has_comment = {found["name"] for found in CALL.finditer(text)}
     for name in sorted(set(DECLARED.findall(text))):
         yield f'id="{place(name)}"' in made, f"{name} isn't on the page for C"
