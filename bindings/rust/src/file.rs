@@ -260,7 +260,7 @@ impl File {
     ///
     /// ```
     /// let file = gix_config::File::try_from("[core]\n\teditor = vi\n")?;
-    /// assert_eq!(file.string("core.editor").as_deref(), Some("vi".into()));
+    /// assert_eq!(file.string("core.editor").expect("a value"), "vi");
     /// assert_eq!(file.string("core.pager"), None);
     /// # Ok::<(), Box<dyn std::error::Error>>(())
     /// ```
