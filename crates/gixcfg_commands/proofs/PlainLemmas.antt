@@ -230,6 +230,8 @@ asked_source (asks.Get get) plain is on =
     let asked = asked_of get.now plain is in
     (values_are get.now.reading.source get.now.reading.includes get.now.choice get.now.form.kind asked.0 plain asked.2 on).0
 asked_source (asks.List list) plain is on = (list_source list.now.reading.source list.now.reading.includes list.now.form plain is).0
+asked_source (asks.Color color) plain is on = absurd (cc)
+asked_source (asks.Colorbool colorbool) plain is on = absurd (cc)
 asked_source asks.Input plain is on = refl
 
 -- an edit of standard input by the library's rules
