@@ -164,31 +164,31 @@ impl Judging<'_> {
         alloc: Global,
         meta: &Metadata,
         condition: &[u8],
-    ) -> Result<String, AllocError> {
+    ) -> Result<String, NoMemory> {
         let about = &self.options.conditional;
         if condition.starts_with(b"gitdir:") || condition.starts_with(b"gitdir/i:") {
             match about.git_dir {
                 Some(git_dir) => {
                     let path = Shown(git_dir.path);
                     let hint = self.hint(alloc, meta, condition)?;
-                    format!(in alloc; "the repository here is {path}{hint}")
+                    Ok(format!(in alloc; "the repository here is {path}{hint}")?)
                 }
-                None => String::from_str(alloc, "there is no repository here"),
+                None => Ok(String::from_str(alloc, "there is no repository here")?),
             }
         } else if condition.starts_with(b"onbranch:") {
             match about.branch_name {
                 Some(name) => {
                     let name = Shown(name.strip_prefix("refs/heads/").unwrap_or(name));
                     let hint = self.hint(alloc, meta, condition)?;
-                    format!(in alloc; "the branch here is {name}{hint}")
+                    Ok(format!(in alloc; "the branch here is {name}{hint}")?)
                 }
-                None => String::from_str(alloc, "no branch is checked out here"),
+                None => Ok(String::from_str(alloc, "no branch is checked out here")?),
             }
         } else {
-            String::from_str(
+            Ok(String::from_str(
                 alloc,
                 "a condition begins with gitdir:, gitdir/i:, onbranch: or hasconfig:remote.*.url:",
-            )
+            )?)
         }
     }
 
@@ -198,11 +198,12 @@ impl Judging<'_> {
         alloc: Global,
         meta: &Metadata,
         condition: &[u8],
-    ) -> Result<&'static str, AllocError> {
+    ) -> Result<&'static str, NoMemory> {
         let mut longer = Vec::from_slice(alloc, condition)?;
         longer.push(b'/')?;
         match judge(alloc, &self.options, meta, &longer) {
             Ok(Judged::Holds(true)) => Ok("; with / at its end the condition would hold"),
+            Err(includes::Error::Memory) => Err(NoMemory),
             _ => Ok(""),
         }
     }
