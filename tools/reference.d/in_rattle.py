@@ -30,7 +30,7 @@ class Library:
         for item, path in sorted(self.items.items(), key=lambda one: one[1]):
             self.modules.setdefault(path[:-1], []).append((path[-1], item))
         self.calls = {item: [*self.blocks_of(item)] for item in self.items}
-        self.examples = examples_of(self.top / "docs/guide/main.txt")
+        self.examples = {**examples_of(self.top / "docs/guide/calls.txt"), **examples_of(self.top / "docs/guide/main.txt")}
 
     def source(self, file):
         if file not in self.sources:
