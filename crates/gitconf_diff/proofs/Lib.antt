@@ -9,3 +9,4 @@ pub mod Said
 pub mod DifferentKeys
 pub mod SortedSections
 pub mod Worked
+pub mod Alike

@@ -56,6 +56,10 @@ heading_cmp g h = ordering_then (slice_cmp nat_cmp g.section h.section) (option_
 abbrev pub is_before : SideSection → SideSection → Bool
 is_before s t = is_lt (heading_cmp (heading s) (heading t))
 
+-- entries of the same name, without case, that mean the same
+abbrev pub same_entry : DocumentEntry → DocumentEntry → Bool
+same_entry e f = bytes_eq (fold e.name) (fold f.name) && option_eq bytes_eq (option_map plain e.raw) (option_map plain f.raw)
+
 -- the setting of an entry of a section
 abbrev pub setting_in : PlainSection → DocumentEntry → PlainSetting
 setting_in s e = record {

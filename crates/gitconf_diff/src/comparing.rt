@@ -74,7 +74,7 @@ fn first_count(mentions: &[Mention<'_>]) -> usize
     other_place(mentions).unwrap_or(mentions.len())
 }
 
-/// Whether the files say different things of a key, of whose entries the first file's come first.
+/// Whether the files say different things of a key. Of its entries the first file's come first.
 pub fn differ(mentions: &[Mention<'_>]) -> bool
     requires { IsBySide (plain_mentions mentions.now) }
     ensures { result ≡ differ_alone (plain_mentions mentions.now) }

@@ -10,7 +10,7 @@ use bstr::BString;
 use gitconf_text::NoMemory;
 use std::alloc::Global;
 
-/// An entry of one of two files, at a key of which they say different things.
+/// An entry of one of two files. They say different things of its key.
 #[derive(Clone, Debug, Drop, PartialEq, Eq)]
 pub struct Difference {
     /// The file that has it.

@@ -1,5 +1,5 @@
 //! What two files mean differently.
-ghost use Rattle.std.specs.Prelude.{◌≡◌, ℕ, map, IfOk};
+ghost use Rattle.std.specs.Prelude.{◌≡◌, ℕ, [], true, map, IfOk};
 ghost use Rattle.std.specs.List.Sorted.{IsSortedBy};
 ghost use Rattle.gitconf_diff.specs.PlainSections.{is_before, plain_sections, settings_in};
 ghost use Rattle.gitconf_state.specs.State.{AreNumbered};
@@ -8,11 +8,23 @@ ghost use Rattle.gitconf_diff.specs.Differences.{different_of, AreDifferences, A
 
 use crate::difference::Difference;
 use crate::differing::differing;
-use crate::sections::{SideSection, add_sections, alike_count, mentions_of, order};
+use crate::sections::{
+    SideSection, add_sections, alike_count, are_of_both, mentions_of, order, say_the_same,
+};
 use crate::setting::Side;
 use gitconf_text::NoMemory;
 use gitconf_views::section::Sections;
 use std::alloc::Global;
+
+/// Whether sections are one of each file that say the same: the same names, and the same entries one by one.
+fn are_alike(alloc: Global, group: &[SideSection<'_>]) -> Result<bool, NoMemory>
+    ensures { IfOk result (λ are. are ≡ true → AreKept (settings_in (plain_sections group.now)) []) }
+{
+    match group {
+        [one, other] if are_of_both(one, other) => say_the_same(alloc, one, other),
+        _ => Ok(false),
+    }
+}
 
 /// Adds what sections of the same names say differently.
 fn add_of_group(
@@ -22,6 +34,9 @@ fn add_of_group(
 ) -> Result<(), NoMemory>
     ensures { IfOk result (λ _. IsAdded (settings_in (plain_sections group.now)) (map different_of differences.old.items) (map different_of differences.new.items)) }
 {
+    if are_alike(alloc, group)? {
+        return Ok(());
+    }
     differing(alloc, differences, mentions_of(alloc, group)?)
 }
 
@@ -45,8 +60,8 @@ fn differences_in(alloc: Global, sections: &[SideSection<'_>]) -> Result<Vec<Dif
 /// value; the names are compared in lower case. The files say the same of a key if their entries of it mean the same in order, where
 /// one without `=` means nothing, and if lookups of it find the same value in both.
 ///
-/// It sorts the sections of both files by their names, and then the entries of those that have the same; only entries that differ are
-/// copied.
+/// It sorts the sections of both files by their names, and then the entries of those that have the same, unless they are one of each file
+/// that say the same; only entries that differ are copied.
 ///
 /// # Errors
 ///

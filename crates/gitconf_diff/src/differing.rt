@@ -73,8 +73,8 @@ fn add_differing(
     Ok(())
 }
 
-/// Adds the entries of the keys of which two files say different things, sorted by their names; of each key those of the first file
-/// come first, and each file's stay in the order in which they are given. Of other keys none.
+/// Adds the entries of the keys of which two files say different things. They are sorted by their names; of each key those of the
+/// first file come first, and each file's stay in the order in which they are given. Of other keys none.
 ///
 /// A key is said differently if its values differ, in order, or if lookups of it find different ones.
 ///

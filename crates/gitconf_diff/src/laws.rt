@@ -5,7 +5,7 @@ ghost use Rattle.gitconf_state.specs.State.{State};
 ghost use Rattle.gitconf_lookups.specs.Lookups.{implicit_at, value_at, values_at};
 ghost use Rattle.gitconf_diff.specs.Differences.{answers_at, AreDifferences, Different};
 
-/// Two files differ in nothing exactly if both say the same of every key; and then lookups of a key without a filter find the same
+/// Two files differ in nothing exactly if both say the same of every key. Then lookups of a key without a filter find the same
 /// values in both.
 pub fn nothing_differs_if_files_say_the_same()
     ensures nothing { (one other : State) (differences : List Different) → AreDifferences one.sections other.sections differences
