@@ -47,14 +47,14 @@ class Git:
         home.mkdir()
         self.environment = {"PATH": os.environ["PATH"], "HOME": str(home), "GIT_CONFIG_NOSYSTEM": "1", "GIT_TERMINAL_PROMPT": "0"}
 
-    def run(self, folder, words):
+    def run(self, directory, words):
         """Runs git; what it refuses leaves no more than it wrote."""
-        subprocess.run(["git", *words], cwd=folder, env=self.environment, stdin=subprocess.DEVNULL, stdout=subprocess.DEVNULL,
+        subprocess.run(["git", *words], cwd=directory, env=self.environment, stdin=subprocess.DEVNULL, stdout=subprocess.DEVNULL,
                        stderr=subprocess.DEVNULL, check=False)
 
-    def run_all(self, folder, calls, name):
+    def run_all(self, directory, calls, name):
         for call in calls:
-            self.run(folder, [word.replace("{name}", name) for word in call])
+            self.run(directory, [word.replace("{name}", name) for word in call])
 
 
 def files_made(room):

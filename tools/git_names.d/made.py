@@ -7,6 +7,10 @@ from patterns import is_any, split
 from sources import canonical, facts_in
 
 VERSIONS = re.compile(r"(?:RelNotes-)?(\d+(?:\.\d+)+)")
+# What a list of words has beside words.
+STANDS_FOR = {"<bool>", "<int>"}
+WORD = re.compile(r"[\w./-]+")
+QUOTED = re.compile(r"\"([^\"\n]+)\"|'([^'\n]+)'")
 NOTE_WORD = re.compile(r"[A-Za-z][\w-]*(?:\.(?:[\w*-]+|<[\w -]+>))+")
 
 
@@ -24,10 +28,32 @@ def noted_in(source):
     return first
 
 
+def quoted_in(source):
+    """The texts, in lower case, that stand in quotes in what git is built of."""
+    texts = set()
+    for file in sorted(source.rglob("*")):
+        if file.suffix in (".c", ".h", ".sh", ".perl") and file.relative_to(source).parts[0] not in ("t", "contrib", "gitk-git", "git-gui"):
+            for match in QUOTED.finditer(file.read_text(encoding="utf-8", errors="replace")):
+                texts.add((match[1] or match[2]).lower())
+    return texts
+
+
+def hold_words(name, words, row, quoted):
+    """Stops where a list of words doesn't fit its name, or has a word that git's source hasn't."""
+    if not row or row[1] != "text":
+        sys.exit(f"facts.txt: {name}, which has words, isn't read as a text")
+    for word in words:
+        if word not in STANDS_FOR and not (WORD.fullmatch(word) and word.lower() in quoted):
+            sys.exit(f"facts.txt: {name}: git's source has no `{word}` in quotes")
+    if len({word.lower() for word in words}) < len(words):
+        sys.exit(f"facts.txt: {name}: a word stands twice")
+
+
 class Table:
     """The names, by their canonical form: each with how it is spelled, its kind, which entries count, and what took its place."""
 
-    def __init__(self, facts):
+    def __init__(self, facts, quoted):
+        self.quoted = quoted
         self.rows = {name: [fact.name, *told(fact), "-"] for name, fact in facts.items()}
 
     def section(self, stem):
@@ -62,6 +88,10 @@ class Table:
                 instead = row[3] if row[3] in ("-", "none") else f"{name}.{row[3].rsplit('.', 1)[1]}"
                 self.rows.setdefault(canonical(spelled), [spelled, row[1], row[2], instead])
             return True
+        if word == "words":
+            hold_words(name, rest.split(","), self.rows.get(key), self.quoted)
+            self.rows[key][1] = f"words:{rest}"
+            return True
         row = self.rows.setdefault(key, [name, "text", "all", "-"])
         if word == "is":
             row[:3] = name, rest, row[2] if rest == "text" else "last"
@@ -87,7 +117,7 @@ def rows_of(source, facts_file):
     """The rows of names.txt."""
     facts = facts_in(source)
     sections = {name.split(".")[0] for name, fact in facts.items() if fact.is_documented}
-    table = Table({name: fact for name, fact in facts.items() if name.split(".")[0] in sections})
+    table = Table({name: fact for name, fact in facts.items() if name.split(".")[0] in sections}, quoted_in(source))
     lines = [line for line in facts_file.read_text(encoding="utf-8").splitlines() if line and not line.startswith("#")]
     # What holds for names of one section in another comes last.
     for line in sorted(lines, key=lambda line: line.startswith("like ")):

@@ -19,7 +19,7 @@ use std::alloc::{AllocGlobal, Global};
 use std::io::Read;
 use std::rt::Files;
 
-/// The key whose last value, as it is, is all that a call asks for of one text.
+/// The key whose last value is all that a call asks for of one text. The value is asked for as it is.
 pub fn key_alone<'a>(get: &Get<'a>, read: &Located) -> Option<KeyRef<'a>> {
     match (get.wanted, get.values, get.choice, read) {
         (

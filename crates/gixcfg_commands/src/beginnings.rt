@@ -26,8 +26,8 @@ enum Leading {
     Other,
 }
 
-/// An edited text with what the text before began with: its mark, which the library drops and git keeps; and the blanks before its first header
-/// on the line of that, which the library ends behind them.
+/// An edited text with what the text before began with: its mark, which the library drops and git keeps; and the whitespace before its
+/// first header on the line of that, which the library ends behind it.
 pub fn marked(alloc: Global, before: &[u8], edited: BString) -> Result<BString, Trouble>
     ensures { Answers bstring_bytes result (Ok (spec.marked before.now (bstring_bytes edited))) }
 {
@@ -55,7 +55,7 @@ fn indented(alloc: Global, before: &[u8], edited: BString) -> Result<BString, Al
     }
 }
 
-/// Where the blanks end that the first header of a text stands behind on its line, if above it are but comments and blank lines.
+/// Where the whitespace ends that the first header of a text stands behind on its line, if above it are but comments and blank lines.
 fn end_of_indent(text: &[u8]) -> Option<usize>
     ensures { result ≡ spec.end_of_indent 0 false false text.now }
 {

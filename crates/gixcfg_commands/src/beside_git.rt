@@ -7,7 +7,7 @@ use gix_config::{File, NoMemory};
 use gixcfg_core::entries::means;
 use gixcfg_core::git_reading::{GitEntry, GitWalk, Stop};
 use gixcfg_core::message::message_of_git;
-use gixcfg_core::names::{add_in_lower_case, add_section_names};
+use gixcfg_core::names::add_section_names;
 use std::alloc::Global;
 
 /// A place at which git makes something else of a text.
@@ -19,7 +19,8 @@ struct Difference {
     what: &'static str,
 }
 
-/// The messages of all places of a text of this name at which git refuses it, or reads something else than the file that the library reads.
+/// The messages of all places of a text at which git reads it otherwise. The text has this name. At these places git refuses it, or reads
+/// something else than the file that the library reads.
 ///
 /// # Errors
 ///
@@ -38,7 +39,8 @@ pub fn messages_of_git(
     Ok(messages)
 }
 
-/// The message that git takes a text of this name which the library refuses where so many bytes are left, if git does.
+/// The message that git takes a text which the library refuses, if git does. The text has this name, and the library refuses it where so
+/// many bytes are left.
 ///
 /// # Errors
 ///
@@ -89,7 +91,7 @@ fn compare_all(
 fn is_behind_front(walk: &mut GitWalk<'_>, found: &mut Vec<Difference>) -> Result<bool, Stop> {
     while walk.advance()? {
         let entry = walk.entry();
-        if entry.key.contains(&b'.') {
+        if !entry.section.is_empty() {
             return Ok(true);
         }
         add(found, entry.at, "an entry before the first section")?;
@@ -110,15 +112,20 @@ fn compare_section(
     let is_include = is_include_of_git(header.name());
     names.clear();
     add_section_names(names, header.name(), header.subsection_name())?;
-    let len = names.len();
     let (mut rest, mut has_more) = (section.items, has_entry);
     while let Some((entry, behind)) = next_entry(rest) {
         if !has_more {
             return Ok(false);
         }
-        names.truncate(len);
-        add_in_lower_case(names, entry.name().bytes_in(section.buffer))?;
-        compare(section, entry, names, &walk.entry(), is_include, found)?;
+        let of_git = walk.entry();
+        if is_include && is_path(section, entry) {
+            add(
+                found,
+                of_git.at,
+                "includes this path, since case counts for nothing",
+            )?;
+        }
+        compare(section, entry, names, &of_git, found)?;
         has_more = walk.advance()?;
         rest = behind;
     }
@@ -143,23 +150,22 @@ fn is_include_of_git(name: &[u8]) -> bool {
     is_include || is_conditional
 }
 
-/// Adds how git reads an entry of these names, if that is another way.
+/// Whether an entry names what is included.
+fn is_path(section: &SectionRef<'_>, entry: &Entry) -> bool {
+    let name = entry.name().bytes_in(section.buffer);
+    name.eq_ignore_ascii_case(b"path")
+}
+
+/// Adds how git reads an entry of a section of these names, if that is another way.
 fn compare(
     section: &SectionRef<'_>,
     entry: &Entry,
     names: &[u8],
     of_git: &GitEntry<'_>,
-    is_include: bool,
     found: &mut Vec<Difference>,
 ) -> Result<(), NoMemory> {
-    if is_include && names.ends_with(b".path") {
-        add(
-            found,
-            of_git.at,
-            "includes this path, since case counts for nothing",
-        )?;
-    }
-    if names != of_git.key {
+    let name = entry.name().bytes_in(section.buffer);
+    if names != of_git.section || !name.eq_ignore_ascii_case(of_git.name) {
         add(found, of_git.at, "reads another key")?;
     } else if !means(section, entry, of_git.value)? {
         add(found, of_git.at, "reads another value")?;

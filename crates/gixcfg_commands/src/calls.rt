@@ -68,7 +68,7 @@ impl Terminal {
 }
 
 /// Runs the program on its three streams, and returns its exit status: 0 done, 1 missing, 2 usage, 3 refused, 4 input, output or a
-/// file, 5 several entries or none, or out of memory, 128 no repository or no home folder to look in.
+/// file, 5 several entries or none, or out of memory, 128 no repository or no home directory to look in.
 ///
 /// # Errors
 ///
@@ -134,7 +134,7 @@ fn tell_input<E: Write>(err: &mut E) {
     );
 }
 
-/// Tells that a word of the call isn't UTF-8, and how calls are written, and returns the status.
+/// Tells that an argument of the call isn't UTF-8, and returns the status. It also tells how calls are written.
 pub fn tell_ill_formed<E: Write>(err: &mut E) -> u8
     ensures { IsStatus result }
 {

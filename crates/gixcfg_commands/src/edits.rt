@@ -192,8 +192,8 @@ fn edit_in_place<R: EditFiles + AllocGlobal, E: Write>(
     Err(Trouble::File(Fault::Changing))
 }
 
-/// Does an edit of the file at a place, which the user names so, if no other process changes it meanwhile. The calls of the system, on which it
-/// was done, are handed back.
+/// Does an edit of the file at a place, which the user names so, if no other process changes it meanwhile. The calls of the system, on
+/// which it was done, are returned.
 fn edit_once<D: EditCalls, E: Write>(
     place: Place<D>,
     edit: Edit<'_>,
@@ -276,7 +276,7 @@ fn edited(
     }
 }
 
-/// A text of this name as a file. It is copied, since the message of a refusal shows a line of it, and the edited text is compared with it.
+/// A text of this name as a file. It is copied, since the message of an error shows a line of it, and the edited text is compared with it.
 fn parsed(alloc: Global, name: &str, text: &[u8], outside: Outside<'_>) -> Result<File, Trouble>
     ensures made { IfOk result (λ f. (parts : List Part) × IsText text.now parts × IsMade (tokens_of parts) api_meta (length text.now) f) }
     ensures refused { IfErr result (IsRefusedText text.now outside.entry.is_colored) }
@@ -735,8 +735,8 @@ fn push(section: &mut SectionMut<'_>, name: &str, value: &[u8]) -> Result<(), Tr
     }
 }
 
-/// Gives the entry of a key at a place among its entries another value. As the last one of its section it keeps its name and the blanks
-/// around it; before others of the key it gets the blanks of the section.
+/// Gives the entry of a key at a place among its entries another value. As the last one of its section it keeps its name and the whitespace
+/// around it; before others of the key it gets that of the section.
 fn give(alloc: Global, file: &mut File, giving: &Giving<'_>, at: usize) -> Result<(), Trouble>
     ensures done { IfOk result (λ _. IsGiven (key_of giving.now.set.now.key) at giving.now.value.now file.old file.new) }
     ensures refused { IfErr result IsUnwritten }
@@ -775,7 +775,7 @@ fn set_value(section: &mut SectionMut<'_>, name: &str, value: &[u8]) -> Result<(
     }
 }
 
-/// Gives the entry of a key at a place among its entries another value, with the blanks of its section. Beside a section as `[a.b "c"]`
+/// Gives the entry of a key at a place among its entries another value, with the whitespace of its section. Beside a section as `[a.b "c"]`
 /// the library doesn't count them so.
 fn rewrite(file: &mut File, key: KeyRef<'_>, value: &[u8], at: usize) -> Result<(), Trouble>
     ensures done { IfOk result (λ _. IsRewritten (key_of key.entry) at value.now file.old file.new) }
@@ -882,7 +882,7 @@ fn owned(alloc: Global, text: Option<&[u8]>) -> Result<Option<BString>, AllocErr
     }
 }
 
-/// The trouble that a refusal to rename is.
+/// The trouble that an error of renaming is.
 fn trouble_of(refusal: rename_section::Error) -> Trouble
     ensures { result ≡ trouble_of_renaming refusal }
 {
@@ -904,7 +904,7 @@ fn trouble_of_header(refusal: &header::Error) -> Trouble
     }
 }
 
-/// The trouble of a refusal of this number, where only 3, too large, and 27, out of memory, come.
+/// The trouble of an error of this number, where only 3, too large, and 27, out of memory, come.
 fn no_room(number: u8) -> Trouble
     ensures { result ≡ no_room number }
 {

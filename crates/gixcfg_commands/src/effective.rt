@@ -196,7 +196,7 @@ pub fn counted_of<R: Loads + AllocGlobal>(
     }
 }
 
-/// A refusal of the variables of `GIT_CONFIG_COUNT`: in git's words, if the count is none, or what it counts is missing.
+/// An error of the variables of `GIT_CONFIG_COUNT`: in git's words, if the count is none, or what it counts is missing.
 #[derive(Clone, Copy)]
 struct InGitsWords<'a>(&'a from_env::Error);
 

@@ -28,9 +28,9 @@ enum Fate {
     Stays,
 }
 
-/// The numbers of the sections of a key that go when entries of it were removed: those with neither an entry nor a comment, up to the next
-/// section of another name, if one of them lost an entry and no comment stands right above them. `losses` says which sections of the key lost
-/// one, in order. One walk over the file.
+/// The numbers of the sections that go when entries of a key were removed. These are the key's sections with neither an entry nor a
+/// comment, up to the next section of another name, if one of them lost an entry and no comment stands right above them. `losses` says
+/// which sections of the key lost one, in order. One walk over the file.
 ///
 /// # Errors
 ///

@@ -45,7 +45,8 @@ pub fn all_entries(
     Ok(found)
 }
 
-/// Gives a stream all entries of a file's sections, in order, a line each as `list` prints them. They are written by pieces as they are made.
+/// Gives a stream all entries of a file's sections, in order, a line each. The lines are as `list` prints them. They are written by pieces
+/// as they are made.
 ///
 /// # Errors
 ///

@@ -18,9 +18,10 @@ use std::alloc::{AllocError, AllocGlobal, Global};
 use std::io::{Read, Write};
 use std::rt::{Env, Files};
 
-/// Prints the entries of a key in the order in which they are read, a line each: scope, file with line and column, key and value, and whether it
-/// counts; then likewise each include on the way, and whether it was followed. Returns the exit status: 0 if there is an entry, 1 if
-/// there is none; 3 if a text is refused, 4 if a file can't be read or standard output failed, 5 if out of memory. What failed is reported.
+/// Prints the entries of a key in the order in which they are read. Each has a line: scope, file with line and column, key and value, and
+/// whether it counts; then likewise each include on the way, and whether it was followed. Returns the exit status: 0 if there is an entry,
+/// 1 if there is none; 3 if a text is refused, 4 if a file can't be read or standard output failed, 5 if out of memory. What failed is
+/// reported.
 pub fn explain<R: Files + Env + Loads + AllocGlobal, I: Read + Drop, W: Write, E: Write>(
     inputs: &mut Inputs<'_, R, I>,
     call: &Explain<'_>,

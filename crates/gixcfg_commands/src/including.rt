@@ -18,7 +18,7 @@ use std::io::Read;
 use std::rt::{Env, Files};
 
 /// A text that was read there as a file, with what it includes. The text is copied, for the
-/// message of a refusal.
+/// message of an error.
 fn included<R: Files + Env + Loads + AllocGlobal>(
     rt: &R,
     read: &Located,

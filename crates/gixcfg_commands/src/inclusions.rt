@@ -80,7 +80,8 @@ fn has_url(alloc: Global, urls: &[BString], pattern: &[u8]) -> Result<bool, NoMe
 }
 
 impl Judging<'_> {
-    /// The path of the file that a section with this metadata includes by the value of `path`, or why it includes none. `urls` are those that conditions ask for.
+    /// The path of the file that a section includes, or why it includes none. The section includes it by the value of `path`. `urls` are
+    /// those that conditions ask for.
     ///
     /// # Errors
     ///

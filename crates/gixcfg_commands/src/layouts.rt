@@ -27,7 +27,7 @@ use std::alloc::{AllocGlobal, Global};
 use std::io::{Read, Write};
 use std::rt::Env;
 
-/// Lays files out, or tells which aren't, and returns the exit status: the gravest that one of them has.
+/// Formats files, or tells which aren't formatted, and returns the exit status: the gravest that one of them has.
 pub fn fmt<R: EditFiles + Env + AllocGlobal, I: Read + Drop, W: Write, E: Write>(
     inputs: &mut Inputs<'_, R, I>,
     fmt: &Fmt<'_>,
@@ -63,7 +63,7 @@ fn target_of(word: &str) -> Target<'_> {
     }
 }
 
-/// Lays a file out, reports why not, and returns the status.
+/// Formats a file, reports why not, and returns the status.
 fn fmt_target<R: EditFiles + Env + AllocGlobal, I: Read + Drop, W: Write, E: Write>(
     inputs: &mut Inputs<'_, R, I>,
     target: Target<'_>,
@@ -83,7 +83,7 @@ fn fmt_target<R: EditFiles + Env + AllocGlobal, I: Read + Drop, W: Write, E: Wri
     }
 }
 
-/// Lays a file out in place, standard input to standard output; or finds whether it is laid out.
+/// Formats a file in place, standard input to standard output; or finds whether it is formatted.
 fn lay_out<R: EditFiles + AllocGlobal, I: Read + Drop, W: Write, E: Write>(
     inputs: &mut Inputs<'_, R, I>,
     place: &Located,
@@ -107,7 +107,7 @@ fn lay_out<R: EditFiles + AllocGlobal, I: Read + Drop, W: Write, E: Write>(
     }
 }
 
-/// Finds whether a file is laid out.
+/// Finds whether a file is formatted.
 fn check_layout<R: EditFiles + AllocGlobal, I: Read + Drop>(
     inputs: &mut Inputs<'_, R, I>,
     place: &Located,
@@ -124,7 +124,7 @@ fn check_layout<R: EditFiles + AllocGlobal, I: Read + Drop>(
     }
 }
 
-/// A text of this name, laid out.
+/// A text of this name, formatted.
 pub fn laid_out(
     alloc: Global,
     name: &str,
@@ -144,7 +144,7 @@ pub fn laid_out(
     )
 }
 
-/// The layout that is asked for.
+/// The format that is asked for.
 pub fn layout_of(fmt: &Fmt<'_>) -> format::Options
     ensures { result ≡ layout_asked fmt.now }
 {

@@ -49,7 +49,8 @@ use std::fmt::Display;
 use std::io::Read;
 use std::rt::Files;
 
-/// The lines of the values that are asked for of a key, in a file with what it includes or in standard input.
+/// The lines of the values that are asked for of a key. They are those in a file with what it includes or in standard
+/// input.
 ///
 /// # Errors
 ///
@@ -126,7 +127,7 @@ fn last_in(alloc: Global, text: &[u8], key: KeyRef<'_>) -> Result<Vec<u8>, Troub
     }
 }
 
-/// A text as a file in which values are looked up: without its blanks, line ends and comments.
+/// A text as a file in which values are looked up: without its whitespace, line ends and comments.
 fn loaded_lossy(alloc: Global, text: Vec<u8>) -> Result<File, Trouble>
     ensures { IsLoad true text.items result }
 {
@@ -340,7 +341,7 @@ pub fn printed(alloc: Global, text: Vec<u8>) -> Result<Vec<u8>, Trouble>
     }
 }
 
-/// A text laid out as by default.
+/// A text formatted as by default.
 ///
 /// # Errors
 ///

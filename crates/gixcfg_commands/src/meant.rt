@@ -245,7 +245,7 @@ fn mark_of(value: &Option<BString>, mark: bool, is_missing_meant: bool) -> bool
     }
 }
 
-/// The section in which the entry at a place among those of a key is the last one of them.
+/// The section in which the entry at a place is the last of a key. The place is one among the key's entries.
 ///
 /// # Errors
 ///
@@ -282,7 +282,7 @@ fn last_at(holders: &[Holder], at: usize) -> Option<SectionId>
     None
 }
 
-/// Whether all sections that have entries of a key have its names, and none is as `[a.b "c"]`.
+/// Whether all sections that have entries of a key have its names. None is as `[a.b "c"]` then.
 ///
 /// # Errors
 ///

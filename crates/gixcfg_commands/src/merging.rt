@@ -25,9 +25,9 @@ use std::rt::Files;
 /// The status where a conflict stays.
 const CONFLICTS: u8 = 1;
 
-/// Joins what two files made of a third, prints it or gives it to a file, and returns the exit status: 0 without a conflict that stays, 1 with
-/// one; 3 if the text of one is refused, 4 if one can't be read, or the result not written, 5 if out of memory. What failed is reported, and
-/// each conflict.
+/// Joins what two files made of a third, and returns the exit status. Prints the result or gives it to a file. The status is 0 without a
+/// conflict that stays, 1 with one; 3 if the text of one is refused, 4 if one can't be read, or the result not written, 5 if out of memory.
+/// What failed is reported, and each conflict.
 pub fn merge<R: EditFiles + AllocGlobal, I: Read + Drop, W: Write, E: Write>(
     inputs: &mut Inputs<'_, R, I>,
     call: &Merge<'_>,

@@ -43,7 +43,7 @@ pub fn file_at<R: Files + AllocGlobal, I: Read + Drop>(
     entries_or_refused(inputs.rt.alloc(), word, &text, inputs.outside)
 }
 
-/// The entries of a text of this name; or how it is told that the text is refused.
+/// The entries of a text of this name, or how its error is told.
 pub fn entries_or_refused(
     alloc: Global,
     name: &str,
@@ -54,8 +54,8 @@ pub fn entries_or_refused(
     accepted(alloc, name, text, read, outside)
 }
 
-/// The entries of a text, as a file without blanks, line endings and comments. The text is copied, since the message of a refusal shows a line
-/// of it.
+/// The entries of a text, as a file without whitespace, line endings and comments. The text is copied, since the message of an error shows
+/// a line of it.
 ///
 /// # Errors
 ///

@@ -21,7 +21,8 @@ struct Kept {
     value: Option<Vec<u8>>,
 }
 
-/// The messages of what the settings of a text of this name have wrong, up to where git refuses it.
+/// The messages of what the settings of a text have wrong. The text has this name; its settings are those up to where
+/// git refuses it.
 ///
 /// # Errors
 ///
@@ -56,7 +57,7 @@ fn reads_on(walk: &mut GitWalk<'_>) -> Result<bool, NoMemory>
 fn kept_of(alloc: Global, entry: &GitEntry<'_>) -> Result<Kept, AllocError> {
     Ok(Kept {
         at: entry.at,
-        key: entry.key.to_vec(alloc)?,
+        key: entry.key(alloc)?,
         value: match entry.value {
             Some(value) => Some(value.to_vec(alloc)?),
             None => None,
@@ -116,6 +117,7 @@ fn words_of(alloc: Global, finding: &Finding<'_>) -> Result<String, AllocError> 
             let reason = reason_of(kind);
             format!(in alloc; "{key}: {reason}")
         }
+        Wrong::NoneOf(words) => words_of_none(alloc, finding.setting.key, words),
         Wrong::SetAgain => {
             format!(in alloc; "{key} counts for nothing here, since the file sets it again")
         }
@@ -138,6 +140,26 @@ fn words_of_near(alloc: Global, key: &[u8], row: &Row) -> Result<String, AllocEr
     }
 }
 
+/// That a value is none of the words that a name's value is one of, which have commas between them.
+fn words_of_none(alloc: Global, key: &[u8], words: &str) -> Result<String, AllocError> {
+    let key = Shown(BStr::new(key));
+    let mut text = format!(in alloc; "{key}: none of")?;
+    for (at, word) in words.split(',').enumerate() {
+        let (between, word) = (if at == 0 { " " } else { ", " }, shown_word(word));
+        text.push_str(format!(in alloc; "{between}{word}")?.as_str())?;
+    }
+    Ok(text)
+}
+
+/// A word of a list as it is told.
+fn shown_word(word: &str) -> &str {
+    match word {
+        "<bool>" => "a boolean",
+        "<int>" => "an integer",
+        word => word,
+    }
+}
+
 /// The subsection of a key.
 fn subsection_of(key: &[u8]) -> Option<&[u8]> {
     KeyRef::parse_unvalidated(key)?.subsection_name
@@ -149,6 +171,7 @@ fn reason_of(kind: Kind) -> &'static str {
         Kind::Bool => "not a boolean",
         Kind::Int => "not an integer",
         Kind::BoolOrInt => "neither a boolean nor an integer",
-        Kind::BoolOrStr | Kind::Path | Kind::ExpiryDate | Kind::Color => "has no value",
+        Kind::Color => "not a color",
+        Kind::BoolOrStr | Kind::Path | Kind::ExpiryDate => "has no value",
     }
 }

@@ -29,7 +29,7 @@ impl From<NoMemory> for Fault {
 }
 
 /// The entries of the variable: quoted as `'KEY'='VALUE'`, as `'KEY'=` without a value, or as git before 2.31 wrote them, as `'KEY=VALUE'`
-/// or `'KEY'`; with white space between them.
+/// or `'KEY'`; with whitespace between them.
 ///
 /// # Errors
 ///
@@ -101,7 +101,7 @@ fn behind_first(text: &[u8]) -> &[u8] {
     text.split_at(text.len().min(1)).1
 }
 
-/// Whether an entry ends at a place: there is white space or nothing.
+/// Whether an entry ends at a place: there is whitespace or nothing.
 fn is_end(text: &[u8], at: usize) -> bool {
     match text.get(at) {
         Some(byte) => byte.is_ascii_whitespace(),
@@ -114,7 +114,7 @@ fn after(text: &[u8], at: usize) -> &[u8] {
     text.split_at(at.min(text.len())).1
 }
 
-/// The first place from there on that isn't white space.
+/// The first place from there on that isn't whitespace.
 fn after_blanks(text: &[u8], at: usize) -> usize {
     let blanks = after(text, at)
         .iter()

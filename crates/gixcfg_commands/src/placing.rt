@@ -12,7 +12,7 @@ use gixcfg_core::trouble::Trouble;
 use std::alloc::AllocGlobal;
 use std::rt::Files;
 
-/// The trouble that a refusal of a load of files is: with its place, if a text is refused.
+/// The trouble that an error of a load of files is: with its place, if a text is refused.
 pub fn refused_paths<R: Files + AllocGlobal>(
     rt: &R,
     refusal: &from_paths::Error,
@@ -28,7 +28,7 @@ pub fn refused_paths<R: Files + AllocGlobal>(
     }
 }
 
-/// The trouble that a refusal of a file with what it includes is: with its place, if an included text is refused.
+/// The trouble that an error of a file with what it includes is: with its place, if an included text is refused.
 pub fn refused_init<R: Files + AllocGlobal>(
     rt: &R,
     refusal: &init::Error,
@@ -40,7 +40,7 @@ pub fn refused_init<R: Files + AllocGlobal>(
     }
 }
 
-/// The trouble that a refusal of what a file includes is: with its place, if an included text is refused; in git's words, if files include
+/// The trouble that an error of what a file includes is: with its place, if an included text is refused; in git's words, if files include
 /// each other too deep.
 pub fn refused_includes<R: Files + AllocGlobal>(
     rt: &R,
@@ -60,7 +60,7 @@ pub fn refused_includes<R: Files + AllocGlobal>(
     }
 }
 
-/// The trouble that the parser's refusal of the file at a path is: with its place, if the file is as it was then.
+/// The trouble that the parser's error for the file at a path is: with its place, if the file is as it was then.
 fn placed<R: Files + AllocGlobal>(
     rt: &R,
     path: &str,

@@ -1,4 +1,4 @@
-//! Refusals of the library, as calls without options tell them.
+//! Errors of the library, as calls without options tell them.
 ghost use Rattle.std.specs.Prelude.{◌≡◌, ◌⊎◌, IfErr, IfOk, Ok, Err};
 ghost use Rattle.gixcfg_core.specs.Troubles.{refusal_status, status_of};
 ghost use Rattle.gixcfg_core.specs.declared.trouble.Trouble.TheVariants.{Memory};
@@ -9,8 +9,8 @@ use gixcfg_core::trouble::Trouble;
 use std::alloc::Global;
 use std::fmt::Display;
 
-/// What a call of the library made, or why not, as calls without options tell it: by the number of the refusal, and by its words too, if they
-/// are the parser's.
+/// What a call of the library made, or why not. It is told as calls without options tell it: by the number of the error, and by its words
+/// too, if they are the parser's.
 ///
 /// # Errors
 ///
@@ -28,7 +28,7 @@ pub fn told<T: Drop, E: Refusal + Display + Drop>(
     }
 }
 
-/// The trouble that a refusal by the library is, told by its number.
+/// The trouble that an error by the library is, told by its number.
 pub fn by_number<E: Refusal + Display>(alloc: Global, refusal: &E) -> Trouble
     ensures status { (result ≡ Memory) ⊎ (status_of result ≡ refusal_status (E.number_of refusal.now)) }
     ensures memory { E.number_of refusal.now ≡ 27 → result ≡ Memory }

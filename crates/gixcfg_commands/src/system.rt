@@ -9,7 +9,7 @@ use gix_config::host::{Host, Places};
 use std::alloc::Global;
 use std::rc::Rc;
 
-/// Places for a host of which no load here asks the places: home folders are in the options.
+/// Places for a host of which no load here asks the places: home directories are in the options.
 fn no_places(alloc: Global) -> Places {
     Places {
         installation_config: None,

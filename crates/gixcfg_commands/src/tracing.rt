@@ -57,7 +57,7 @@ pub struct Row {
 }
 
 impl Row {
-    /// Adds what its file is called, and its line and column, if it is in a file.
+    /// Adds what its file is called. If it is in a file, its line and column follow.
     ///
     /// # Errors
     ///
@@ -132,7 +132,7 @@ pub struct Traced {
     pub includes: Vec<Include>,
 }
 
-/// What was read for a key, of what a call reads; or all that was read.
+/// What was read for a key, or all that was read. It is of what a call reads.
 ///
 /// # Errors
 ///

@@ -8,7 +8,7 @@ use Rattle.gixcfg_words.specs.declared.kinds.Kind.{Kind}
 use Rattle.gixcfg_names.specs.Known.{has_section, row_of}
 use Rattle.gixcfg_names.specs.Nearest.{nearest}
 use Rattle.gixcfg_names.specs.Rows.{Known, plain}
-use Rattle.gixcfg_names.specs.Values.{is_of}
+use Rattle.gixcfg_names.specs.Values.{is_of, is_one_of}
 use Rattle.gixcfg_names.specs.declared.findings.Finding.{Finding}
 use Rattle.gixcfg_names.specs.declared.findings.Setting.{Setting}
 use Rattle.gixcfg_names.specs.declared.findings.Wrong.{Wrong}
@@ -28,12 +28,14 @@ pub data Said : Type 0 where
   Unknown : Option Known → Said
   GivenUp : List ℕ → Said
   NotOf : Kind → Said
+  NoneOf : List ℕ → Said
   SetAgain : Said
 
 abbrev pub plain_wrong : Wrong → Said
 plain_wrong (wrongs.Unknown row) = Unknown (option_map plain row)
 plain_wrong (wrongs.GivenUp instead) = GivenUp instead.now
 plain_wrong (wrongs.NotOf kind) = NotOf kind
+plain_wrong (wrongs.NoneOf words) = NoneOf words.now
 plain_wrong wrongs.SetAgain = SetAgain
 
 -- a setting, with that
@@ -53,14 +55,21 @@ abbrev pub wrong_kind : Option Kind → (value : Option (List ℕ)) → Option K
 wrong_kind None value = None
 wrong_kind (Some kind) value = if is_of value kind then None else Some kind
 
--- of a name that git knows: given up, else a value of another type, else set again where only the last counts
-abbrev pub told_beside : (instead : Option (List ℕ)) (kind : Option Kind) (counts_for_nothing : Bool) → Option Said
-told_beside (Some text) kind nothing = Some (GivenUp text)
-told_beside None (Some kind) nothing = Some (NotOf kind)
-told_beside None None nothing = if nothing then Some SetAgain else None
+-- the words of a name, if a value is none of them
+abbrev pub wrong_words : (words : Option (List ℕ)) (value : Option (List ℕ)) → Option (List ℕ)
+wrong_words None value = None
+wrong_words (Some words) value = if is_one_of value words then None else Some words
+
+-- of a name that git knows: given up, else a value of another type, else one that is none of its words, else set again where only the last counts
+abbrev pub told_beside : (instead : Option (List ℕ)) (kind : Option Kind) (words : Option (List ℕ)) (counts_for_nothing : Bool) → Option Said
+told_beside (Some text) kind words nothing = Some (GivenUp text)
+told_beside None (Some kind) words nothing = Some (NotOf kind)
+told_beside None None (Some words) nothing = Some (NoneOf words)
+told_beside None None None nothing = if nothing then Some SetAgain else None
 
 abbrev pub told_of_known : Known → (value : Option (List ℕ)) (is_again : Bool) → Option Said
-told_of_known row value is_again = told_beside row.instead (wrong_kind row.kind value) (is_again && row.is_single)
+told_of_known row value is_again =
+    told_beside row.instead (wrong_kind row.kind value) (wrong_words row.words value) (is_again && row.is_single)
 
 -- of a name that git doesn't know in a section that it does: one that is near, or that there is none where no subsection is
 abbrev pub told_of_strange : (near : Option Known) (subsection : Option (List ℕ)) → Option Said

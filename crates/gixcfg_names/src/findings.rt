@@ -11,7 +11,7 @@ ghost use Rattle.gixcfg_names.specs.Seen.{Sees};
 use crate::known::{has_section, row_of};
 use crate::nearest::nearest;
 use crate::rows::Row;
-use crate::values::is_of;
+use crate::values::{is_of, is_one_of};
 use gitconf_sources::key::KeyRef;
 use gixcfg_words::kinds::Kind;
 use std::alloc::{AllocError, Global};
@@ -37,6 +37,8 @@ pub enum Wrong {
     GivenUp(&'static str),
     /// The value isn't of the name's type.
     NotOf(Kind),
+    /// The value is none of the words that the name's is one of, which have commas between them.
+    NoneOf(&'static str),
     /// The file sets the key again, and only the last setting counts.
     SetAgain,
 }
@@ -50,7 +52,7 @@ pub struct Finding<'a> {
     pub wrong: Wrong,
 }
 
-/// What is wrong with each setting, by what git knows; in their order, of each the first of [`Wrong`].
+/// What is wrong with each setting, by what git knows. It is in their order, of each the first of [`Wrong`].
 ///
 /// Of names in a section that git doesn't know nothing is told. In a section with a subsection, where other programs keep names of their
 /// own, a name that git doesn't know is told only if it is near one that git does. For each setting one walk over the rows, and a look
@@ -175,6 +177,9 @@ fn told_of_known(row: &Row, value: Option<&[u8]>, is_again: bool) -> Option<Wron
     if let Some(kind) = wrong_kind(row.kind, value) {
         return Some(Wrong::NotOf(kind));
     }
+    if let Some(words) = wrong_words(row.words, value) {
+        return Some(Wrong::NoneOf(words));
+    }
     if is_again && row.is_single {
         return Some(Wrong::SetAgain);
     }
@@ -187,6 +192,17 @@ fn wrong_kind(kind: Option<Kind>, value: Option<&[u8]>) -> Option<Kind>
 {
     match kind {
         Some(kind) if !is_of(value, kind) => Some(kind),
+        _ => None,
+    }
+}
+
+/// The words of a name, if a value is none of them.
+fn wrong_words(words: Option<&'static str>, value: Option<&[u8]>) -> Option<&'static str>
+    ensures { option_map (λ text. text.now) result
+        ≡ spec.wrong_words (option_map (λ text. text.now) words.entry) (option_copied value.entry) }
+{
+    match words {
+        Some(words) if !is_one_of(value, words) => Some(words),
         _ => None,
     }
 }

@@ -1,5 +1,5 @@
 //! The names that git knows, and what a file's settings have wrong beside them: misspelled names, values that aren't of their variable's
-//! type, names that git has given up, and settings that count for nothing since the file sets them again. It reads no file.
+//! type or none of its words, names that git has given up, and settings that count for nothing since the file sets them again. It reads no file.
 #![tactic(auto)]
 
 pub mod findings;

@@ -19,7 +19,7 @@ struct Near {
     distance: usize,
 }
 
-/// The row whose name is spelled most like that of a key, of the rows in its section.
+/// The row of a key's section whose name is spelled most like the key's.
 ///
 /// Of a name of up to five letters one may be put in, left out, changed or swapped, of one of up to eight two, of a longer one three. Of
 /// several rows that are as near it is the first. One walk over the rows; for each that is in the section, the product of both names' lengths.

@@ -14,8 +14,11 @@ use std::alloc::{AllocError, Global};
 pub struct Row {
     /// Its parts. A part that is `*`, or that begins with `<`, stands for whatever somebody names.
     pub key: KeyRef<'static>,
-    /// The type of its value; none if any text may be one.
+    /// The type of its value; none if any text may be one, or one of the words.
     pub kind: Option<Kind>,
+    /// The words that its value is one of, with commas between them; none if it isn't so. [`is_one_of`](crate::values::is_one_of) says what
+    /// they mean.
+    pub words: Option<&'static str>,
     /// Whether of several entries only the last counts.
     pub is_single: bool,
     /// What took its place if git has given it up, or `none` if nothing did.
@@ -65,16 +68,35 @@ fn row_of(line: &'static str) -> Option<Row>
     Some(Row {
         key: KeyRef::parse_unvalidated(name.as_bytes())?,
         kind: kind_named(kind),
+        words: words_of(kind),
         is_single: count == "last",
         instead: instead_of(instead),
     })
 }
 
-/// A text cut at its first blank, if it has one.
+/// A text cut at its first space, if it has one.
 fn cut(text: &'static str) -> Option<(&'static str, &'static str)>
     ensures { option_map spec.texts result ≡ spec.cut text.entry.now }
 {
     text.split_once(' ')
+}
+
+/// The words that a type lists, if it lists words: what stands behind `words:`.
+fn words_of(kind: &'static str) -> Option<&'static str>
+    ensures { option_map (λ text. text.now) result ≡ spec.words_of kind.entry.now }
+{
+    let (front, words) = cut_at_colon(kind)?;
+    match front {
+        "words" => Some(words),
+        _ => None,
+    }
+}
+
+/// A text cut at its first colon, if it has one.
+fn cut_at_colon(text: &'static str) -> Option<(&'static str, &'static str)>
+    ensures { option_map spec.texts result ≡ spec.cut_at_colon text.entry.now }
+{
+    text.split_once(':')
 }
 
 /// What took a name's place, by the last word of its line.

@@ -1,15 +1,17 @@
-//! Which values are of a type.
-ghost use Rattle.std.specs.Prelude.{◌≡◌};
+//! Which values are of a type, and which are of a list of words.
+ghost use Rattle.std.specs.Prelude.{◌≡◌, ◌<◌, ◌∷◌, IfSome, length, position};
 ghost use Rattle.std.specs.Option.{option_copied};
 ghost use Rattle.gixcfg_names.specs.Values as spec;
 
+use gitconf_text::parse::section::bytes::is_same_name;
+use gixcfg_core::colors::is_color;
 use gixcfg_core::numbers::{MOST, MOST_OF_32_BITS, boolean, boolean_named, integer};
 use gixcfg_words::kinds::Kind;
 
 /// Whether git takes a value for one of a type.
 ///
-/// Any text may be a path or a date, since what a date means depends on the present; colors aren't looked at. A missing value, as in an
-/// entry without `=`, is a true boolean, and else of no type. One pass over the value, which takes no memory.
+/// Any text may be a path or a date, since what a date means depends on the present. A missing value, as in an entry without `=`, is a true
+/// boolean, and else of no type. One pass over the value, which takes no memory.
 pub fn is_of(value: Option<&[u8]>, kind: Kind) -> bool
     ensures { result ≡ spec.is_of (option_copied value.entry) kind }
 {
@@ -29,7 +31,8 @@ fn writes(text: &[u8], kind: Kind) -> bool
         Kind::BoolOrInt => {
             boolean_named(text).is_some() || integer(text, MOST_OF_32_BITS).is_some()
         }
-        Kind::BoolOrStr | Kind::Path | Kind::ExpiryDate | Kind::Color => true,
+        Kind::Color => is_color(text),
+        Kind::BoolOrStr | Kind::Path | Kind::ExpiryDate => true,
     }
 }
 
@@ -38,4 +41,64 @@ fn is_of_booleans(kind: Kind) -> bool
     ensures { result ≡ spec.is_of_booleans kind }
 {
     matches!(kind, Kind::Bool | Kind::BoolOrInt | Kind::BoolOrStr)
+}
+
+/// Whether a value is one of a list of words, which has commas between them.
+///
+/// A word means itself, without ASCII case. `<bool>` stands for all that are booleans, as a missing value is one, and `<int>` for all that are
+/// integers. One walk over the list, which takes no memory.
+pub fn is_one_of(value: Option<&[u8]>, words: &str) -> bool
+    ensures { result ≡ spec.is_one_of (option_copied value.entry) words.now }
+{
+    let mut left = Some(words.as_bytes());
+    while let Some(list) = left {
+        let (word, behind) = first_word(list);
+        if is_word(value, word) {
+            return true;
+        }
+        left = behind;
+    }
+    false
+}
+
+/// The first word of a list, and what follows the comma behind it, if there is one.
+#[tactic(auto, using(crate::proofs::Words::only_word))]
+fn first_word(list: &[u8]) -> (&[u8], Option<&[u8]>)
+    ensures { spec.words_in list.now ≡ result.0.now ∷ spec.words_left (option_copied result.1) }
+{
+    match first_comma(list) {
+        Some(end) => (&list[..end], Some(&list[end + 1..])),
+        None => (list, None),
+    }
+}
+
+/// The place of the first comma.
+fn first_comma(list: &[u8]) -> Option<usize>
+    ensures place { result ≡ position spec.is_comma list.now }
+    ensures within { IfSome result (λ n. n < length list.now) }
+{
+    list.iter().position(|byte| *byte == b',')
+}
+
+/// Whether a value is what a word of a list means.
+fn is_word(value: Option<&[u8]>, word: &[u8]) -> bool
+    ensures { result ≡ spec.is_word (option_copied value.entry) word.now }
+{
+    if word == b"<bool>".as_slice() {
+        return is_of(value, Kind::Bool);
+    }
+    if word == b"<int>".as_slice() {
+        return is_of(value, Kind::Int);
+    }
+    is_spelled(value, word)
+}
+
+/// Whether a value is spelled as a word, without case.
+fn is_spelled(value: Option<&[u8]>, word: &[u8]) -> bool
+    ensures { result ≡ spec.is_spelled (option_copied value.entry) word.now }
+{
+    match value {
+        Some(value) => is_same_name(value, word),
+        None => false,
+    }
 }
