@@ -1,13 +1,19 @@
 //! Times what the Rust crate does with a file, as often as asked: `bench WHAT ROUNDS KEY FILE`.
 //!
-//! WHAT is a word of `crates/bench`, but `match` and `in-text`; each round prints its nanoseconds.
-use std::{collections::BTreeSet, hint::black_box, mem, time::Instant};
+//! WHAT is a word of `crates/bench`, but `match` and `in-text`; each round prints its nanoseconds. With `--cfg binding` it is a program
+//! over the crate of bindings/rust, which lacks events and the driver's table of files.
+#[cfg(not(binding))]
+use std::collections::BTreeSet;
+use std::{hint::black_box, mem, time::Instant};
 
 use gix_config::{
     File,
-    file::{Metadata, includes, init},
-    format, parse, value,
+    file::{Metadata, init},
+    format,
 };
+#[cfg(not(binding))]
+use gix_config::{file::includes, parse, value};
+#[cfg(not(binding))]
 use host::Entry;
 
 const LOOKUPS: u32 = 256;
@@ -31,6 +37,7 @@ fn nanos(work: impl FnOnce()) -> u128 {
     start.elapsed().as_nanos()
 }
 
+#[cfg(not(binding))]
 fn events(text: &[u8]) -> u128 {
     nanos(|| drop(black_box(parse::Events::from_bytes(black_box(text), None)).ok().expect("a text that is read")))
 }
@@ -51,6 +58,7 @@ fn push(text: &[u8], key: &str) -> u128 {
 }
 
 /// The text at a path of the form `/DEPTH/SECTIONS/NAME`, as `made` of `crates/bench` makes it, and the path that it includes.
+#[cfg(not(binding))]
 fn made(path: &str) -> (String, Option<String>) {
     let [_, depth, sections, name] = path.splitn(4, '/').collect::<Vec<_>>()[..] else {
         panic!("{path} is not of that form");
@@ -67,6 +75,7 @@ fn made(path: &str) -> (String, Option<String>) {
 }
 
 /// Puts all files into the driver's table that are included, so that reading one copies its bytes.
+#[cfg(not(binding))]
 fn make_files(file: &File) {
     let paths: BTreeSet<String> =
         file.strings("include.path").unwrap_or_default().iter().map(|path| path.to_string()).collect();
@@ -80,6 +89,7 @@ fn make_files(file: &File) {
     }
 }
 
+#[cfg(not(binding))]
 fn include(text: &[u8]) -> u128 {
     let mut file = load(text);
     let includes = includes::Options {
@@ -106,6 +116,7 @@ fn main() {
         "lossy" => load_lossy(&text),
         _ => load(&text),
     };
+    #[cfg(not(binding))]
     if what == "include" {
         make_files(&file);
     }
@@ -114,6 +125,7 @@ fn main() {
             // An earlier file is let go.
             "load" => nanos(|| drop(mem::replace(&mut file, load(&text)))),
             "lossy" => nanos(|| drop(mem::replace(&mut file, load_lossy(&text)))),
+            #[cfg(not(binding))]
             "events" => events(&text),
             "look-up" => look_ups(|| drop(black_box(file.string(black_box(key))))),
             "raw" => look_ups(|| drop(black_box(file.raw_value(black_box(key))))),
@@ -126,8 +138,10 @@ fn main() {
             "print" => nanos(|| drop(black_box(file.to_bstring()))),
             "set" => set(&text, key),
             "push" => push(&text, key),
+            #[cfg(not(binding))]
             "include" => include(&text),
             "lay-out" => nanos(|| drop(black_box(format::normalize(black_box(&text), Default::default())).ok())),
+            #[cfg(not(binding))]
             "decode" => nanos(|| drop(black_box(value::normalize(black_box(text.as_slice()))))),
             _ => panic!("{what} is no measure"),
         };

@@ -1,5 +1,6 @@
 """The table of docs/benchmarks.md: a row for each call and each process, a column for each program that is here and does it."""
 
+import itertools
 import os
 import shutil
 import statistics
@@ -7,7 +8,8 @@ import sys
 from concurrent.futures import ThreadPoolExecutor
 from typing import NamedTuple
 
-from programs import Files, Git, Libgit2, Missing, NEW_VALUE, Ours, PythonReader, Theirs, instructions, instructions_of_call, peak, wall
+from programs import (Files, Git, InC, InRust, Libgit2, Missing, NEW_VALUE, Ours, PythonReader, Theirs, instructions,
+                      instructions_of_call, out, peak, wall)
 import texts
 
 UNITS = {"s": 1e9, "ms": 1e6, "µs": 1e3, "ns": 1}
@@ -43,11 +45,14 @@ class Call(NamedTuple):
     def is_done_by(self, program):
         return self.what in program.calls
 
+    def text(self, files):
+        return files.including if self.what == "include" else files.text
+
     def nanos(self, program, files, key):
-        return program.nanos(self.what, files.text, key)
+        return program.nanos(self.what, self.text(files), key)
 
     def count(self, program, files, key):
-        return instructions_of_call(program, self.what, files.text, key)
+        return instructions_of_call(program, self.what, self.text(files), key)
 
     def command(self, program, files, key):
         """A process that makes the call once, if it is a load."""
@@ -77,23 +82,29 @@ class Process(NamedTuple):
 
 LOAD = Call("load", "full load, an earlier file freed")
 LOSSY = Call("lossy", "lossy load, an earlier file freed")
+LOOK_UP = Call("look-up", "lookup in a loaded file")
 GET = Process("get", "`gixcfg get`")
 ROWS = (
     Call("events", "`Events::from_bytes`"),
     LOAD,
     LOSSY,
-    Call("look-up", "lookup in a loaded file"),
+    LOOK_UP,
     Call("in-text", "lookup in the text, without a file"),
     Call("print", "print"),
     # Its instructions would be what is left of two loads, which vary by more where hashing is random, as in the Rust crate.
     Call("set", "set a value", is_counted=False),
     Call("lay-out", "layout"),
+    # (what is timed is less than the process does, so instructions would say something else)
+    Call("include", "1,000 includes resolved", is_counted=False),
     GET,
     Process("list", "`gixcfg list`"),
     Process("set", "`gixcfg set`"),
     Process("fmt", "`gixcfg fmt`"),
     Process("diff", "`gixcfg diff`"),
     Process("check", "`gixcfg check`"),
+    Process("get of few", "`gixcfg get` in a file of ten lines"),
+    Process("list of all", "`gixcfg list --effective`"),
+    Process("get of all", "`gixcfg get --effective`"),
 )
 # Of which the memory is told, too.
 MEMORY = {LOAD: "memory of a full load", LOSSY: "memory of a lossy load", GET: "memory of `gixcfg get`"}
@@ -120,6 +131,10 @@ def if_here(name, make):
         return None
 
 
+INCLUDES = 1000
+SMALL = b"[core]\n\tbare = false\n[user]\n\tname = Ada\n\temail = ada@a.test\n[alias]\n\tci = commit\n\tco = checkout\n\tst = status\n[pull]\n\trebase = true\n"
+
+
 def rust_crate(work):
     return if_here("the Rust crate", lambda: Theirs(of_environment("ORACLE"), work))
 
@@ -135,6 +150,16 @@ def programs_of(crate, work, other_git):
         if_here("GitPython", lambda: PythonReader("gitpython", work)),
     ]
     return [Ours(), *filter(None, others)]
+
+
+def bindings(work):
+    """The libraries over ours that are here."""
+    found = [
+        if_here("the library for C", lambda: InC(work)),
+        if_here("the crate for Rust", lambda: InRust(work)),
+        if_here("the package for Python", lambda: PythonReader("gixcfg", work)),
+    ]
+    return list(filter(None, found))
 
 
 def counts_of(row, programs, files, key):
@@ -182,12 +207,38 @@ def key_of_last(sections):
     return f"remote.name-{sections - 1}.url"
 
 
+def make_repository(repository):
+    """A repository with five files of configuration: the system's, the user's, what that includes, its own, and the work tree's."""
+    out(["git", "init", "-q", repository / "work"])
+    own = repository / "work/.git/config"
+    own.write_bytes(own.read_bytes() + b"[extensions]\n\tworktreeConfig = true\n" + texts.remotes(2))
+    (repository / "work/.git/config.worktree").write_bytes(b"[core]\n\tsparseCheckout = true\n")
+    (repository / "system").write_bytes(b"[core]\n\tpager = less\n")
+    (repository / ".gitconfig").write_bytes(SMALL + b"[include]\n\tpath = included\n")
+    (repository / "included").write_bytes(b"[commit]\n\tgpgSign = false\n")
+
+
 def write_files(work, sections):
     """Writes the files that are measured. The other one has another value in its last section."""
     files = Files.below(work)
+    files.including.write_bytes(texts.including(sections, INCLUDES, "spread", texts.made(1, 1)))
+    files.small.write_bytes(SMALL)
+    files.repository.mkdir()
+    make_repository(files.repository)
     files.text.write_bytes(texts.remotes(sections))
     files.other.write_bytes(files.text.read_bytes().replace(f"//a.test/{sections - 1}.git".encode(), NEW_VALUE.encode()))
     return files
+
+
+def write_growing(files, sections):
+    """Writes the files of the commands whose growth alone is held: as many entries of one key as sections, as many sections for URLs,
+    and a file that includes another one for each twenty."""
+    files.one_key.write_bytes(texts.one_key(sections))
+    files.urls.write_bytes(texts.urls(sections))
+    files.includes.write_bytes(texts.includes(sections // 20))
+    files.included.mkdir()
+    for number in range(sections // 20):
+        (files.included / str(number)).write_bytes(texts.included(number))
 
 
 def table(programs, rounds, sections, work):
@@ -197,5 +248,8 @@ def table(programs, rounds, sections, work):
     yield line(*["---"] * (len(programs) + 1))
     for row in ROWS:
         yield line(row.name, *time_and_count(row, programs, files, key, rounds))
+    for binding, row in itertools.product(bindings(work), (LOAD, LOOK_UP)):
+        [told] = time_and_count(row, [binding], files, key, rounds)
+        yield line(f"{row.name}, {binding.name}", told, *[""] * (len(programs) - 1))
     for row, name in MEMORY.items():
         yield line(name, *memory(row, programs, files, key))

@@ -17,7 +17,15 @@ import texts
 
 HERE = Path(__file__).resolve().parent
 TOP = HERE.parent.parent
+REGISTRY = Path("/usr/share/cargo/registry")
+"""Where Debian's packages put the crates that the one for Rust stands on."""
 NEW_VALUE = "//new.test/value.git"
+FEW_KEY = "user.name"
+"""A key that the file of some lines has, and one of the files of the repository."""
+ONE_KEY = "a.k"
+"""The key of the file in which all entries are of one key."""
+URL, URL_KEY = "https://host7.test/", "http.proxy"
+"""One of the URLs that have a section each, and a key of all these sections."""
 # The C library copies and searches by instructions that it chooses by the processor, and some processors count a copy by its bytes.
 # Without these choices it does the same on each that runs our programs.
 SAME_EVERYWHERE = {"GLIBC_TUNABLES": "glibc.cpu.hwcaps=-AVX2,-AVX512F,-AVX_Fast_Unaligned_Load,-ERMS"}
@@ -35,20 +43,40 @@ class Missing(Exception):
 
 
 class Files(NamedTuple):
-    """The files of a measure: the text, another one to compare it with, and one that is edited, each time a copy of the text."""
+    """The files of a measure: the text, another one to compare it with, one that is edited, each time a copy of the text, a text that
+    includes, one of some lines, and the directory of a repository; then those of commands whose growth alone is held: entries of one
+    key, sections for URLs, a file that includes others, and the directory of these."""
     text: Path
     other: Path
     edited: Path
+    including: Path
+    small: Path
+    repository: Path
+    one_key: Path
+    urls: Path
+    includes: Path
+    included: Path
 
     @classmethod
     def below(cls, work):
         return cls(*(work / name for name in cls._fields))
 
+    def in_repository(self, words):
+        """A process in the repository, whose user and system have a file each."""
+        own = {"HOME": str(self.repository), "GIT_CONFIG_SYSTEM": str(self.repository / "system"), "XDG_CONFIG_HOME": str(self.repository)}
+        return Command(words, directory=self.repository / "work", environment=own)
+
 
 class Command(NamedTuple):
-    """The words of a process, and the file that is its standard input."""
+    """The words of a process, the file that is its standard input, where it runs, and what its environment has besides."""
     words: list
     stdin: Path = Path(os.devnull)
+    directory: Path = None
+    environment: dict = {}
+
+    def surroundings(self):
+        """What the process is given beside its words and its input."""
+        return {"cwd": self.directory, "env": {**os.environ, **self.environment}}
 
 
 def out(command, **streams):
@@ -76,9 +104,10 @@ def nanos(command):
 
 def wall(command):
     """The nanoseconds of a whole process, which writes to nowhere. It may end with status 1."""
+    given = command.surroundings()
     with open(command.stdin, "rb") as text:
         start = time.perf_counter_ns()
-        run = subprocess.run([*under(), *command.words], stdin=text, stdout=subprocess.DEVNULL, close_fds=False, check=False)
+        run = subprocess.run([*under(), *command.words], stdin=text, stdout=subprocess.DEVNULL, close_fds=False, check=False, **given)
         taken = time.perf_counter_ns() - start
     if run.returncode not in (0, 1):
         raise Missing(f"{command.words[0]} ended with {run.returncode}")
@@ -92,7 +121,7 @@ def instructions(command):
         raise Missing("there is no program valgrind, which counts instructions")
     with open(command.stdin, "rb") as text:
         run = subprocess.run([*counter, *command.words], stdin=text, stdout=subprocess.DEVNULL, stderr=subprocess.PIPE, check=False,
-                             env={**os.environ, **SAME_EVERYWHERE})
+                             cwd=command.directory, env={**os.environ, **command.environment, **SAME_EVERYWHERE})
     found = re.search(rb"Collected : (\d+)", run.stderr)
     if run.returncode not in (0, 1) or not found:
         raise Missing(f"{command.words[0]} under valgrind: {run.stderr.decode(errors='replace')[-300:]}")
@@ -156,8 +185,9 @@ class Program:
 class Ours(Program):
     """The programs of a checkout in which they are built."""
 
-    calls = ("events", "load", "lossy", "look-up", "in-text", "print", "set", "push", "lay-out")
-    processes = ("get", "list", "set", "fmt", "diff", "check")
+    calls = ("events", "load", "lossy", "look-up", "in-text", "print", "set", "push", "lay-out", "include")
+    processes = ("get", "list", "set", "fmt", "diff", "check", "get of few", "list of all", "get of all", "unset all", "get by url",
+                 "list with includes")
     one_load = 0
 
     def __init__(self, top=TOP):
@@ -184,22 +214,29 @@ class Ours(Program):
             "fmt": (["fmt"], files.text),
             "diff": (["diff", files.text, files.other], os.devnull),
             "check": (["check", files.text], os.devnull),
+            "get of few": (["get", "-f", files.small, FEW_KEY], os.devnull),
+            "list of all": (["list", "--effective"], None),
+            "get of all": (["get", "--effective", FEW_KEY], None),
+            "unset all": (["unset", "-f", files.one_key, "--all", ONE_KEY], os.devnull),
+            "get by url": (["get", "-f", files.urls, "--url", URL, URL_KEY], os.devnull),
+            "list with includes": (["list", "--includes", "-f", files.includes], os.devnull),
         }[what]
-        return Command([self.program("gixcfg"), *words], text)
+        words = [self.program("gixcfg"), *words]
+        return Command(words, text) if text else files.in_repository(words)
 
 
 class Theirs(Program):
     """The Rust crate's driver, with the program bench.rs beside it."""
 
     name = "gix-config 0.60.0"
-    calls = ("events", "load", "lossy", "look-up", "print", "set", "push", "lay-out")
+    calls = ("events", "load", "lossy", "look-up", "print", "set", "push", "lay-out", "include")
     one_load = 0
 
     def __init__(self, oracle, work):
         copy = Path(work) / "oracle"
         shutil.copytree(oracle, copy)
-        for folder, _, _ in os.walk(copy):
-            os.chmod(folder, 0o755)
+        for directory, _, _ in os.walk(copy):
+            os.chmod(directory, 0o755)
         programs = copy / "oracle/src/bin"
         programs.mkdir(exist_ok=True)
         shutil.copy(HERE / "bench.rs", programs / "bench.rs")
@@ -213,15 +250,69 @@ class Theirs(Program):
 class Git(Program):
     """A git, which is only measured as a process."""
 
-    processes = ("get", "list", "set")
+    processes = ("get", "list", "set", "get of few", "list of all", "get of all")
 
     def __init__(self, path="git"):
         self.path = path
         self.name = out([path, "--version"]).strip().replace(" version", "")
 
     def process(self, what, files, key):
-        file, words = {"get": (files.text, ["--get", key]), "list": (files.text, ["--list"]), "set": (files.edited, [key, NEW_VALUE])}[what]
+        file, words = {
+            "get": (files.text, ["--get", key]),
+            "list": (files.text, ["--list"]),
+            "set": (files.edited, [key, NEW_VALUE]),
+            "get of few": (files.small, ["--get", FEW_KEY]),
+            "list of all": (None, ["--list"]),
+            "get of all": (None, ["--get", FEW_KEY]),
+        }[what]
+        if file is None:
+            return files.in_repository([self.path, "config", *words])
         return Command([self.path, "config", "-f", file, *words])
+
+
+class Binding(Program):
+    """A library over the one for C, which lies in out/lib."""
+
+    calls = ("load", "look-up")
+    one_load = 0
+
+    def call(self, what, rounds, key, file):
+        return Command([*self.words, what, str(rounds), key, file])
+
+
+def library_for_c(top):
+    """The directory of the library for C."""
+    if not (top / "out/lib/libgix_config.a").exists():
+        raise Missing(f"{top}/out/lib has no library: tools/c_library")
+    return top / "out/lib"
+
+
+class InC(Binding):
+    """That library itself."""
+
+    name = "from C"
+
+    def __init__(self, work, top=TOP):
+        self.words = [Path(work) / "in_c"]
+        library = library_for_c(top)
+        out(["cc", "-O2", f"-I{library}", HERE / "in_c.c", library / "libgix_config.a", "-o", *self.words])
+
+
+class InRust(Binding):
+    """The crate for Rust, by the program of the Rust crate, whose names it has but for those of events."""
+
+    name = "from Rust"
+
+    def __init__(self, work, top=TOP):
+        crate, target = Path(work) / "binding", Path(work) / "binding-target"
+        shutil.copytree(top / "bindings/rust", crate, ignore=shutil.ignore_patterns("target", "Cargo.lock"))
+        shutil.copy(HERE / "bench.rs", crate / "examples/bench.rs")
+        (crate / ".cargo").mkdir()
+        (crate / ".cargo/config.toml").write_text(
+            f'[source.crates-io]\nreplace-with = "debian"\n\n[source.debian]\ndirectory = "{REGISTRY}"\n', encoding="utf-8")
+        given = {"GIX_CONFIG_LIBRARY": str(library_for_c(top)), "CARGO_TARGET_DIR": str(target), "RUSTFLAGS": "--cfg binding"}
+        out(["cargo", "build", "--release", "--example", "bench"], cwd=crate, env={**os.environ, **given})
+        self.words = [target / "release/examples/bench"]
 
 
 class Libgit2(Program):

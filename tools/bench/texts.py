@@ -26,6 +26,26 @@ def remotes(sections):
     return "".join(map(_remote, range(sections))).encode()
 
 
+def one_key(entries):
+    """A section with so many entries of one key, each with another value."""
+    return b"[a]\n" + b"".join(b"\tk = v%d\n" % n for n in range(entries))
+
+
+def urls(sections):
+    """So many sections, each for another URL."""
+    return b"".join(b'[http "https://host%d.test/"]\n\tproxy = p%d\n' % (n, n) for n in range(sections))
+
+
+def includes(files):
+    """Sections that include so many files, whose names are numbers, from the directory `included`."""
+    return b"".join(b"[include]\n\tpath = included/%d\n" % n for n in range(files))
+
+
+def included(number):
+    """The file of that number: two entries."""
+    return b"[a%d]\n\tk = v\n\tl = w\n" % number
+
+
 # Texts that grow: what grows, the text of so many, how many there are in the larger of two texts, and a key of both.
 GROWING = [
     ("sections", remotes, 100000, "remote.name-7.url"),
