@@ -4,6 +4,7 @@ mod MessageLemmas
 mod PlaceLemmas
 mod WidthLemmas
 mod Digits
+mod ColorLemmas
 mod Choices
 mod Told
 mod Negated

@@ -36,7 +36,8 @@ impl Closest {
         Ok(())
     }
 
-    /// Of each name the entry whose section matches most closely, of several that match alike the last one; in the order of their names.
+    /// Of each name the entry whose section matches most closely. Of several that match alike it is the last one. They are in the order
+    /// of their names.
     ///
     /// # Errors
     ///

@@ -1,9 +1,10 @@
 //! Colors as git reads them, by its manual page `git-config`, "Values", and as `git config --type=color` prints them: the sequence
 //! of bytes that tells a terminal.
-ghost use Rattle.std.specs.Prelude.{◌≡◌, ◌≤◌, ◌++◌, IfOk, OnOk, string_bytes};
+ghost use Rattle.std.specs.Prelude.{◌≡◌, ◌≤◌, ◌<◌, ◌++◌, ◌&&◌, leb, ◌∷◌, length, map, position, if◌then◌else◌, IfOk, OnOk, IfSome, string_bytes};
+ghost use Rattle.std.specs.Option.{is_some, option_copied};
 ghost use Rattle.gixcfg_core.specs.Colors as spec;
 
-use crate::numbers::{after_blanks, byte_of};
+use crate::numbers::{after_blanks, after_sign, byte_of, digits_at_front};
 use gitconf_text::parse::section::bytes::is_same_name;
 use std::alloc::{AllocError, Global};
 
@@ -20,50 +21,12 @@ enum Color {
     Mixed(u8, u8, u8),
 }
 
-/// An attribute of text, and the numbers that turn it on and off.
+/// The numbers that turn an attribute of text on and off.
+#[derive(Clone, Copy)]
 struct Attribute {
-    name: &'static [u8],
     on: u8,
     off: u8,
 }
-
-static ATTRIBUTES: [Attribute; 7] = [
-    Attribute {
-        name: b"bold",
-        on: 1,
-        off: 22,
-    },
-    Attribute {
-        name: b"dim",
-        on: 2,
-        off: 22,
-    },
-    Attribute {
-        name: b"italic",
-        on: 3,
-        off: 23,
-    },
-    Attribute {
-        name: b"ul",
-        on: 4,
-        off: 24,
-    },
-    Attribute {
-        name: b"blink",
-        on: 5,
-        off: 25,
-    },
-    Attribute {
-        name: b"reverse",
-        on: 7,
-        off: 27,
-    },
-    Attribute {
-        name: b"strike",
-        on: 9,
-        off: 29,
-    },
-];
 
 static NAMES: [&[u8]; 8] = [
     b"black", b"red", b"green", b"yellow", b"blue", b"magenta", b"cyan", b"white",
@@ -92,8 +55,14 @@ struct Style {
 }
 
 impl Style {
+    ghost use Rattle.std.specs.Prelude.{◌≡◌, ◌+◌, ◌&&◌, true, leb, ltb, IsTrue};
+    ghost use Rattle.gixcfg_core.specs.Colors.{is_word, color_count, colors_in, is_in_order};
+
     /// Nothing is asked for.
-    fn none() -> Style {
+    fn none() -> Style
+        ensures colors { colors_in result ≡ 0 }
+        ensures order { is_in_order result ≡ true }
+    {
         Style {
             has_reset: false,
             attributes: [false; 30],
@@ -102,21 +71,37 @@ impl Style {
         }
     }
 
-    /// Adds what a word asks for; whether it asks for anything that is left to ask for.
-    fn add(&mut self, word: &[u8]) -> bool {
-        if is_same_name(word, b"reset") {
+    /// Adds what a word asks for; whether that is left to ask for.
+    fn add(&mut self, word: &[u8]) -> bool
+        requires { is_in_order self.old ≡ true }
+        ensures added { result ≡ (is_word word.now && leb (colors_in self.old + color_count word.now) 2) }
+        ensures colors { IsTrue result → colors_in self.new ≡ colors_in self.old + color_count word.now }
+        ensures order { is_in_order self.new ≡ true }
+    {
+        if word.is_empty() {
+            return true;
+        }
+        if is_reset(word) {
             self.has_reset = true;
             return true;
         }
         match (color_of(word), attribute_of(word)) {
             (Some(color), _) => self.add_color(color),
-            (None, Some(code)) => self.add_attribute(code),
+            (None, Some(code)) => {
+                self.attributes[code as usize] = true;
+                true
+            }
             (None, None) => false,
         }
     }
 
-    /// Adds the color of text, or else the one behind it.
-    fn add_color(&mut self, color: Color) -> bool {
+    /// Adds the color of text, or else the one behind it; whether one of them was left.
+    fn add_color(&mut self, color: Color) -> bool
+        requires { is_in_order self.old ≡ true }
+        ensures added { result ≡ ltb (colors_in self.old) 2 }
+        ensures colors { IsTrue result → colors_in self.new ≡ colors_in self.old + 1 }
+        ensures order { is_in_order self.new ≡ true }
+    {
         if self.foreground.is_none() {
             self.foreground = Some(color);
         } else if self.background.is_none() {
@@ -126,21 +111,12 @@ impl Style {
         }
         true
     }
-
-    /// Adds an attribute by its number.
-    fn add_attribute(&mut self, code: u8) -> bool {
-        match self.attributes.get_mut(code as usize) {
-            Some(attribute) => {
-                *attribute = true;
-                true
-            }
-            None => false,
-        }
-    }
 }
 
 /// Whether a text is a color with attributes. One pass, which takes no memory.
-pub fn is_color(text: &[u8]) -> bool {
+pub fn is_color(text: &[u8]) -> bool
+    ensures { result ≡ spec.is_color text.now }
+{
     style_of(text).is_some()
 }
 
@@ -156,15 +132,54 @@ pub fn sequence_of(alloc: Global, text: &[u8]) -> Result<Option<Vec<u8>>, AllocE
     }
 }
 
-/// What the words of a text ask for.
-fn style_of(text: &[u8]) -> Option<Style> {
+/// What the words of a text ask for; `None` if it is no color.
+fn style_of(text: &[u8]) -> Option<Style>
+    ensures { is_some result ≡ spec.is_color text.now }
+{
     let mut style = Style::none();
-    for word in text.split(|byte| matches!(*byte, b' ' | b'\t' | b'\n' | b'\r')) {
-        if !word.is_empty() && !style.add(word) {
+    let mut left = Some(text);
+    while let Some(rest) = left {
+        let (word, behind) = first_word(rest);
+        if !style.add(word) {
             return None;
         }
+        left = behind;
     }
     Some(style)
+}
+
+/// The first word, and what follows the byte behind it, if there is one.
+#[tactic(auto, using(crate::proofs::ColorLemmas::only_word))]
+fn first_word(text: &[u8]) -> (&[u8], Option<&[u8]>)
+    ensures { spec.words_in text.now ≡ result.0.now ∷ spec.words_left (option_copied result.1) }
+{
+    match first_between(text) {
+        Some(end) => (&text[..end], Some(&text[end + 1..])),
+        None => (text, None),
+    }
+}
+
+/// The place of the first byte that is between words.
+fn first_between(text: &[u8]) -> Option<usize>
+    ensures place { result ≡ position spec.is_between text.now }
+    ensures within { IfSome result (λ n. n < length text.now) }
+{
+    text.iter().position(|byte| is_between(*byte))
+}
+
+/// Whether a word takes all back.
+#[tactic(auto, unfolding(crate::specs::Colors::is_reset))]
+fn is_reset(word: &[u8]) -> bool
+    ensures { result ≡ spec.is_reset word.now }
+{
+    is_same_name(word, b"reset")
+}
+
+/// Whether a byte is between words.
+fn is_between(byte: u8) -> bool
+    ensures { result ≡ spec.is_between byte }
+{
+    matches!(byte, b' ' | b'\t' | b'\n' | b'\r')
 }
 
 /// The sequence of a style.
@@ -235,7 +250,10 @@ fn add_codes(codes: &mut String, color: Option<Color>, more: u16) -> Result<(), 
 }
 
 /// The color of a word.
-fn color_of(word: &[u8]) -> Option<Color> {
+#[tactic(auto, unfolding(crate::specs::Colors::is_color_word))]
+fn color_of(word: &[u8]) -> Option<Color>
+    ensures { is_some result ≡ spec.is_color_word word.now }
+{
     if is_same_name(word, b"normal") {
         return Some(Color::Normal);
     }
@@ -245,23 +263,46 @@ fn color_of(word: &[u8]) -> Option<Color> {
     mixed(word).or(named(word)).or(numbered(word))
 }
 
-/// The color of three hexadecimal numbers behind `#`, of two digits each, or of one that counts twice.
-fn mixed(word: &[u8]) -> Option<Color> {
+/// The color of the hexadecimal digits behind `#`.
+fn mixed(word: &[u8]) -> Option<Color>
+    ensures { is_some result ≡ spec.is_mixed word.now }
+{
     match word {
-        [b'#', r, g, b] => mix([*r, *r, *g, *g, *b, *b]),
-        [b'#', r, s, g, h, b, c] => mix([*r, *s, *g, *h, *b, *c]),
+        [b'#', digits @ ..] => mixed_of(digits),
         _ => None,
     }
 }
 
-/// The color of six hexadecimal digits.
-fn mix(digits: [u8; 6]) -> Option<Color> {
-    let [r, s, g, h, b, c] = digits;
-    Some(Color::Mixed(byte_of(r, s)?, byte_of(g, h)?, byte_of(b, c)?))
+/// The color of three hexadecimal numbers, of two digits each, or of one that counts twice.
+fn mixed_of(digits: &[u8]) -> Option<Color>
+    ensures { is_some result ≡ spec.are_of_three digits.now }
+{
+    match digits {
+        [r, g, b] => mix(share_of(*r, *r), share_of(*g, *g), share_of(*b, *b)),
+        [r, s, g, h, b, c] => mix(share_of(*r, *s), share_of(*g, *h), share_of(*b, *c)),
+        _ => None,
+    }
+}
+
+/// How much of one color two hexadecimal digits ask for.
+#[tactic(auto, unfolding(crate::specs::Colors::is_hexadecimal))]
+fn share_of(high: u8, low: u8) -> Option<u8>
+    ensures { is_some result ≡ (spec.is_hexadecimal high && spec.is_hexadecimal low) }
+{
+    byte_of(high, low)
+}
+
+/// The color of so much red, green and blue.
+fn mix(red: Option<u8>, green: Option<u8>, blue: Option<u8>) -> Option<Color>
+    ensures { is_some result ≡ (is_some red && is_some green && is_some blue) }
+{
+    Some(Color::Mixed(red?, green?, blue?))
 }
 
 /// The color of this name, bright if `bright` comes first.
-fn named(word: &[u8]) -> Option<Color> {
+fn named(word: &[u8]) -> Option<Color>
+    ensures { is_some result ≡ spec.is_named word.now }
+{
     let (front, rest) = word.split_at_checked(6).unwrap_or((b"", word));
     if is_same_name(front, b"bright") {
         named_from(rest, BRIGHT)
@@ -273,37 +314,90 @@ fn named(word: &[u8]) -> Option<Color> {
 /// The color of this name, the numbers of colors beginning with that of black.
 fn named_from(word: &[u8], black: u8) -> Option<Color>
     requires { black ≤ 90 }
+    ensures { is_some result ≡ spec.is_one_of spec.color_names word.now }
 {
-    let place = NAMES.iter().position(|name| is_same_name(name, word))?;
-    Some(Color::Named(black + place as u8))
+    match place_of(&NAMES, word) {
+        Some(place) => Some(Color::Named(black + place as u8)),
+        None => None,
+    }
+}
+
+/// The place of the first of the names that a word is.
+#[tactic(auto, unfolding(crate::specs::Colors::is_one_of))]
+fn place_of(names: &[&[u8]], word: &[u8]) -> Option<usize>
+    ensures named { is_some result ≡ spec.is_one_of (map (λ name. name.now) names.now) word.now }
+    ensures within { IfSome result (λ n. n < length names.now) }
+{
+    for (place, name) in names.iter().enumerate() {
+        if is_same_name(name, word) {
+            return Some(place);
+        }
+    }
+    None
 }
 
 /// The color of a decimal number, as `strtol` of C takes it: -1 for the one that is there, the first 16 by their names' numbers.
-fn numbered(word: &[u8]) -> Option<Color> {
-    let text = std::str::from_utf8(after_blanks(word)).ok()?;
-    match text.parse::<i32>().ok()? {
-        -1 => Some(Color::Normal),
-        number @ 0..=7 => Some(Color::Named(DARK + number as u8)),
-        number @ 8..=15 => Some(Color::Named(BRIGHT - 8 + number as u8)),
-        number @ 16..=255 => Some(Color::Palette(number as u8)),
+fn numbered(word: &[u8]) -> Option<Color>
+    ensures { is_some result ≡ spec.is_numbered word.now }
+{
+    let (is_negative, digits) = after_sign(after_blanks(word));
+    match digits_at_front(digits, 10) {
+        Some((number, [])) => color_numbered(is_negative, number),
+        _ => None,
+    }
+}
+
+/// The color of this number.
+fn color_numbered(is_negative: bool, number: u64) -> Option<Color>
+    ensures { is_some result ≡ leb number (if is_negative then 1 else 255) }
+{
+    match number {
+        0 => Some(Color::Named(DARK)),
+        1 if is_negative => Some(Color::Normal),
+        _ if is_negative => None,
+        1..=7 => Some(Color::Named(DARK + number as u8)),
+        8..=15 => Some(Color::Named(BRIGHT - 8 + number as u8)),
+        16..=255 => Some(Color::Palette(number as u8)),
         _ => None,
     }
 }
 
 /// The number of an attribute, or behind `no` or `no-` that of its end.
-fn attribute_of(word: &[u8]) -> Option<u8> {
-    match word.strip_prefix(b"no") {
-        Some(name) => Some(attribute_named(name.strip_prefix(b"-").unwrap_or(name))?.off),
+#[tactic(auto, unfolding(crate::specs::Colors::is_attribute))]
+fn attribute_of(word: &[u8]) -> Option<u8>
+    ensures asks { is_some result ≡ spec.is_attribute word.now }
+    ensures within { IfSome result (λ code. code < 30) }
+{
+    match after_no(word) {
+        Some(name) => Some(attribute_named(name)?.off),
         None => Some(attribute_named(word)?.on),
     }
 }
 
-/// The attribute of this name, in this very case.
-fn attribute_named(word: &[u8]) -> Option<&'static Attribute> {
-    for attribute in &ATTRIBUTES {
-        if attribute.name == word {
-            return Some(attribute);
-        }
+/// What follows `no` or `no-`, if a word begins so.
+fn after_no(word: &[u8]) -> Option<&[u8]>
+    ensures { option_copied result ≡ spec.after_no word.now }
+{
+    match word {
+        [b'n', b'o', b'-', name @ ..] | [b'n', b'o', name @ ..] => Some(name),
+        _ => None,
     }
-    None
+}
+
+/// The attribute of this name, in this very case.
+#[tactic(auto, unfolding(crate::specs::Colors::is_attribute_name))]
+fn attribute_named(word: &[u8]) -> Option<Attribute>
+    ensures named { is_some result ≡ spec.is_attribute_name word.now }
+    ensures within { IfSome result (λ a. (a.on < 30) × (a.off < 30)) }
+{
+    match word {
+        b"bold" => Some(Attribute { on: 1, off: 22 }),
+        b"dim" => Some(Attribute { on: 2, off: 22 }),
+        b"italic" => Some(Attribute { on: 3, off: 23 }),
+        b"ul" => Some(Attribute { on: 4, off: 24 }),
+        b"blink" => Some(Attribute { on: 5, off: 25 }),
+        b"reverse" => Some(Attribute { on: 7, off: 27 }),
+        b"strike" => Some(Attribute { on: 9, off: 29 }),
+        _ => None,
+    }
 }

@@ -35,8 +35,8 @@ struct Ends {
     line: usize,
 }
 
-/// A text with a comment after the value of a key's last entry, in place of the blanks and the comment that are there. Whether it means
-/// the same is for the caller to see. One walk over the text.
+/// A text with a comment after the value of a key's last entry. It is in place of the whitespace and the comment that are there. Whether it
+/// means the same is for the caller to see. One walk over the text.
 ///
 /// # Errors
 ///
@@ -56,7 +56,7 @@ pub fn with_comment(
     }
 }
 
-/// The trouble that a refusal of a text is which was read before.
+/// The trouble that an error of a text is which was read before.
 pub fn trouble_of(refusal: &Error) -> Trouble
     ensures { result ≡ spec.trouble_of refusal.now }
 {
@@ -238,7 +238,7 @@ fn spliced(alloc: Global, text: &[u8], ends: Ends, comment: &str) -> Result<Vec<
     Ok(new)
 }
 
-/// What is put before a comment, as git does it: nothing if it begins with blanks and `#`, a blank if it begins with `#`, else both.
+/// What is put before a comment, as git does it: nothing if it begins with whitespace and `#`, a space if it begins with `#`, else both.
 #[tactic(auto, unfolding(crate::proofs::CommentLemmas::lead_or))]
 fn lead_of(comment: &str) -> &'static str
     ensures { result.now ≡ lead_of comment.now }

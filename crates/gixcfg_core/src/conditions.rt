@@ -1,4 +1,4 @@
-//! What includes are followed by: the home folder, and the repository that conditions are about.
+//! What includes are followed by: the home directory, and the repository that conditions are about.
 
 use crate::trouble::Trouble;
 use gitconf_includes::includes::{self, conditional};
@@ -11,7 +11,7 @@ use std::rt::{Env, Files};
 /// What conditions of includes are about.
 #[derive(Drop)]
 pub struct Here {
-    /// The folder of the repository, from the root, without symbolic links.
+    /// The directory of the repository, from the root, without symbolic links.
     folder: Option<String>,
     /// The same as the user came to it, where that is another path.
     shown: Option<String>,
@@ -64,7 +64,7 @@ pub fn options_of<'a>(
     }
 }
 
-/// The folder of the repository, as git compares it: without symbolic links, and as the user came to it.
+/// The directory of the repository, as git compares it: without symbolic links, and as the user came to it.
 fn git_dir(here: &Here) -> Option<conditional::GitDir<'_>> {
     let real = here.folder.as_deref()?;
     Some(conditional::GitDir {

@@ -54,7 +54,7 @@ static DAYS: [&[u8; 3]; 7] = [b"sun", b"mon", b"tue", b"wed", b"thu", b"fri", b"
 ///
 /// - git's own form, as `@1112911993 +0200`, whose `@` may be missing from 9 digits on, and so may the zone;
 /// - RFC 2822, as `Thu, 07 Apr 2005 22:13:13 +0200`, with or without the day of the week;
-/// - ISO 8601, as `2005-04-07T22:13:13+0200`, with a blank in place of `T`, or dots between the numbers of the day.
+/// - ISO 8601, as `2005-04-07T22:13:13+0200`, with a space in place of `T`, or dots between the numbers of the day.
 ///
 /// The last two need their time zone, and are from 1970 to 2099. `None` for any other text, as of a relative date. One pass, which takes
 /// no memory.
@@ -125,7 +125,7 @@ fn moment(text: &[u8]) -> Option<u64> {
     at_zone(days_before(&date) * DAY + time, zone)
 }
 
-/// The day that ISO 8601 writes, and what follows it and a `T` or a blank.
+/// The day that ISO 8601 writes, and what follows it and a `T` or a space.
 fn iso_date(text: &[u8]) -> Option<(Date, &[u8])> {
     match text {
         [
@@ -153,7 +153,7 @@ fn iso_date(text: &[u8]) -> Option<(Date, &[u8])> {
     }
 }
 
-/// The day that RFC 2822 writes, and what follows it and a blank.
+/// The day that RFC 2822 writes, and what follows it and a space.
 fn mail_date(text: &[u8]) -> Option<(Date, &[u8])> {
     let (day, rest) = day_of_month(after_day_of_week(text))?;
     match rest {

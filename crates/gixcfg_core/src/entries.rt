@@ -139,8 +139,8 @@ pub fn add_found(
     Ok(())
 }
 
-/// Gives a stream the entries of a section, a line each, all with the same before their names; first what is held back, and of all that the
-/// end may be held back, less than a piece. One walk over the items; a value takes memory of its own only if it has a quote or a
+/// Gives a stream the entries of a section, a line each. All have the same before their names. First comes what is held back, and of all
+/// that the end may be held back, less than a piece. One walk over the items; a value takes memory of its own only if it has a quote or a
 /// backslash, or goes on over lines.
 ///
 /// # Errors

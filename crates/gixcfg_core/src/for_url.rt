@@ -33,8 +33,8 @@ impl<'a> Variables<'a> {
     }
 }
 
-/// Of each variable the entry whose section matches the URL best, or the last of those that match alike; in the order of their names,
-/// which are without a subsection.
+/// Of each variable the entry whose section matches the URL best. Of several that match alike it is the last one. They are in the order of
+/// their names, which are without a subsection.
 ///
 /// # Errors
 ///

@@ -23,7 +23,7 @@ pub struct Line {
 impl Line {
     ghost use Rattle.gixcfg_core.specs.Origins.{differences_line, entries_line, values_line};
 
-    /// As `get` prints entries: a blank between the names and the value.
+    /// As `get` prints entries: a space between the names and the value.
     pub fn of_values(form: &Form) -> Line
         ensures { result ≡ values_line form.now }
     {

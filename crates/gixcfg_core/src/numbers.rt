@@ -11,10 +11,10 @@ use gitconf_text::parse::section::bytes::is_same_name;
 /// The largest size of an integer with 64 bits.
 pub const MOST: u64 = 9_223_372_036_854_775_807;
 
-/// The largest size of an integer with 32 bits, as git keeps booleans that are written as numbers.
+/// The largest size of an integer with 32 bits. In such integers git keeps booleans that are written as numbers.
 pub const MOST_OF_32_BITS: u64 = 2_147_483_647;
 
-/// The integer that a text writes: blanks, a sign if it has one, digits, and `k`, `m` or `g` or nothing. The digits are hexadecimal
+/// The integer that a text writes: whitespace, a sign if it has one, digits, and `k`, `m` or `g` or nothing. The digits are hexadecimal
 /// behind `0x`, octal if the first is 0, else decimal, as `strtoimax` of C takes them. `None` if it writes none, or one whose size,
 /// times 1024 for each step of its unit, is more than `most`. One pass, which takes no memory.
 pub fn integer(text: &[u8], most: u64) -> Option<i64>
@@ -55,21 +55,21 @@ pub fn boolean(text: &[u8]) -> Option<bool>
     }
 }
 
-/// Whether C takes a byte as a blank: the space, and the five controls from HT to CR.
+/// Whether C takes a byte as whitespace: the space, and the five controls from HT to CR.
 fn is_blank(byte: u8) -> bool
     ensures { result ≡ spec.is_blank byte }
 {
     matches!(byte, b' ' | 9..=13)
 }
 
-/// A text without the blanks at its front.
+/// A text without the whitespace at its front.
 pub fn after_blanks(text: &[u8]) -> &[u8]
     ensures { result.now ≡ spec.after_blanks text.now }
 {
     &text[blanks_len(text)..]
 }
 
-/// How many blanks a text begins with.
+/// How many bytes of whitespace a text begins with.
 fn blanks_len(text: &[u8]) -> usize
     ensures count { result ≡ spec.blanks_len text.now }
     ensures within { result ≤ length text.now }
@@ -80,7 +80,7 @@ fn blanks_len(text: &[u8]) -> usize
     }
 }
 
-/// The place of the first byte that is no blank.
+/// The place of the first byte that is no whitespace.
 fn first_no_blank(text: &[u8]) -> Option<usize>
     ensures place { result ≡ position is_no_blank text.now }
     ensures within { IfSome result (λ n. n < length text.now) }
@@ -89,7 +89,7 @@ fn first_no_blank(text: &[u8]) -> Option<usize>
 }
 
 /// Whether a minus comes first, and what follows the sign.
-fn after_sign(text: &[u8]) -> (bool, &[u8])
+pub fn after_sign(text: &[u8]) -> (bool, &[u8])
     ensures sign { result.0 ≡ starts_with_minus text.now }
     ensures rest { result.1.now ≡ without_leading_sign text.now }
 {
@@ -186,8 +186,8 @@ fn factor_of(unit: &[u8]) -> Option<u64>
     }
 }
 
-/// The number that the digits of a base write at the front of a text, and what follows them. `None` if there is no digit, or 64 bits don't
-/// hold the number.
+/// The number that digits of a base write at a text's front, and what follows. `None` if there is no digit, or 64 bits don't hold the
+/// number.
 pub fn digits_at_front(text: &[u8], base: u64) -> Option<(u64, &[u8])>
     requires low { 2 ≤ base }
     requires high { base ≤ 36 }
@@ -247,7 +247,7 @@ fn next_number(number: u64, base: u64, digit: u64) -> Option<u64>
     number.checked_mul(base)?.checked_add(digit)
 }
 
-/// The number that a digit stands for, a letter from 10 on in either case; 36 for a byte that is none.
+/// The number that a digit stands for; 36 for a byte that is none. From 10 on a digit is a letter, in either case.
 pub fn digit_of(byte: u8) -> u64
     ensures { result ≡ digit_value byte }
 {

@@ -20,7 +20,7 @@ pub struct Outside<'a> {
     pub is_colored: bool,
     /// Whether standard output is a terminal.
     pub is_seen: bool,
-    /// The home folder.
+    /// The home directory.
     pub home: Option<&'a str>,
 }
 
@@ -38,7 +38,7 @@ pub struct Inputs<'a, R, I: Read + Drop> {
 }
 
 impl<R: Files + AllocGlobal, I: Read + Drop> Inputs<'_, R, I> {
-    /// The text of a file, or without a path of standard input; none if there is no such file.
+    /// The text of a file, or without a path of standard input. None if there is no such file.
     ///
     /// # Errors
     ///
@@ -51,7 +51,7 @@ impl<R: Files + AllocGlobal, I: Read + Drop> Inputs<'_, R, I> {
     }
 }
 
-/// What was made of a text of this name, or the trouble that its refusal is, with its place.
+/// What was made of a text of this name, or the trouble of its error. The trouble has its place.
 pub fn accepted<T: Drop>(
     alloc: Global,
     name: &str,
@@ -67,7 +67,7 @@ pub fn accepted<T: Drop>(
     }
 }
 
-/// The trouble that a refusal of a text is, with its place.
+/// The trouble that an error of a text is, with its place.
 pub fn refused(
     alloc: Global,
     name: &str,

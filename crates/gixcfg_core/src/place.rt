@@ -18,7 +18,7 @@ const MOST_BEFORE: usize = 100;
 /// How many of them are shown at most from the place on.
 const MOST_BEHIND: usize = 200;
 
-/// The line in which reading stopped, in two parts, and what comes under the first of them.
+/// The line in which reading stopped, in two parts. Also what comes under the first of them.
 #[derive(Drop)]
 pub struct Place {
     /// The number of the line, counted from 1.
@@ -203,7 +203,7 @@ fn shown_char(c: char) -> char
     }
 }
 
-/// Blanks that are as wide as a text that is shown; its tabs stay.
+/// Spaces that are as wide as a text that is shown; its tabs stay.
 fn under(alloc: Global, text: &str) -> Result<String, AllocError>
     ensures { IfOk result (λ s. string_bytes s ≡ flat_map under_char (chars text.now)) }
 {
@@ -224,7 +224,7 @@ fn add_under(all: &mut String, c: char) -> Result<(), AllocError>
     add_blanks(all, c.width().unwrap_or(0))
 }
 
-/// Adds so many blanks.
+/// Adds so many spaces.
 fn add_blanks(all: &mut String, count: usize) -> Result<(), AllocError>
     ensures { OnOk result (string_bytes all.new ≡ string_bytes all.old ++ replicate count 32) }
 {

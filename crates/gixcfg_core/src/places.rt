@@ -8,7 +8,7 @@ use std::alloc::{AllocGlobal, Global};
 use std::rc::Rc;
 use std::rt;
 
-/// The home folder that the variables tell, if there is one: `HOME`, which is asked once.
+/// The home directory that the variables tell, if there is one: `HOME`, which is asked once.
 ///
 /// # Errors
 ///
@@ -20,7 +20,7 @@ pub fn home_of<V: Env>(env: &mut V) -> Result<Option<String>, NoMemory> {
     }
 }
 
-/// The places of configuration on this system, with this home folder.
+/// The places of configuration on this system, with this home directory.
 fn places_of(alloc: Global, home: Option<&str>) -> Result<Places, NoMemory> {
     let home = match home {
         Some(home) => Some(String::from_str(alloc, home)?),

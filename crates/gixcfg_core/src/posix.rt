@@ -44,8 +44,8 @@ pub enum Place {
     Wrong,
 }
 
-/// A pattern in the syntax of the kit's `regex`, in which a dot stands for a line feed too; none if POSIX has no such pattern, as far as
-/// the kit doesn't refuse it itself.
+/// A pattern in the syntax of the kit's `regex`. In it a dot stands for a line feed too. None if POSIX has no such pattern, as far as the
+/// kit doesn't refuse it itself.
 ///
 /// # Errors
 ///

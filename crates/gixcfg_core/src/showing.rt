@@ -42,7 +42,8 @@ pub fn end<E: Write>(done: Result<(), Trouble>, told: &Told<'_>, err: &mut E) ->
     }
 }
 
-/// Writes an answer to standard output, or tells the trouble for which there is none, and returns the exit status.
+/// Writes an answer to standard output, and returns the exit status. If there is no answer, it tells the trouble for
+/// which there is none.
 pub fn show<W: Write, E: Write>(
     answer: Result<Vec<u8>, Trouble>,
     told: &Told<'_>,

@@ -41,7 +41,7 @@ pub fn lines_of_found(
     }
 }
 
-/// The lines of all entries; if a type is asked for, of those whose value is of it.
+/// The lines of all entries. If a type is asked for, they are those of the entries whose value is of it.
 ///
 /// # Errors
 ///

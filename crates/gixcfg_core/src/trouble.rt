@@ -24,7 +24,7 @@ const NOWHERE: u8 = 128;
 pub enum Trouble {
     /// What was looked for is not there.
     Missing,
-    /// The file isn't laid out.
+    /// The file isn't formatted.
     Different,
     /// A pattern can't be read.
     BadPattern,
@@ -32,13 +32,13 @@ pub enum Trouble {
     BadUrl(urls::Refusal),
     /// There is no such section.
     NoSection,
-    /// A name can't be had: the number of the refusal, 4 to 6.
+    /// A name can't be had: the number of the error, 4 to 6.
     BadName(u8),
     /// The text is refused, with the message.
     Text(String),
     /// A file that is read with others can't be read, with the message.
     Unread(String),
-    /// The text or the edit is refused: the number of the refusal.
+    /// The text or the edit is refused: the number of the error.
     Refused(u8),
     /// The comment can't be put after the value.
     Uncommented,
@@ -66,8 +66,8 @@ impl Trouble {
     ghost use Rattle.gixcfg_core.specs.Troubles.{status_of};
 
     /// The exit status: as git has it for a key that is missing, 1, for one that has several entries or none to take out, 5, for a
-    /// file that can't be written, 4, and where there is no repository or no home folder to look in, 128; else 1 for what isn't as it should be,
-    /// 2 for words that mean nothing, 3 for a refusal, 4 for a file or a stream that failed, 5 for memory.
+    /// file that can't be written, 4, and where there is no repository or no home directory to look in, 128; else 1 for what isn't as it
+    /// should be, 2 for words that mean nothing, 3 for a refusal, 4 for a file or a stream that failed, 5 for memory.
     pub fn status(&self) -> u8
         ensures { result ≡ status_of self.now }
     {
@@ -149,7 +149,7 @@ impl From<files::Fault> for Trouble {
     }
 }
 
-/// The trouble that a refusal of an edit is, by its number.
+/// The trouble that an error of an edit is, by its number.
 pub fn of_number(number: u8) -> Trouble
     ensures { result ≡ trouble_of_number number }
 {
@@ -193,7 +193,7 @@ fn tell_plainly<E: Write>(trouble: &Trouble, err: &mut E) {
     let _ = err.write_all(line);
 }
 
-/// Reports a trouble with the file of this name, as a call of these rules does, and returns the exit status.
+/// Reports a trouble with the file of this name, and returns the exit status. It is reported as a call of these rules does.
 pub fn report<E: Write>(trouble: &Trouble, name: &str, rules: Rules, err: &mut E) -> u8
     ensures value { result ≡ status_of trouble.now }
     ensures known { IsStatus result }
@@ -214,7 +214,7 @@ fn reason_of(number: u8) -> &'static str {
     }
 }
 
-/// What is allowed of the name for which this refusal is.
+/// What is allowed of the name for which this error is.
 fn rule_of_name(number: u8) -> &'static str {
     match number {
         4 => "a section's has letters, digits and dashes",

@@ -25,11 +25,11 @@ pub enum Refusal {
     BooleanOrInteger,
     /// It isn't there, so it is no path.
     Path,
-    /// It is in the home folder, which isn't known.
+    /// It is in the home directory, which isn't known.
     HomeFolder,
-    /// It is in the folder of a user, which isn't looked up.
+    /// It is in the directory of a user, which isn't looked up.
     UserFolder,
-    /// It is in the folder where git is installed, which isn't known.
+    /// It is in the directory where git is installed, which isn't known.
     InstallFolder,
     /// It is no date, or what it means depends on the present or on the local time zone.
     Date,
@@ -38,7 +38,7 @@ pub enum Refusal {
 }
 
 impl Refusal {
-    /// The refusal in words.
+    /// The error in words.
     pub fn reason(self) -> &'static str {
         match self {
             Refusal::Boolean => "not a boolean",
@@ -154,7 +154,7 @@ fn bool_text(alloc: Global, is_true: bool) -> Result<BString, Fault>
     }
 }
 
-/// A boolean as it is printed, or the refusal if there is none.
+/// A boolean as it is printed, or the error if there is none.
 fn boolean_or(alloc: Global, boolean: Option<bool>, refusal: Refusal) -> Result<BString, Fault>
     ensures { Gives result (spec.boolean_or refusal boolean) }
 {
@@ -164,7 +164,7 @@ fn boolean_or(alloc: Global, boolean: Option<bool>, refusal: Refusal) -> Result<
     }
 }
 
-/// An integer as it is printed, or the refusal if there is none.
+/// An integer as it is printed, or the error if there is none.
 fn number_or(alloc: Global, number: Option<i64>, refusal: Refusal) -> Result<BString, Fault>
     ensures { Gives result (spec.number_or refusal number) }
 {
@@ -206,7 +206,7 @@ fn boolean_or_text(alloc: Global, value: &[u8]) -> Result<BString, Fault>
     }
 }
 
-/// The path of a value: with the home folder in place of a tilde before a slash or the end, and nothing else changed.
+/// The path of a value: with the home directory in place of a tilde before a slash or the end, and nothing else changed.
 fn path(alloc: Global, value: &[u8], home: Option<&str>) -> Result<BString, Fault>
     ensures { Gives result (path_of (option_copied home.entry) value.now) }
 {
@@ -228,7 +228,7 @@ pub(crate) fn ends_name(rest: &[u8]) -> bool
     }
 }
 
-/// What follows a tilde, behind the home folder.
+/// What follows a tilde, behind the home directory.
 fn below_home(alloc: Global, home: Option<&str>, rest: &[u8]) -> Result<BString, Fault>
     ensures { Gives result (spec.below_home (option_copied home.entry) rest.now) }
 {
@@ -238,7 +238,7 @@ fn below_home(alloc: Global, home: Option<&str>, rest: &[u8]) -> Result<BString,
     }
 }
 
-/// A folder with what follows it.
+/// A directory with what follows it.
 fn joined(alloc: Global, folder: &[u8], rest: &[u8]) -> Result<BString, Fault>
     ensures { Gives result (Ok (folder.now ++ rest.now)) }
 {

@@ -32,7 +32,7 @@ pub enum Refusal {
 }
 
 impl Refusal {
-    /// The refusal in words.
+    /// The error in words.
     pub fn reason(self) -> &'static str {
         match self {
             Refusal::Scheme => "it begins with no scheme and ://",
@@ -136,7 +136,7 @@ pub fn url_of(alloc: Global, text: &[u8]) -> Result<Url, Fault>
     normalized(alloc, text, false)
 }
 
-/// The URL that a section names, as [`url_of`] reads it, but that there may be stars in its host.
+/// The URL that a section names, as [`url_of`] reads it. But there may be stars in its host.
 ///
 /// # Errors
 ///
