@@ -70,7 +70,7 @@ _gixcfg() {
 # The files that a word begins.
 _gixcfg_files() {
     mapfile -t COMPREPLY < <(compgen -f -- "$1")
-    # readline then writes a slash after a folder, and a backslash before a blank. (A test has no completion to set that for.)
+    # readline then writes a slash after a directory, and a backslash before a space. (A test has no completion to set that for.)
     compopt -o filenames 2>/dev/null || true
 }
 

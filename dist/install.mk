@@ -1,8 +1,8 @@
-# Installs gixcfg and the library for C by GNU's names of targets and folders. It asks for no kit: an archive of a release has this file as
+# Installs gixcfg and the library for C by GNU's names of targets and directories. It asks for no kit: an archive of a release has this file as
 # its Makefile.
 #
-#     make install [PREFIX=/usr/local] [DESTDIR=FOLDER]        the program
-#     make install-lib [PREFIX=/usr/local] [DESTDIR=FOLDER]    the library, in an archive for x86_64
+#     make install [PREFIX=/usr/local] [DESTDIR=DIRECTORY]        the program
+#     make install-lib [PREFIX=/usr/local] [DESTDIR=DIRECTORY]    the library, in an archive for x86_64
 #     make uninstall [PREFIX=..] [DESTDIR=..]                  both; with what they were given
 #
 # The program is not stripped, unless by install-strip: as it was linked, its sum is the one in dist/SHA256SUMS, by which anybody can
@@ -50,7 +50,7 @@ all:
 
 lib:
 
-# (with quotes, since a folder's name may have blanks)
+# (with quotes, since a directory's name may have spaces)
 install: all
 	$(INSTALL) -d "$(DESTDIR)$(bindir)" "$(DESTDIR)$(man1dir)" "$(DESTDIR)$(docdir)" "$(DESTDIR)$(bashcompletiondir)" \
 		"$(DESTDIR)$(zshcompletiondir)" "$(DESTDIR)$(fishcompletiondir)"
@@ -79,13 +79,13 @@ install-lib: lib
 	$(INSTALL_DATA) "$(LIBRARY)/gix_config.3" "$(DESTDIR)$(man3dir)/gix_config.3"
 	$(INSTALL_DATA) $(licences) "$(DESTDIR)$(libdocdir)"
 
-# Of the folders only those that are gixcfg's and the library's alone are removed: others may have stood there before.
+# Of the directories only those that are gixcfg's and the library's alone are removed: others may have stood there before.
 uninstall:
 	rm -f "$(DESTDIR)$(bindir)/gixcfg" "$(DESTDIR)$(man1dir)/gixcfg.1" "$(DESTDIR)$(bashcompletiondir)/gixcfg" \
 		"$(DESTDIR)$(zshcompletiondir)/_gixcfg" "$(DESTDIR)$(fishcompletiondir)/gixcfg.fish"
 	rm -f "$(DESTDIR)$(includedir)/gix_config.h" "$(DESTDIR)$(pkgconfigdir)/gix_config.pc" "$(DESTDIR)$(man3dir)/gix_config.3"
 	for file in $(soname) $(linkname) $(archives); do rm -f "$(DESTDIR)$(libdir)/$$file"; done
-	for folder in "$(DESTDIR)$(docdir)" "$(DESTDIR)$(libdocdir)" "$(DESTDIR)$(hostdir)"; do \
-		for file in $(notdir $(licences)) $(host); do rm -f "$$folder/$$file"; done; \
-		[ ! -d "$$folder" ] || rmdir "$$folder" 2>/dev/null || true; \
+	for directory in "$(DESTDIR)$(docdir)" "$(DESTDIR)$(libdocdir)" "$(DESTDIR)$(hostdir)"; do \
+		for file in $(notdir $(licences)) $(host); do rm -f "$$directory/$$file"; done; \
+		[ ! -d "$$directory" ] || rmdir "$$directory" 2>/dev/null || true; \
 	done

@@ -271,19 +271,19 @@ static bool give_rights(const gix_config_edit *edit)
     return fchmod(edit->lock, found.st_mode & 07777) == 0;
 }
 
-/* Syncs the folder of a path, so that the new name is on the disk, where that can be done. */
-static void sync_folder(char *path)
+/* Syncs the directory of a path, so that the new name is on the disk, where that can be done. */
+static void sync_directory(char *path)
 {
     char *name = strrchr(path, '/');
     char first = name == NULL ? 0 : name[1];
     if (name != NULL)
         name[1] = 0;
-    int folder = open(name == NULL ? "." : path, O_RDONLY | O_DIRECTORY | O_CLOEXEC);
+    int directory = open(name == NULL ? "." : path, O_RDONLY | O_DIRECTORY | O_CLOEXEC);
     if (name != NULL)
         name[1] = first;
-    if (folder >= 0) {
-        fsync(folder);
-        close(folder);
+    if (directory >= 0) {
+        fsync(directory);
+        close(directory);
     }
 }
 
@@ -304,7 +304,7 @@ uint32_t gix_config_edit_save(gix_config_edit *edit)
     /* (from here on the name of the lock is no longer this program's) */
     edit->is_locked = false;
     close(edit->lock);
-    sync_folder(edit->path);
+    sync_directory(edit->path);
     return GIX_CONFIG_DONE;
 }
 

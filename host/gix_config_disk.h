@@ -20,7 +20,7 @@ enum {
 };
 
 /* As gix_config_load_told and its kin, told from the disk and from the variables of the process what they ask for. What is no file, as a
- * folder, is missing. What was in the file's handle before is closed.
+ * directory, is missing. What was in the file's handle before is closed.
  *
  * Their numbers, but for 103 and 105. After 1, 2 and 19 to 26 the block has the path or the variable that these are about; for 1 and 2 the
  * place says where in that file, else it is as it was. The file is as it was after any number but 0. */
@@ -57,7 +57,7 @@ uint32_t gix_config_edit_begin(const char *path, gix_config_edit *edit, gix_conf
  * So a crash leaves the old text or the new one. It comes once for an edit.
  *
  * 200 if the system refuses some of that, 27 when out of memory: the file on the disk is then as it was. Once it has its new text the answer
- * is 0; where the folder can't be synced, a crash some moments later may still leave the old text. */
+ * is 0; where the directory can't be synced, a crash some moments later may still leave the old text. */
 uint32_t gix_config_edit_save(gix_config_edit *edit);
 
 /* Ends the edit: removes FILE.lock, if it wasn't saved, and frees what the edit has. It leaves errno as it is. */

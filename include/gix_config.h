@@ -1,8 +1,8 @@
 /* Git's configuration files for programs in C.
  *
- * Each call answers a number: 0 when it is done, that of a refusal (docs/refusals.md), or another of those
- * below. What a call does is said by its contract for every content of every handle, also an empty one or one
- * that holds something else.
+ * Each call answers a number: 0 when it is done, that of an error (docs/refusals.md), or another of those below.
+ * What a call does is said by its contract for every content of every handle, also an empty one or one that
+ * holds something else.
  *
  * Made by tools/c_header of crates/gix_config_c. docs/c.md says what a program owes. */
 #ifndef GIX_CONFIG_H
@@ -44,9 +44,9 @@ enum {
     GIX_CONFIG_SUBSECTION_MISSING = 8,
     /* The sections have no such value. */
     GIX_CONFIG_KEY_MISSING = 9,
-    /* The value is not of the type that is asked for, or 64 bits don't hold it. */
+    /* The value is not of the type asked for, or 64 bits don't hold it. */
     GIX_CONFIG_BAD_VALUE = 11,
-    /* A path needs a folder that is not known, or is empty. */
+    /* A path needs a directory that is not known, or is empty. */
     GIX_CONFIG_MISSING_FOLDER = 12,
     /* A path is not UTF-8. */
     GIX_CONFIG_PATH_NOT_UTF8 = 13,
@@ -58,7 +58,7 @@ enum {
     GIX_CONFIG_MISSING_CONFIG_PATH = 16,
     /* The condition of an include is about a repository, and there is none. */
     GIX_CONFIG_MISSING_GIT_DIR = 17,
-    /* The repository's folder can't be resolved. */
+    /* The repository's directory can't be resolved. */
     GIX_CONFIG_REALPATH = 18,
     /* A file that is included can't be opened. */
     GIX_CONFIG_INCLUDE_NOT_OPENED = 19,
@@ -98,9 +98,9 @@ enum {
     GIX_CONFIG_SOURCE_GIT_INSTALLATION = 1,
     /* The configuration of the whole machine. */
     GIX_CONFIG_SOURCE_SYSTEM = 2,
-    /* The user's configuration in `git/config` of the folder for configuration. */
+    /* The user's configuration in `git/config` of the directory for configuration. */
     GIX_CONFIG_SOURCE_GIT = 4,
-    /* The user's configuration in `.gitconfig` of the home folder. */
+    /* The user's configuration in `.gitconfig` of the home directory. */
     GIX_CONFIG_SOURCE_USER = 8,
     /* The repository's configuration. */
     GIX_CONFIG_SOURCE_LOCAL = 16,
@@ -245,27 +245,27 @@ typedef struct gix_config_filter {
     uint32_t least_trust;
 } gix_config_filter;
 
-/* The folders that the shorthands of paths stand for. One that is not known refuses the paths that need it. */
+/* The directories that the shorthands of paths stand for. One that is not known refuses the paths that need it. */
 typedef struct gix_config_folders {
     /* Whether it is known where git is installed. */
     bool has_installation;
-    /* The folder where git is installed, for `%(prefix)/`. */
+    /* The directory where git is installed, for `%(prefix)/`. */
     gix_config_text installation;
-    /* Whether the user's home folder is known. */
+    /* Whether the user's home directory is known. */
     bool has_home;
-    /* The user's home folder, for `~/`. */
+    /* The user's home directory, for `~/`. */
     gix_config_text home;
 } gix_config_folders;
 
-/* How a text is laid out. gix_config_layout_default fills it. */
+/* How a text is formatted. gix_config_layout_default fills it. */
 typedef struct gix_config_layout {
-    /* Whether the blanks stay that are before a comment on a line of its own before the first header. */
+    /* Whether whitespace stays before comments on lines of their own before the first header. */
     bool keeps_root_blanks;
     /* If they don't stay: whether tabs come in their place, else spaces. */
     bool has_root_tabs;
     /* And how many. */
     size_t root_indent;
-    /* Whether tabs come before a name or a comment that begins a line after a header, else spaces. */
+    /* Whether tabs come before what begins a line after a header, else spaces. That is a name or a comment. */
     bool has_tabs;
     /* And how many. */
     size_t indent;
@@ -287,21 +287,21 @@ typedef struct gix_config_layout {
     size_t max_blank_lines;
 } gix_config_layout;
 
-/* How includes are followed: ten files deep; deeper ones are refused, and so is a path relative to the folder of
- * a file that has no path. */
+/* How includes are followed: ten files deep; deeper ones are refused, and so is a path relative to the directory
+ * of a file that has no path. */
 typedef struct gix_config_includes {
-    /* Whether a path is refused whose shorthand stands for nothing, and a condition on the repository's folder
-     * if there is no repository; else such an include is left out. */
+    /* Whether an include that lacks something is refused; else it is left out. That is a path whose shorthand
+     * stands for nothing, or a condition on the repository's directory if there is no repository. */
     bool strict;
-    /* Whether blanks, line endings and comments of the files that are read are left out. */
+    /* Whether whitespace, line endings and comments of the files that are read are left out. */
     bool lossy;
-    /* The folders that the shorthands of paths stand for. */
+    /* The directories that the shorthands of paths stand for. */
     gix_config_folders folders;
     /* Whether there is a repository. */
     bool has_git_folder;
-    /* The folder of the repository, for the conditions `gitdir:` and `gitdir/i:`. */
+    /* The directory of the repository, for the conditions `gitdir:` and `gitdir/i:`. */
     gix_config_text git_folder;
-    /* The same folder, with its symbolic links resolved. */
+    /* The same directory, with its symbolic links resolved. */
     gix_config_text real_git_folder;
     /* Whether there is a branch. */
     bool has_branch;
@@ -325,7 +325,7 @@ typedef struct gix_config_load {
 typedef struct gix_config_metadata {
     /* Whether it is that of a file with a path. */
     bool has_path;
-    /* The path of its file, if there is one: that of an include is relative to its folder. */
+    /* The path of its file, if there is one: that of an include is relative to its directory. */
     gix_config_text path;
     /* The place that it stands for: one of the sources' numbers. */
     uint32_t source;
@@ -339,20 +339,20 @@ typedef struct gix_config_places {
     bool has_installation;
     /* Its path, if there is some. */
     gix_config_text installation;
-    /* The folder that `etc/gitconfig` is in, the configuration of the whole machine: `/` for most. */
+    /* The directory that `etc/gitconfig` is in, the configuration of the whole machine: `/` for most. */
     gix_config_text system_prefix;
-    /* Whether the user's home folder is known. */
+    /* Whether the user's home directory is known. */
     bool has_home;
-    /* The user's home folder, for `~/` in the paths of includes. */
+    /* The user's home directory, for `~/` in the paths of includes. */
     gix_config_text home;
 } gix_config_places;
 
-/* A repository: its folders, and the places of configuration besides. */
+/* A repository: its directories, and the places of configuration besides. */
 typedef struct gix_config_repository {
-    /* The folder of the repository, such as `/home/ada/project/.git`: its configuration is in the file `config`
-     * there. */
+    /* The directory of the repository, such as `/home/ada/project/.git`: its configuration is in the file
+     * `config` there. */
     gix_config_text git_folder;
-    /* The same folder, with its symbolic links resolved. */
+    /* The same directory, with its symbolic links resolved. */
     gix_config_text real_git_folder;
     /* The places of configuration. */
     gix_config_places places;
@@ -438,8 +438,8 @@ typedef struct gix_config_section_row {
     size_t entries_at;
     /* How many entries it has: they stand one after the other. */
     size_t entries_len;
-    /* Its number in its file, which stays whatever is added or removed around it, and which no other section
-     * gets. */
+    /* Its number in its file. It stays whatever is added or removed around the section, and no other section
+     * gets it. */
     size_t number;
 } gix_config_section_row;
 
@@ -466,7 +466,7 @@ typedef struct gix_config_view {
     void *owner;
 } gix_config_view;
 
-/* Appends a copy of another file: its sections come after those of the file, and what is before its first
+/* Appends a copy of another file. Its sections come after those of the file, and what is before its first
  * section after the file's last. The other file stays as it is.
  *
  * 3 if the file would be too long. 102 if a handle has no file, 27 when out of memory. The file is then as it
@@ -474,16 +474,16 @@ typedef struct gix_config_view {
 uint32_t gix_config_file_append(gix_config_file *file, const gix_config_file *other_file);
 
 /* Tells whether two files are equal: the same sections in order, with the same keys that mean the same. Names
- * are compared without ASCII case. Comments, blanks, what comes before the first section and where sections come
- * from aren't compared.
+ * are compared without ASCII case. Comments, whitespace, what comes before the first section and where sections
+ * come from aren't compared.
  *
  * 102 if a handle has no file; the boolean is then as it was. */
 uint32_t gix_config_file_equal(const gix_config_file *file, const gix_config_file *other_file, bool *equal);
 
-/* Hands out what two files say differently, sorted by key: of each key of which they say different things the
- * entries of the file, in order, and then those of the other file. What was in the list's handle is closed. The
- * list is empty if and only if both say the same of every key: their entries of it mean the same in order, and
- * look-ups of it find the same value.
+/* Returns what two files say differently, sorted by key. Of each key of which they say different things it is
+ * the entries of the file, in order, and then those of the other file. What was in the list's handle is closed.
+ * The list is empty if and only if both say the same of every key: their entries of it mean the same in order,
+ * and look-ups of it find the same value.
  *
  * 102 if a handle of a file has none, 27 when out of memory; the list's handle is then as it was. */
 uint32_t gix_config_differences(const gix_config_file *file, const gix_config_file *other_file,
@@ -495,8 +495,8 @@ uint32_t gix_config_differences(const gix_config_file *file, const gix_config_fi
 uint32_t gix_config_list_difference(const gix_config_list *list, size_t index,
     gix_config_difference *difference);
 
-/* Adds an entry to the last section of the key's names, after all others that it has: also one of a name that is
- * there already. Without a value it is the name alone, which is true as a boolean.
+/* Adds an entry to the last section of the key's names. It comes after all others that the section has, also if
+ * one of them has its name. Without a value it is the name alone, which is true as a boolean.
  *
  * 7 or 8 if there is no such section, 6 for a name that can't be a value's, 3 if the file would be too long. 101
  * if the section's or the value's name is not UTF-8, 102 if the handle has no file, 27 when out of memory. The
@@ -504,16 +504,17 @@ uint32_t gix_config_list_difference(const gix_config_list *list, size_t index,
 uint32_t gix_config_push_value(gix_config_file *file, const gix_config_key *key, bool has_value,
     const uint8_t *value, size_t value_len);
 
-/* Removes the last entry of the key's name from the last section of the key's names, with the blanks before it
- * and the line endings after it, and hands out the raw text of its value. What the block had is freed.
+/* Removes the last entry of the key's name from the key's last section. That is the last section of the key's
+ * names. The whitespace before the entry and the line endings after it are removed, too. Returns the raw text of
+ * its value. What the block had is freed.
  *
  * 7 or 8 if there is no such section, 100 if it has no such entry, so that there is none to remove. 101 if the
  * section's or the value's name is not UTF-8, 102 if the handle has no file, 27 when out of memory; the file is
  * then as it was. The block is so after any number but 0. */
 uint32_t gix_config_remove_value(gix_config_file *file, const gix_config_key *key, gix_config_bytes *old);
 
-/* Hands out all entries of a file, in order, in one pass. What was in the list's handle is closed. Entries
- * before the first section are not among them: no key names them.
+/* Returns all entries of a file, in order, in one pass. What was in the list's handle is closed. Entries before
+ * the first section are not among them: no key names them.
  *
  * 102 if the handle has no file, 27 when out of memory; the list's handle is then as it was. */
 uint32_t gix_config_entries(const gix_config_file *file, gix_config_list *list);
@@ -523,9 +524,9 @@ uint32_t gix_config_entries(const gix_config_file *file, gix_config_list *list);
  * 100 for a number past the end, 102 if the handle has no list of entries; the place is then as it was. */
 uint32_t gix_config_list_entry(const gix_config_list *list, size_t index, gix_config_entry *entry);
 
-/* Loads the file of the entries that variables of the environment set (`GIT_CONFIG_COUNT`, `GIT_CONFIG_KEY_0`,
- * `GIT_CONFIG_VALUE_0` and so on), with what it includes, from what a program told of variables and of files.
- * What was in the file's handle before is closed.
+/* Loads the file of the entries that variables of the environment set. These are `GIT_CONFIG_COUNT`,
+ * `GIT_CONFIG_KEY_0`, `GIT_CONFIG_VALUE_0` and so on. The file is loaded with what it includes, from what a
+ * program told of variables and of files. What was in the file's handle before is closed.
  *
  * 100 if they set none. 105 if nothing was told of a variable that is needed, 103 if nothing was told of a file
  * that is included: its name or path is then in the block, whose bytes from before are freed; tell it, and call
@@ -538,8 +539,8 @@ uint32_t gix_config_list_entry(const gix_config_list *list, size_t index, gix_co
 uint32_t gix_config_load_env_told(const gix_config_told *told, const gix_config_includes *includes,
     gix_config_file *file, gix_config_bytes *asked);
 
-/* Gives the last entry of a key another value: in the last section of the key's names that has one. No entry is
- * made.
+/* Gives the last entry of a key another value. It is that of the last section of the key's names that has one.
+ * No entry is made.
  *
  * 7 or 8 if there is no such section, 6 for a name that can't be a value's, 9 if none of the sections has such
  * an entry, 3 if the file would be too long. 101 if the section's or the value's name is not UTF-8, 102 if the
@@ -547,8 +548,9 @@ uint32_t gix_config_load_env_told(const gix_config_told *told, const gix_config_
 uint32_t gix_config_set_existing_value(gix_config_file *file, const gix_config_key *key, const uint8_t *value,
     size_t value_len);
 
-/* Gives the entries of a key other values: the first entry the first value, and so on, up to the end of the
- * shorter list; in all sections of the key's names, in the order in which these were made. No entry is made.
+/* Gives the entries of a key other values, one after the other. The first entry gets the first value, and so on,
+ * up to the end of the shorter list. The entries are those in all sections of the key's names, in the order in
+ * which these were made. No entry is made.
  *
  * 7 or 8 if there is no such section, 6 for a name that can't be a value's, 9 if none of the sections has such
  * an entry: the file is then as it was. 3 if the file would be too long, 27 when out of memory: the entries
@@ -557,7 +559,7 @@ uint32_t gix_config_set_existing_value(gix_config_file *file, const gix_config_k
 uint32_t gix_config_set_existing_values(gix_config_file *file, const gix_config_key *key,
     const gix_config_text *values, size_t values_len);
 
-/* Hands out the text of a file. What the block had is freed.
+/* Returns the text of a file. What the block had is freed.
  *
  * 102 if the handle has no file, 27 when out of memory; the block is then as it was. */
 uint32_t gix_config_file_text(const gix_config_file *file, gix_config_bytes *text);
@@ -565,37 +567,38 @@ uint32_t gix_config_file_text(const gix_config_file *file, gix_config_bytes *tex
 /* Frees the bytes of a block, and leaves it empty; an empty one stays empty. */
 void gix_config_bytes_free(gix_config_bytes *bytes);
 
-/* Tells in words what the number of a refusal says. The text stays for good; it is empty for a number that no
+/* Tells in words what the number of an error says. The text stays for good; it is empty for a number that no
  * call answers. */
 void gix_config_refusal_text(uint32_t number, gix_config_text *text);
 
-/* As gix_config_value, in the sections that the filter keeps: the numbers 7 and 8 are those of gix_config_value,
- * and 9 is also that none of the sections that are kept has such a value. */
+/* Like gix_config_value, but in the sections that the filter keeps. The numbers 7 and 8 are those of
+ * gix_config_value, and 9 is also that none of the sections that are kept has such a value. */
 uint32_t gix_config_value_filter(const gix_config_file *file, const gix_config_key *key,
     const gix_config_filter *filter, gix_config_bytes *value);
 
-/* As gix_config_values, in the sections that the filter keeps. The numbers are those of gix_config_value_filter. */
+/* Like gix_config_values, but in the sections that the filter keeps. The numbers are those of
+ * gix_config_value_filter. */
 uint32_t gix_config_values_filter(const gix_config_file *file, const gix_config_key *key,
     const gix_config_filter *filter, gix_config_list *list);
 
-/* As gix_config_boolean, in the sections that the filter keeps. The numbers are the same. */
+/* Like gix_config_boolean, but in the sections that the filter keeps. The numbers are the same. */
 uint32_t gix_config_boolean_filter(const gix_config_file *file, const gix_config_key *key,
     const gix_config_filter *filter, bool *value);
 
-/* As gix_config_integer, in the sections that the filter keeps. The numbers are the same. */
+/* Like gix_config_integer, but in the sections that the filter keeps. The numbers are the same. */
 uint32_t gix_config_integer_filter(const gix_config_file *file, const gix_config_key *key,
     const gix_config_filter *filter, int64_t *value);
 
-/* Hands out the text of what comes before the first section, and of the sections that the filter keeps. What the
- * block had is freed.
+/* Returns the text of the front and the sections that the filter keeps. The front is what comes before the first
+ * section. What the block had is freed.
  *
  * 102 if the handle has no file, 27 when out of memory; the block is then as it was. */
 uint32_t gix_config_file_text_filter(const gix_config_file *file, const gix_config_filter *filter,
     gix_config_bytes *text);
 
-/* Loads the configuration of the machine and of the user, from what a program told of files and of variables:
- * the files that were installed with git, of the machine, and the user's two, in this order, each with what it
- * includes; an empty file if there is none. What was in the file's handle before is closed.
+/* Loads the configuration of the machine and of the user. It is loaded from what a program told of files and of
+ * variables: the files that were installed with git, of the machine, and the user's two, in this order, each
+ * with what it includes; an empty file if there is none. What was in the file's handle before is closed.
  *
  * 105 if nothing was told of a variable that says where these files are, 103 if nothing was told of a file that
  * is needed: its name or path is then in the block, whose bytes from before are freed; tell it, and call again.
@@ -610,11 +613,11 @@ uint32_t gix_config_load_globals_told(const gix_config_told *told, const gix_con
  * and all blank lines. */
 void gix_config_layout_default(gix_config_layout *layout);
 
-/* Hands out a text laid out: its lines written again, with the same sections, entries and comments. What the
+/* Returns a formatted text: its lines written again, with the same sections, entries and comments. What the
  * block had is freed.
  *
- * Refusal 1 for a text that can't be read on at some place, 2 for one of more than 4294967295 bytes; then the
- * place says where, else it is as it was. 27 when out of memory. The block is as it was after any number but 0. */
+ * 1 for a text that can't be read on at some place, 2 for one of more than 4294967295 bytes; then the place says
+ * where, else it is as it was. 27 when out of memory. The block is as it was after any number but 0. */
 uint32_t gix_config_normalize(const uint8_t *text, size_t text_len, const gix_config_layout *layout,
     gix_config_bytes *laid_out, gix_config_place *place);
 
@@ -625,24 +628,25 @@ uint32_t gix_config_normalize(const uint8_t *text, size_t text_len, const gix_co
 uint32_t gix_config_wildmatch(const uint8_t *pattern, size_t pattern_len, const uint8_t *text,
     size_t text_len, bool ignore_case, bool *is_match);
 
-/* Adds an entry to the section at a place, counted from 0, below its last entry, or below its header if it has
- * none: comments and blank lines behind it stay behind the new one. It is where `git config` puts a new entry.
+/* Adds an entry to the section at a place, below its last entry. The place is counted from 0. If the section has
+ * no entry, the new one comes below the header. Comments and blank lines behind the last entry, or behind the
+ * header, stay behind the new one. It is where `git config` puts a new entry.
  *
  * 100 if there is no such section, 6 for a name that can't be a value's, 3 if the file would be too long. 101 if
  * the name is not UTF-8, 102 if the handle has no file, 27 when out of memory. The file is then as it was. */
 uint32_t gix_config_push_below_last_at(gix_config_file *file, size_t place,
     const gix_config_assigned *assigned);
 
-/* Adds a line ending, the file's, to the section at a place, counted from 0, after all that it has: a blank
- * line.
+/* Adds a line ending to the section at a place, after all that it has. The place is counted from 0, and the line
+ * ending is the file's: a blank line.
  *
  * 100 if there is no such section, 3 if the file would be too long. 102 if the handle has no file, 27 when out
  * of memory. The file is then as it was. */
 uint32_t gix_config_push_newline_at(gix_config_file *file, size_t place);
 
-/* Removes the marked entries of a name from the section at a place, counted from 0: the first of its entries of
- * the name goes if the first mark is true, and so on; those behind the last mark stay. Each goes with the blanks
- * before it and the line endings after it. Tells how many went.
+/* Removes the marked entries of a name from the section at a place. The place is counted from 0. The first of
+ * the section's entries of the name goes if the first mark is true, and so on; those behind the last mark stay.
+ * Each goes with the whitespace before it and the line endings after it. Tells how many went.
  *
  * 100 if there is no such section. 101 if the name is not UTF-8, 102 if the handle has no file, 27 when out of
  * memory; the file is then as it was, and so is the count. */
@@ -673,7 +677,7 @@ void gix_config_list_close(gix_config_list *list);
 uint32_t gix_config_load_told(const gix_config_told *told, const gix_config_load *load, gix_config_file *file,
     gix_config_bytes *path);
 
-/* Reads the files that a file's sections include, from what a program told, and puts each after the section that
+/* Reads the files that a file's sections include, from what a program told. Each is put after the section that
  * includes it.
  *
  * 103 if a file is needed of which nothing was told: its path is then in the block, whose bytes from before are
@@ -684,19 +688,19 @@ uint32_t gix_config_load_told(const gix_config_told *told, const gix_config_load
 uint32_t gix_config_resolve_includes_told(const gix_config_told *told, gix_config_file *file,
     const gix_config_includes *includes, gix_config_bytes *path);
 
-/* Hands out what the last value of a key means. What the block had is freed.
+/* Returns what the last value of a key means. What the block had is freed.
  *
  * 7, 8 or 9 if there is none: no section has the name, none of these has the subsection, or these have no such
  * value. 101 if the section's or the value's name is not UTF-8, 102 if the handle has no file, 27 when out of
  * memory. The block is then as it was. */
 uint32_t gix_config_value(const gix_config_file *file, const gix_config_key *key, gix_config_bytes *value);
 
-/* Hands out what all values of a key mean, one or more, in file order. What was in the list's handle is closed.
+/* Returns what all values of a key mean, one or more, in file order. What was in the list's handle is closed.
  *
  * The numbers of gix_config_value; the list's handle is then as it was. */
 uint32_t gix_config_values(const gix_config_file *file, const gix_config_key *key, gix_config_list *list);
 
-/* Tells what the last value of a key means as a boolean; an entry without `=` is true.
+/* Tells what the last value of a key means as a boolean. An entry without `=` is true.
  *
  * 100 if there is no entry, 11 for a value that is no boolean. 101 if the section's or the value's name is not
  * UTF-8, 102 if the handle has no file, 27 when out of memory. The boolean is then as it was. */
@@ -709,16 +713,16 @@ uint32_t gix_config_boolean(const gix_config_file *file, const gix_config_key *k
  * was. */
 uint32_t gix_config_integer(const gix_config_file *file, const gix_config_key *key, int64_t *value);
 
-/* Tells where a file comes from, and hands out its path, if it has one: that of the file itself, also where its
- * sections come from others. What the block had is freed then.
+/* Tells where a file comes from, and returns its path, if it has one. The path is that of the file itself, also
+ * where its sections come from others. What the block had is freed then.
  *
  * 102 if the handle has no file, 27 when out of memory. Origin and block are then as they were. */
 uint32_t gix_config_file_origin(const gix_config_file *file, gix_config_origin *origin,
     gix_config_bytes *path);
 
-/* Gives one of the entries of a key another value: that at an index, counted from 0, among those of all sections
- * of the key's names, in the order in which these were made. It is rewritten, with the name as the key has it;
- * nothing of its old value stays. No entry is made.
+/* Gives one of the entries of a key another value. It is that at an index, counted from 0, among those of all
+ * sections of the key's names, in the order in which these were made. It is rewritten, with the name as the key
+ * has it; nothing of its old value stays. No entry is made.
  *
  * 100 for an index past the last one. 7 or 8 if there is no such section, 6 for a name that can't be a value's,
  * 9 if none of the sections has such an entry, 3 if the file would be too long. 101 if the section's or the
@@ -726,25 +730,26 @@ uint32_t gix_config_file_origin(const gix_config_file *file, gix_config_origin *
 uint32_t gix_config_set_nth_value(gix_config_file *file, const gix_config_key *key, size_t index,
     const uint8_t *value, size_t value_len);
 
-/* Deletes one of the entries of a key: that at an index, counted from 0, among those of all sections of the
- * key's names, in the order in which these were made. Its name, `=` and value go, with the blanks between them;
- * the blanks before and the line ending after them stay.
+/* Deletes one of the entries of a key. It is that at an index, counted from 0, among those of all sections of
+ * the key's names, in the order in which these were made. Its name, `=` and value go, with the whitespace
+ * between them; the whitespace before and the line ending after them stay.
  *
  * 100 for an index past the last one. 7 or 8 if there is no such section, 6 for a name that can't be a value's,
  * 9 if none of the sections has such an entry. 101 if the section's or the value's name is not UTF-8, 102 if the
  * handle has no file, 27 when out of memory. The file is then as it was. */
 uint32_t gix_config_delete_nth_value(gix_config_file *file, const gix_config_key *key, size_t index);
 
-/* Adds a line to the section at a place, counted from 0, after all others that it has: also one of a name that
- * is there already, with the blanks that the section uses. A comment comes after ` #`.
+/* Adds a line to the section at a place, after all others that it has. The place is counted from 0. The line may
+ * be one of a name that is there already, and has the whitespace that the section uses. A comment comes after `
+ * #`.
  *
  * 100 if there is no such section, 6 for a name that can't be a value's, 3 if the file would be too long. 101 if
  * the name is not UTF-8, 102 if the handle has no file, 27 when out of memory. The file is then as it was. */
 uint32_t gix_config_push_line_at(gix_config_file *file, size_t place, const gix_config_line *line);
 
-/* Gives the last entry of a name in the section at a place, counted from 0, another value; a section without
- * such an entry gets a new one. Tells whether there was an entry, and hands out the raw text of its value; what
- * the block had is freed then.
+/* Gives the last entry of a name in a section another value. The section is the one at a place, counted from 0;
+ * without such an entry it gets a new one. Tells whether there was an entry, and returns the raw text of its
+ * value; what the block had is freed then.
  *
  * 100 if there is no such section, 6 for a name that can't be a value's, 3 if the file would be too long. 101 if
  * the name is not UTF-8, 102 if the handle has no file, 27 when out of memory. File, block and boolean are then
@@ -752,17 +757,18 @@ uint32_t gix_config_push_line_at(gix_config_file *file, size_t place, const gix_
 uint32_t gix_config_set_value_at(gix_config_file *file, size_t place, const gix_config_assigned *assigned,
     bool *had, gix_config_bytes *old);
 
-/* Removes the last entry of a name from the section at a place, counted from 0, with the blanks before it and
- * the line endings after it, and hands out the raw text of its value. What the block had is freed.
+/* Removes the last entry of a name from the section at a place. The place is counted from 0. The whitespace
+ * before the entry and the line endings after it are removed, too. Returns the raw text of its value. What the
+ * block had is freed.
  *
  * 100 if there is no such section, or it has no such entry. 101 if the name is not UTF-8, 102 if the handle has
  * no file, 27 when out of memory; the file is then as it was. The block is so after any number but 0. */
 uint32_t gix_config_remove_value_at(gix_config_file *file, size_t place, const uint8_t *name, size_t name_len,
     gix_config_bytes *old);
 
-/* Removes the last entry from the section at a place, counted from 0, whatever its name, with the blanks before
- * it and all that is after it; hands out its name as it is spelled, and what its value means: nothing for an
- * entry without `=`. What the blocks had is freed.
+/* Removes the last entry from the section at a place, whatever its name. The place is counted from 0. The
+ * whitespace before the entry and all that is after it are removed, too. Returns its name as it is spelled, and
+ * what its value means: nothing for an entry without `=`. What the blocks had is freed.
  *
  * 100 if there is no such section, or it has no entry: then all that it has goes. 102 if the handle has no file,
  * 27 when out of memory; the file is then as it was. The blocks are so after any number but 0. */
@@ -788,16 +794,16 @@ uint32_t gix_config_section_remove_at(gix_config_file *file, size_t place);
  * memory. The file is then as it was. */
 uint32_t gix_config_section_set_trust_at(gix_config_file *file, size_t place, uint32_t trust);
 
-/* Opens the file of a text. With `lossy` its blanks, line endings and comments are left out: it is for look-ups
- * then. What was in the handle before is closed.
+/* Opens the file of a text. With `lossy` its whitespace, line endings and comments are left out: it is for
+ * look-ups then. What was in the handle before is closed.
  *
- * Refusal 1 for a text that can't be read on at some place, 2 for one of more than 4294967295 bytes, 27 when out
- * of memory; the handle is then as it was. For 1 and 2 the place says where; else it is as it was. */
+ * 1 for a text that can't be read on at some place, 2 for one of more than 4294967295 bytes, 27 when out of
+ * memory; the handle is then as it was. For 1 and 2 the place says where; else it is as it was. */
 uint32_t gix_config_file_parse(const uint8_t *text, size_t text_len, bool lossy, gix_config_file *file,
     gix_config_place *place);
 
-/* As gix_config_file_parse, of a text that comes from somewhere else than the calling program. Its includes are
- * not followed: gix_config_resolve_includes_told reads them.
+/* Like gix_config_file_parse, but of a text that comes from somewhere else than the calling program. Its
+ * includes are not followed: gix_config_resolve_includes_told reads them.
  *
  * The numbers of gix_config_file_parse; 101 if it has a path that is not UTF-8, else 104 if no source or trust
  * has the number. The handle is as it was after any number but 0, and the place after any but 1 and 2. */
@@ -812,17 +818,18 @@ void gix_config_file_close(gix_config_file *file);
  * 102 if the handle has no file, 27 when out of memory; the other handle is then as it was. */
 uint32_t gix_config_file_clone(const gix_config_file *file, gix_config_file *other_file);
 
-/* Hands out the last value of a key as a path, with the shorthand at its front replaced: `%(prefix)/` by the
- * folder where git is installed, `~/` by the user's home folder. What the block had is freed.
+/* Returns the last value of a key as a path, its shorthand replaced. At the front of the path `%(prefix)/` is
+ * replaced by the directory where git is installed, `~/` by the user's home directory. What the block had is
+ * freed.
  *
- * 100 if there is none. 12 for an empty value, or one that needs a folder that is not known, as those of other
- * users; 13 for a path that is not UTF-8, 14 for the name of a user that is not. 101 if the section's or the
- * value's name, or a folder that is known, is not UTF-8, 102 if the handle has no file, 27 when out of memory.
- * The block is then as it was. */
+ * 100 if there is none. 12 for an empty value, or one that needs a directory that is not known, as those of
+ * other users; 13 for a path that is not UTF-8, 14 for the name of a user that is not. 101 if the section's or
+ * the value's name, or a directory that is known, is not UTF-8, 102 if the handle has no file, 27 when out of
+ * memory. The block is then as it was. */
 uint32_t gix_config_path(const gix_config_file *file, const gix_config_key *key,
     const gix_config_folders *folders, gix_config_bytes *path);
 
-/* Tells the names of a key that is written in one text, such as `remote.origin.url`: the section's is before the
+/* Tells the names of a key that is written in one text, such as `remote.origin.url`. The section's is before the
  * first dot, the value's behind the last one, and the subsection's between them, if these are two. They lie in
  * the text, and are not checked further.
  *
@@ -830,21 +837,22 @@ uint32_t gix_config_path(const gix_config_file *file, const gix_config_key *key,
  * was. */
 uint32_t gix_config_key_parse(const uint8_t *text, size_t text_len, gix_config_key *key);
 
-/* Tells what a text means as a boolean, as gix_config_boolean does of the value of a key.
+/* Tells what a text means as a boolean. gix_config_boolean does the same for the value of a key.
  *
  * 11 for a text that is no boolean, 27 when out of memory. The boolean is then as it was. */
 uint32_t gix_config_boolean_parse(const uint8_t *text, size_t text_len, bool *value);
 
-/* Tells what a text means as an integer, times its suffix, as gix_config_integer does of the value of a key.
+/* Tells what a text means as an integer, times its suffix. gix_config_integer does the same for the value of a
+ * key.
  *
  * 11 for a text that is no integer, or one that 64 bits don't hold, 27 when out of memory. The integer is then
  * as it was. */
 uint32_t gix_config_integer_parse(const uint8_t *text, size_t text_len, int64_t *value);
 
-/* Loads the configuration of a repository, from what a program told of files and of variables: that of the
- * machine and of the user (gix_config_load_globals_told), of the repository (`config` in its folder), of its
- * worktree (`config.worktree`, if `extensions.worktreeConfig` is true), and the entries that variables set
- * (gix_config_load_env_told), one after the other, each with what it includes. What was in the file's handle
+/* Loads the configuration of a repository. It is loaded from what a program told of files and of variables: that
+ * of the machine and of the user (gix_config_load_globals_told), of the repository (`config` in its directory),
+ * of its worktree (`config.worktree`, if `extensions.worktreeConfig` is true), and the entries that variables
+ * set (gix_config_load_env_told), one after the other, each with what it includes. What was in the file's handle
  * before is closed.
  *
  * 105 if nothing was told of a variable that is needed, 103 if nothing was told of a file that is: its name or
@@ -857,29 +865,29 @@ uint32_t gix_config_integer_parse(const uint8_t *text, size_t text_len, int64_t 
 uint32_t gix_config_load_repository_told(const gix_config_told *told, const gix_config_repository *repository,
     gix_config_file *file, gix_config_bytes *asked);
 
-/* Hands out the sections of a file, in order: their names, where they come from, and how many entries each has.
+/* Returns the sections of a file, in order: their names, where they come from, and how many entries each has.
  * What was in the list's handle is closed.
  *
  * 102 if the handle has no file, 27 when out of memory; the list's handle is then as it was. */
 uint32_t gix_config_sections(const gix_config_file *file, gix_config_list *list);
 
-/* Tells where the names of a section of a list lie, counted from 0, where it comes from, and how many entries it
- * has. They lie there until the list is closed.
+/* Tells where the names of a section of a list lie. Sections are counted from 0. Tells also where the section
+ * comes from, and how many entries it has. The names lie there until the list is closed.
  *
  * 100 for a number past the end, 102 if the handle has no list of sections; the place is then as it was. */
 uint32_t gix_config_list_section(const gix_config_list *list, size_t index,
     gix_config_listed_section *section);
 
-/* Hands out the entries of a section, counted from 0 as in the list of gix_config_sections, in order. What was
- * in the list's handle is closed.
+/* Returns the entries of a section, in order. Sections are counted from 0 as in the list of gix_config_sections.
+ * What was in the list's handle is closed.
  *
  * 100 for a number past the end, 102 if the handle has no file, 27 when out of memory; the list's handle is then
  * as it was. */
 uint32_t gix_config_section_entries(const gix_config_file *file, size_t index, gix_config_list *list);
 
-/* Hands out the text of the section at a place, counted from 0: its header, and all that stands between it and
- * the next one, with a line ending put in where two of its parts would otherwise run together. What the block
- * had is freed.
+/* Returns the text of the section at a place, counted from 0. It is its header, and all that stands between it
+ * and the next one, with a line ending put in where two of its parts would otherwise run together. What the
+ * block had is freed.
  *
  * 100 if there is no such section, 102 if the handle has no file, 27 when out of memory. The block is then as it
  * was. */
@@ -897,8 +905,8 @@ uint32_t gix_config_section_remove(gix_config_file *file, const gix_config_secti
  * the name is not UTF-8, 102 if the handle has no file, 27 when out of memory. The file is then as it was. */
 uint32_t gix_config_section_new(gix_config_file *file, const gix_config_section *section);
 
-/* Gives all sections that have the name, without ASCII case, and exactly the subsection, another name and
- * subsection.
+/* Gives all sections of a name and subsection another name and subsection. These are the sections that have the
+ * name, without ASCII case, and exactly the subsection.
  *
  * 7 or 8 if there is none: no section has the name, or none of these has the subsection. 4 for a name and 5 for
  * a subsection that a section can't be made of, 3 if the file would be too long. 101 if a name is not UTF-8, 102
@@ -906,9 +914,9 @@ uint32_t gix_config_section_new(gix_config_file *file, const gix_config_section 
 uint32_t gix_config_section_rename(gix_config_file *file, const gix_config_section *section,
     const gix_config_section *new_section);
 
-/* Gives a key a value: in the last section of its names, whose last entry of the name gets it. A section without
- * such an entry gets a new one; if there is no section, one is made. Tells whether there was an entry, and hands
- * out the raw text of its value; what the block had is freed then.
+/* Gives a key a value. In the last section of its names the last entry of the name gets it. A section without
+ * such an entry gets a new one; if there is no section, one is made. Tells whether there was an entry, and
+ * returns the raw text of its value; what the block had is freed then.
  *
  * 6 for a name that can't be a value's, 4 or 5 if a section has to be made of names that can't be one's, 3 if
  * the file would be too long. 101 if the section's or the value's name is not UTF-8, 102 if the handle has no
@@ -922,27 +930,27 @@ uint32_t gix_config_set_value(gix_config_file *file, const gix_config_key *key, 
  * 27 when out of memory; the handle is then as it was. */
 uint32_t gix_config_told_new(gix_config_told *told);
 
-/* Tells the text of the file at a path, in place of what was told of the path before. The text is copied.
+/* Tells the text of the file at a path. It replaces what was told of the path before. The text is copied.
  *
  * 101 if the path is not UTF-8, 102 if the handle is not one for what is told, 27 when out of memory; what was
  * told is then as it was. */
 uint32_t gix_config_told_text(gix_config_told *told, const uint8_t *path, size_t path_len,
     const uint8_t *text, size_t text_len);
 
-/* Tells that no file is at a path, in place of what was told of the path before: an include of it is left out.
+/* Tells that no file is at a path. This replaces what was told of the path before. An include of it is left out.
  *
  * 101 if the path is not UTF-8, 102 if the handle is not one for what is told, 27 when out of memory; what was
  * told is then as it was. */
 uint32_t gix_config_told_missing(gix_config_told *told, const uint8_t *path, size_t path_len);
 
-/* Tells that the file at a path can't be opened, or, if it opens, that it can't be read; in place of what was
- * told of the path before. A load that needs it is refused.
+/* Tells that the file at a path can't be opened, or can't be read. If it opens, it can't be read. This replaces
+ * what was told of the path before. A load that needs the file is refused.
  *
  * 101 if the path is not UTF-8, 102 if the handle is not one for what is told, 27 when out of memory; what was
  * told is then as it was. */
 uint32_t gix_config_told_fault(gix_config_told *told, const uint8_t *path, size_t path_len, bool opens);
 
-/* Tells what a variable of the environment is set to, in place of what was told of it before. The bytes are
+/* Tells what a variable of the environment is set to. This replaces what was told of it before. The bytes are
  * copied. Of bytes that are not UTF-8 a key or a value can't be made, and a variable that says where a file is
  * counts as not set then.
  *
@@ -951,7 +959,7 @@ uint32_t gix_config_told_fault(gix_config_told *told, const uint8_t *path, size_
 uint32_t gix_config_told_variable(gix_config_told *told, const uint8_t *name, size_t name_len,
     const uint8_t *value, size_t value_len);
 
-/* Tells that a variable of the environment isn't set, in place of what was told of it before.
+/* Tells that a variable of the environment isn't set. This replaces what was told of it before.
  *
  * 101 if the name is not UTF-8, 102 if the handle is not one for what is told, 27 when out of memory; what was
  * told is then as it was. */
@@ -960,32 +968,32 @@ uint32_t gix_config_told_no_variable(gix_config_told *told, const uint8_t *name,
 /* Closes what was told; an empty handle stays empty. */
 void gix_config_told_close(gix_config_told *told);
 
-/* Hands out what the last value of a key means in a text: what gix_config_value hands out of its file, which
- * isn't made. The text is read once. What the block had is freed.
+/* Returns what the last value of a key means in a text. It is what gix_config_value returns for the text's file,
+ * which isn't made. The text is read once. What the block had is freed.
  *
- * 100 if there is none. Refusal 1 for a text that can't be read on at some place, 2 for one of more than
- * 4294967295 bytes; then the place says where, else it is as it was. 101 if the section's or the value's name is
- * not UTF-8, 27 when out of memory. The block is as it was after any number but 0. */
+ * 100 if there is none. 1 for a text that can't be read on at some place, 2 for one of more than 4294967295
+ * bytes; then the place says where, else it is as it was. 101 if the section's or the value's name is not UTF-8,
+ * 27 when out of memory. The block is as it was after any number but 0. */
 uint32_t gix_config_text_value(const uint8_t *text, size_t text_len, const gix_config_key *key,
     gix_config_bytes *value, gix_config_place *place);
 
-/* Hands out what all values of a key mean in a text, in order: what gix_config_values hands out of its file,
- * which isn't made. The text is read once. What was in the list's handle is closed.
+/* Returns what all values of a key mean in a text, in order. It is what gix_config_values returns for the text's
+ * file, which isn't made. The text is read once. What was in the list's handle is closed.
  *
  * The numbers of gix_config_text_value; the list's handle is as it was after any but 0. */
 uint32_t gix_config_text_values(const uint8_t *text, size_t text_len, const gix_config_key *key,
     gix_config_list *list, gix_config_place *place);
 
-/* Tells where the text that was told of a path can't be read on: a load that needs that file is refused. The
+/* Tells where the text that was told of a path can't be read on. A load that needs that file is refused. The
  * text is read once more. A load that is answered with 1 or 2 leaves in its block the path of the refused file.
  *
- * Refusal 1 for a text that can't be read on at some place, 2 for one of more than 4294967295 bytes; then the
- * place says where, else it is as it was. 0 for a text that can be read, 100 if no text was told of the path.
- * 101 if the path is not UTF-8, 102 if the handle is not one for what is told, 27 when out of memory. */
+ * 1 for a text that can't be read on at some place, 2 for one of more than 4294967295 bytes; then the place says
+ * where, else it is as it was. 0 for a text that can be read, 100 if no text was told of the path. 101 if the
+ * path is not UTF-8, 102 if the handle is not one for what is told, 27 when out of memory. */
 uint32_t gix_config_told_place(const gix_config_told *told, const uint8_t *path, size_t path_len,
     gix_config_place *place);
 
-/* Tells the version of the library that a program runs with, such as `0.1.0`; that of the header is
+/* Tells the version of the library that a program runs with, such as `0.1.0`. That of the header is
  * GIX_CONFIG_VERSION. The text stays for good. */
 void gix_config_version(gix_config_text *text);
 

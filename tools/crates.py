@@ -43,8 +43,8 @@ def above(names):
 def files_of(name):
     """The files that a crate is proved of."""
     for part in ("src", "specs", "proofs"):
-        for folder, _, files in os.walk(os.path.join(TOP, "crates", name, part)):
-            yield from (os.path.join(folder, file) for file in files)
+        for directory, _, files in os.walk(os.path.join(TOP, "crates", name, part)):
+            yield from (os.path.join(directory, file) for file in files)
 
 
 def changed(names):
@@ -53,14 +53,14 @@ def changed(names):
 
 
 def copy_into(room, names, left_out=("out", "must-fail")):
-    """Copies these crates, but for some of their folders, so that they are a repository."""
+    """Copies these crates, but for some of their directories, so that they are a repository."""
     listed = lines()
     for name in names:
         copy = os.path.join(room, "crates", name)
         shutil.copytree(os.path.join(TOP, "crates", name), copy, copy_function=shutil.copyfile, ignore=shutil.ignore_patterns(*left_out))
         # (a clone that can't be written has directories that can't)
-        for folder, _, _ in os.walk(copy):
-            os.chmod(folder, 0o755)
+        for directory, _, _ in os.walk(copy):
+            os.chmod(directory, 0o755)
     with open(os.path.join(room, "crates.txt"), "w", encoding="utf-8") as file:
         file.writelines(listed[name] for name in names)
     shutil.copyfile(os.path.join(TOP, "HANDLES"), os.path.join(room, "HANDLES"))
@@ -73,16 +73,16 @@ def library(top, name):
     return os.path.join(top, "crates", name, "out", "rlib")
 
 
-def link(folder, to):
-    """Gives the files of a folder second names, so that a command may remove what it replaces."""
-    shutil.copytree(folder, to, copy_function=os.link)
+def link(directory, to):
+    """Gives the files of a directory second names, so that a command may remove what it replaces."""
+    shutil.copytree(directory, to, copy_function=os.link)
 
 
 def left_by_gate(names):
-    """The folder of the library of each of these crates, as `rt ci` left it in this clone in a gate that began, and passed, since a source was
+    """The directory of the library of each of these crates, as `rt ci` left it in this clone in a gate that began, and passed, since a source was
     changed; else None. (The libraries may be older: what was kept has the time at which it was proved.)"""
-    folders = {name: library(TOP, name) for name in names}
-    return folders if is_of_gate(names) and all(map(os.path.isdir, folders.values())) else None
+    directories = {name: library(TOP, name) for name in names}
+    return directories if is_of_gate(names) and all(map(os.path.isdir, directories.values())) else None
 
 
 def is_of_gate(names):
@@ -97,8 +97,8 @@ def take_from_gate(room, names):
     left = left_by_gate(names)
     if left is None:
         return False
-    for name, folder in left.items():
-        link(folder, library(room, name))
+    for name, directory in left.items():
+        link(directory, library(room, name))
     toolchain = os.path.dirname(os.path.realpath(shutil.which("rt")))
     subprocess.run([sys.executable, "-B", "-c", STAMPING, toolchain, *names], cwd=room, check=True)
     return True

@@ -88,17 +88,17 @@ int open(const char *path, int flags, ...) {
     return fails("open") ? -1 : syscall(SYS_openat, AT_FDCWD, path, flags, mode);
 }
 
-/* By this folders are opened. */
-int openat(int folder, const char *path, int flags, ...) {
+/* By this directories are opened. */
+int openat(int directory, const char *path, int flags, ...) {
     va_list more;
     va_start(more, flags);
     mode_t mode = flags & O_CREAT ? va_arg(more, mode_t) : 0;
     va_end(more);
-    return fails("openat") ? -1 : syscall(SYS_openat, folder, path, flags, mode);
+    return fails("openat") ? -1 : syscall(SYS_openat, directory, path, flags, mode);
 }
 
-ssize_t getdents64(int folder, void *names, size_t size) {
-    return fails("getdents64") ? -1 : syscall(SYS_getdents64, folder, names, size);
+ssize_t getdents64(int directory, void *names, size_t size) {
+    return fails("getdents64") ? -1 : syscall(SYS_getdents64, directory, names, size);
 }
 
 int close(int file) {
@@ -136,8 +136,8 @@ ssize_t readlink(const char *path, char *bytes, size_t size) {
     return fails("readlink") ? -1 : syscall(SYS_readlinkat, AT_FDCWD, path, bytes, size);
 }
 
-int statx(int folder, const char *path, int flags, unsigned mask, struct statx *told) {
-    return fails("statx") ? -1 : syscall(SYS_statx, folder, path, flags, mask, told);
+int statx(int directory, const char *path, int flags, unsigned mask, struct statx *told) {
+    return fails("statx") ? -1 : syscall(SYS_statx, directory, path, flags, mask, told);
 }
 
 int fchown(int file, uid_t owner, gid_t group) { return fails("fchown") ? -1 : syscall(SYS_fchown, file, owner, group); }

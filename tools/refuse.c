@@ -1,13 +1,13 @@
-/* A shim that is loaded before a program (LD_PRELOAD) and refuses growths of it: a malloc, calloc or realloc that asks for
+/* A shim that is loaded before a program (LD_PRELOAD) and refuses allocations of it: a malloc, calloc or realloc that asks for
    bytes. It has two ways.
 
    By command. A program of the script language says by the size of a block where a command begins and ends, while its
-   refusals are on. Asked for BEGIN bytes, the shim counts growths from then on; asked for END bytes, it stops, and grants
-   these only where it refused nothing, so that the program can tell. It refuses a command's first growth, and where one
-   was refused in the try before, the next one: so the same command, given again and again, has each of its growths
-   refused, and at last none. REFUSE_FIRST is the growth that is refused first of all (1 where it is left out).
+   refusals are on. Asked for BEGIN bytes, the shim counts allocations from then on; asked for END bytes, it stops, and grants
+   these only where it refused nothing, so that the program can tell. It refuses a command's first allocation, and where one
+   was refused in the try before, the next one: so the same command, given again and again, has each of its allocations
+   refused, and at last none. REFUSE_FIRST is the allocation that is refused first of all (1 where it is left out).
 
-   By process. REFUSE_AT=N refuses the Nth growth of the whole process, and tells so by making the file REFUSE_LOG.
+   By process. REFUSE_AT=N refuses the Nth allocation of the whole process, and tells so by making the file REFUSE_LOG.
 
    The real calls are those that the C library gives under another name, so that nothing is looked up here. */
 #define _GNU_SOURCE
@@ -25,8 +25,8 @@ extern void *__libc_calloc(size_t count, size_t size);
 extern void *__libc_realloc(void *block, size_t size);
 
 static int is_whole_process, is_counting;
-/* Which growth is refused, of those since the counting began. */
-static unsigned long refused_number, growths;
+/* Which allocation is refused, of those since the counting began. */
+static unsigned long refused_number, allocations;
 /* Whether one was refused in this try. */
 static int was_refused;
 
@@ -52,19 +52,19 @@ static void tell_refusal(void) {
 
 static void begin(void) {
     is_counting = 1;
-    growths = 0;
+    allocations = 0;
     was_refused = 0;
 }
 
-/* A command without a growth changes nothing. */
+/* A command without an allocation changes nothing. */
 static void end(void) {
     is_counting = 0;
-    if (growths == 0)
+    if (allocations == 0)
         return;
     refused_number = was_refused ? refused_number + 1 : 1;
 }
 
-/* Whether this growth is refused. Blocks of BEGIN and END bytes are no growths of the command. */
+/* Whether this allocation is refused. Blocks of BEGIN and END bytes are no allocations of the command. */
 static int is_refused(size_t size) {
     if (!is_whole_process && size == BEGIN) {
         begin();
@@ -76,8 +76,8 @@ static int is_refused(size_t size) {
     }
     if (!is_counting || size == 0)
         return 0;
-    growths++;
-    if (growths != refused_number)
+    allocations++;
+    if (allocations != refused_number)
         return 0;
     was_refused = 1;
     if (is_whole_process)

@@ -2,7 +2,7 @@
 
 The wheel has the modules and the shared library: that which GIXCFG_LIBRARY names, else the one that `make lib` put into out/lib. Where
 there is none, and `make install-lib` or a package of Debian's put one where the system finds it, the wheel has the modules alone. That of an
-editable installation has just the path of this folder, and the source distribution has no library. Two builds of the same files are the
+editable installation has just the path of this directory, and the source distribution has no library. Two builds of the same files are the
 same bytes.
 """
 import base64
@@ -41,7 +41,7 @@ def said(name: str) -> List[str]:
 
 
 def beside(name: str, in_clone: str) -> Files:
-    """A file that lies in the clone, or beside this one in a source distribution; none where this folder stands alone."""
+    """A file that lies in the clone, or beside this one in a source distribution; none where this directory stands alone."""
     found = [it for it in (HERE / name, CLONE / in_clone) if it.is_file()]
     return [(name, it.read_bytes()) for it in found[:1]]
 
@@ -94,11 +94,11 @@ def recorded(path: str, content: bytes) -> str:
 
 def put_wheel(directory: str, content: Files) -> str:
     """Puts a wheel of these files into a directory, and returns its name."""
-    folder = f"{PACKAGE}-{version()}.dist-info"
+    info = f"{PACKAGE}-{version()}.dist-info"
     kind = f"Wheel-Version: 1.0\nGenerator: {PACKAGE}\nRoot-Is-Purelib: false\nTag: {TAG}\n"
-    packed = [*content, *((f"{folder}/{name}", text) for name, text in licences()), (f"{folder}/METADATA", metadata()),
-              (f"{folder}/WHEEL", kind.encode())]
-    record = f"{folder}/RECORD"
+    packed = [*content, *((f"{info}/{name}", text) for name, text in licences()), (f"{info}/METADATA", metadata()),
+              (f"{info}/WHEEL", kind.encode())]
+    record = f"{info}/RECORD"
     packed.append((record, ("".join(recorded(*it) for it in packed) + f"{record},,\n").encode()))
     name = f"{PACKAGE}-{version()}-{TAG}.whl"
     with zipfile.ZipFile(Path(directory) / name, "w") as wheel:
@@ -116,7 +116,7 @@ def build_wheel(wheel_directory: str, config_settings: Optional[Dict[str, Any]] 
 
 
 def build_editable(wheel_directory: str, config_settings: Optional[Dict[str, Any]] = None, metadata_directory: Optional[str] = None) -> str:
-    """Puts the wheel of an editable installation into a directory, and returns its name. The package then runs from this folder, with the
+    """Puts the wheel of an editable installation into a directory, and returns its name. The package then runs from this directory, with the
     library of out/lib."""
     return put_wheel(wheel_directory, [(f"__editable__.{PACKAGE}.pth", f"{HERE}\n".encode())])
 

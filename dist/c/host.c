@@ -1,7 +1,7 @@
 /*
- * What the program asks of its process: words, environment variables, errno, and folders to be listed. What each function is asked and has to answer stands
- * in the kit, in rattle/os/src/c.rt, which the proofs take as given; nothing proves this file. Of the functions that stand there these
- * are the ones that the program calls; if it comes to call another one, the linker names it.
+ * What the program asks of its process: arguments, environment variables, errno, and directories to be listed. What each function is asked
+ * and has to answer stands in the kit, in rattle/os/src/c.rt, which the proofs take as given; nothing proves this file. Of the functions
+ * that stand there these are the ones that the program calls; if it comes to call another one, the linker names it.
  */
 #define _POSIX_C_SOURCE 200809L
 #include <errno.h>

@@ -1,4 +1,4 @@
-/* Configuration on a disk: host/gix_config_disk.c, in a folder of its own. */
+/* Configuration on a disk: host/gix_config_disk.c, in a directory of its own. */
 #ifndef _XOPEN_SOURCE
 #define _XOPEN_SOURCE 700
 #endif
@@ -175,8 +175,8 @@ static void refused_edits(void)
 
 int main(void)
 {
-    char folder[] = "disk-XXXXXX";
-    CHECK(mkdtemp(folder) != NULL && chdir(folder) == 0);
+    char directory[] = "disk-XXXXXX";
+    CHECK(mkdtemp(directory) != NULL && chdir(directory) == 0);
     loads();
     loads_of_variables();
     edits();

@@ -1,4 +1,4 @@
-/* A heap that refuses one growth: that of a number which the test sets. */
+/* A heap that refuses one allocation: that of a number which the test sets. */
 #include "refusing_heap.h"
 #include <stdbool.h>
 #include <stdlib.h>
@@ -8,14 +8,14 @@ struct rattle_memory {
     void *at;
 };
 
-long growths = 0;
-long refused_growth = -1;
+long allocations = 0;
+long refused_allocation = -1;
 
 static char nowhere;
 
 static bool is_refused(void)
 {
-    return growths++ == refused_growth;
+    return allocations++ == refused_allocation;
 }
 
 static struct rattle_memory granted(void *at)

@@ -1,4 +1,4 @@
-/* A heap that counts the growths that the library asks for, and refuses one of them. */
+/* A heap that counts the allocations that the library asks for, and refuses one of them. */
 #ifndef REFUSING_HEAP_H
 #define REFUSING_HEAP_H
 
@@ -7,10 +7,10 @@ extern "C" {
 #endif
 
 /* How many were asked for. */
-extern long growths;
+extern long allocations;
 
 /* The number of the one that is refused, from 0; none for -1. */
-extern long refused_growth;
+extern long refused_allocation;
 
 #ifdef __cplusplus
 }

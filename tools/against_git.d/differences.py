@@ -24,7 +24,7 @@ def known_of(version):
 
 
 def tree_of(files, **variables):
-    """A tree of these files, with the home folder and the place of the machine's file as in made trees."""
+    """A tree of these files, with the home directory and the place of the machine's file as in made trees."""
     return Tree(files, {"HOME": ROOT + "/home", "GIT_CONFIG_SYSTEM": f"{ROOT}/{SYSTEM}", **variables})
 
 
@@ -62,7 +62,7 @@ DIFFERENCES = [
     Difference("includes in another case", "machine",
                tree_of({USER: '[Include] path = x\n[includeif "hasconfig:**"] path = x\n', "home/x": "[a] k = v\n"}),
                (INCLUDES_X + V + at(USER, "includeif.hasconfig:**.path=x"), INCLUDES_X + at(USER, "includeif.hasconfig:**.path=x"))),
-    Difference("the folder of a file that is linked", "repository",
+    Difference("the directory of a file that is linked", "repository",
                tree_of({USER: "[include] path = ~/../link/p3\n", "home/r/p3": '[includeIf "gitdir:./"] path = ~/x\n',
                         "home/x": "[a] k = v\n"}),
                (at(USER, "include.path=~/../link/p3") + at("home/../link/p3", "includeif.gitdir:./.path=~/x") + V,
@@ -83,7 +83,7 @@ DIFFERENCES = [
                (at(USER, "include.path=1") + [entry for number in range(1, 10) for entry in
                                               at(f"home/{number}", f"a.k={number}", f"include.path={number + 1}")]
                 + at("home/10", "a.k=10"), REFUSED)),
-    Difference("a folder that is included", "machine", tree_of({USER: "[a] k = 1\n[include] path = r\n"}),
+    Difference("a directory that is included", "machine", tree_of({USER: "[a] k = 1\n[include] path = r\n"}),
                (REFUSED, HERE + at(USER, "include.path=r"))),
     Difference("a path without text", "machine", tree_of({USER: "[a] k = 1\n[include] path =\n"}),
                (REFUSED, HERE + at(USER, "include.path="))),
@@ -98,7 +98,7 @@ DIFFERENCES = [
                tree_of({USER: "[a] k = 1\n"}, GIT_CONFIG_SYSTEM=f"{ROOT}/{USER}"), (HERE + HERE, HERE)),
     Difference("overrides of one section", "machine", tree_of({}, **overrides(("a.k", "1"), ("b.k", "2"), ("a.j", "3"))),
                (at("command line:", "a.k=1", "b.k=2", "a.j=3"), at("command line:", "a.k=1", "a.j=3", "b.k=2"))),
-    Difference("a blank before a count", "machine", tree_of({}, **{**overrides(("a.k", "1")), "GIT_CONFIG_COUNT": " 1"}),
+    Difference("a space before a count", "machine", tree_of({}, **{**overrides(("a.k", "1")), "GIT_CONFIG_COUNT": " 1"}),
                (at("command line:", "a.k=1"), REFUSED)),
     Difference("a switch that is no boolean", "machine", tree_of({SYSTEM: "[a] k = 1\n"}, GIT_CONFIG_NOSYSTEM="x"),
                (REFUSED, at(SYSTEM, "a.k=1"))),

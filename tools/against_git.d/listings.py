@@ -1,4 +1,4 @@
-"""What git and the program crates/git_listing list of a tree: each entry with the file that it comes from, or a refusal."""
+"""What git and the program crates/git_listing list of a tree: each entry with the file that it comes from, or an error."""
 
 import os
 import subprocess
@@ -11,8 +11,8 @@ LIMIT = 20
 
 def asked_of_git(tree, load, root):
     """What git lists: outside of the repository, or in it."""
-    folder = [] if load == "machine" else ["--git-dir", tree.git_dir_in(root)]
-    return _entries(["git", *folder, "config", "--list", "-z", "--show-origin", "--includes"], tree, root)
+    directory = [] if load == "machine" else ["--git-dir", tree.git_dir_in(root)]
+    return _entries(["git", *directory, "config", "--list", "-z", "--show-origin", "--includes"], tree, root)
 
 
 def asked_of_ours(tree, load, root, program):

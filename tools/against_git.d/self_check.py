@@ -1,4 +1,4 @@
-"""Shows by false programs that what differs from git is told: another order, value, place or count, and a refusal."""
+"""Shows by false programs that what differs from git is told: another order, value, place or count, and an error."""
 
 import re
 import subprocess
@@ -12,8 +12,8 @@ TREES = 20
 SPEAKER = r"""#!PYTHON
 import subprocess, sys
 FAULT = "WRONG"
-folder = ["--git-dir", sys.argv[2]] if sys.argv[2:] else []
-told = subprocess.run(["git", *folder, "config", "--list", "-z", "--show-origin", "--includes"], stdout=subprocess.PIPE)
+directory = ["--git-dir", sys.argv[2]] if sys.argv[2:] else []
+told = subprocess.run(["git", *directory, "config", "--list", "-z", "--show-origin", "--includes"], stdout=subprocess.PIPE)
 pieces = told.stdout.split(b"\0")[:-1]
 if told.returncode or (FAULT == "refused" and pieces):
     sys.exit(1)
@@ -42,8 +42,8 @@ def run(tool, known):
 
 def _told(tool, source):
     """What the tool tells of a program with this source."""
-    with tempfile.TemporaryDirectory() as folder:
-        program = Path(folder) / "program"
+    with tempfile.TemporaryDirectory() as directory:
+        program = Path(directory) / "program"
         program.write_text(source)
         program.chmod(0o700)
         ran = subprocess.run([sys.executable, str(tool), "--trees", str(TREES), "--program", str(program)], stdout=subprocess.PIPE)

@@ -4,7 +4,7 @@ import os
 from dataclasses import dataclass, field
 from typing import Dict, List, Optional
 
-# Stands for the folder of the tree, in a text or a variable.
+# Stands for the directory of the tree, in a text or a variable.
 ROOT = "@ROOT@"
 
 # The files that nothing has to include, by how they are found.
@@ -18,7 +18,7 @@ POOL = ("home/inc/p0", "home/p1", "etc/p2", "home/r/p3", "home/r/.git/p4", "far/
 
 @dataclass
 class Tree:
-    """Files by their places below the folder of the tree, and variables."""
+    """Files by their places below the directory of the tree, and variables."""
 
     files: Dict[str, str] = field(default_factory=dict)
     variables: Dict[str, str] = field(default_factory=dict)
@@ -27,7 +27,7 @@ class Tree:
     loads: List[str] = field(default_factory=lambda: ["machine", "repository"])
 
     def git_dir_in(self, root):
-        """The folder of the repository, as it is named."""
+        """The directory of the repository, as it is named."""
         return os.path.join(root, "link" if self.is_linked else "home/r", ".git")
 
     def variables_in(self, root):
@@ -36,10 +36,10 @@ class Tree:
         return {**own, **{name: text.replace(ROOT, root) for name, text in self.variables.items()}}
 
     def put_into(self, root):
-        """Writes the files, and what makes a folder a repository."""
+        """Writes the files, and what makes a directory a repository."""
         head = self.branch and f"ref: {self.branch}\n"
-        for folder in ("far", "home/r/.git/objects", "home/r/.git/refs"):
-            os.makedirs(os.path.join(root, folder))
+        for directory in ("far", "home/r/.git/objects", "home/r/.git/refs"):
+            os.makedirs(os.path.join(root, directory))
         os.symlink("home/r", os.path.join(root, "link"))
         for place, text in {**self.files, "home/r/.git/HEAD": head or f"{1:040}\n"}.items():
             path = os.path.join(root, place)
@@ -62,10 +62,10 @@ LINES = ("# comment\n", "; comment\n", "\n", " \t\n", "\t# comment \\\n")
 
 BRANCHES = ("refs/heads/main", "refs/heads/feat/x", "refs/heads/feat/y/z", "refs/heads/Main", None)
 BRANCH_PATTERNS = ("main", "feat/", "feat/*", "feat/**", "**", "*", "m??n", "Main", "refs/heads/main", "[l-n]ain", "x", "**/z", "")
-FOLDER_PATTERNS = (ROOT + "/home/r/", ROOT + "/home/r/.git", ROOT + "/home/r", "r/", "R/", "r/.git", "**/r/.git", "~/", "~/r/", "~/R/",
+DIRECTORY_PATTERNS = (ROOT + "/home/r/", ROOT + "/home/r/.git", ROOT + "/home/r", "r/", "R/", "r/.git", "**/r/.git", "~/", "~/r/", "~/R/",
                    "../", ROOT + "/link/", "link/", ROOT + "/h*/r/", ROOT + "/**", "h*/", "x/", ".git", "*/.git", "r/**/.git",
                    ROOT + "/HOME/")
-OWN_FOLDER_PATTERNS = ("./", "./r/", "./R/", "./**")
+OWN_DIRECTORY_PATTERNS = ("./", "./r/", "./R/", "./**")
 
 
 def made_tree(chance):
@@ -109,7 +109,7 @@ def _add_overrides(chance, tree, asks_branch):
         return
     pool = [("a.k", "v"), ("A.K", ""), ("a.j", " # "), ("b.Q.k", "a\nb"), ("b.Q.j", "\u00e9"), ("c-d.k", '"'), ("b.p.q.k", "\\"),
             ("include.path", f"{ROOT}/{chance.choice(POOL)}"), ("include.path", "~/p1"),
-            ("include.path", "p1"), (f"includeIf.gitdir:{chance.choice(FOLDER_PATTERNS[:3])}.path", f"{ROOT}/{chance.choice(POOL)}")]
+            ("include.path", "p1"), (f"includeIf.gitdir:{chance.choice(DIRECTORY_PATTERNS[:3])}.path", f"{ROOT}/{chance.choice(POOL)}")]
     if asks_branch:
         pool.append((f"includeIf.onbranch:{chance.choice(BRANCH_PATTERNS[:5])}.path", f"{ROOT}/{chance.choice(POOL)}"))
     groups = {}
@@ -175,7 +175,7 @@ def _spelled(chance, place, target):
 
 
 def _conditional(chance, place, asks_branch, remote):
-    """The header of a condition. One on the file's own folder only where git names the file by a path without links and `..`."""
+    """The header of a condition. One on the file's own directory only where git names the file by a path without links and `..`."""
     kinds = ["gitdir", "gitdir/i"] + ["onbranch"] * (2 * asks_branch) + ["hasconfig"] * bool(remote)
     kinds += ["other"] * (chance.random() < 0.1)
     kind = chance.choice(kinds)
@@ -183,6 +183,6 @@ def _conditional(chance, place, asks_branch, remote):
         # The remote that a file tells of is of a name that no other file has, so that all files tell what this one does.
         pattern = "remote.*.url:" + chance.choice((remote, remote[:-1] + "?", "*" + remote[1:], remote + "x"))
     else:
-        folders = FOLDER_PATTERNS + OWN_FOLDER_PATTERNS * (place in OUTER)
-        pattern = chance.choice(BRANCH_PATTERNS if kind == "onbranch" else folders)
+        directories = DIRECTORY_PATTERNS + OWN_DIRECTORY_PATTERNS * (place in OUTER)
+        pattern = chance.choice(BRANCH_PATTERNS if kind == "onbranch" else directories)
     return f'[includeIf "{kind}:{pattern}"]'

@@ -41,7 +41,7 @@ class Kind:
     """A type that crosses."""
 
     of: str
-    """`number`, `handle`, `struct`, `text` (that a program gives), `span` (a text that is handed out), or `owner` (of bytes)."""
+    """`number`, `handle`, `struct`, `text` (that a program gives), `span` (a text that is returned), or `owner` (of bytes)."""
     name: str = ""
     """Which number, handle or struct."""
 
@@ -56,7 +56,7 @@ class Value:
     """`const` or `mut` for a pointer to such."""
     says: str = ""
     stays: bool = False
-    """Whether a text that is handed out stays for good."""
+    """Whether a text that is returned stays for good."""
 
 
 @dataclass(frozen=True)
@@ -196,6 +196,6 @@ def boundary(texts: Dict[str, str], version: str) -> Boundary:
     return Boundary(sources["lib"].about, numbers, version_of(version), structs(sources), calls)
 
 
-def read(folder: Path, version: str) -> Boundary:
-    """What crosses, of the sources in a folder and of the version."""
-    return boundary({it.stem: it.read_text(encoding="utf-8") for it in sorted(folder.glob("*.rt"))}, version)
+def read(directory: Path, version: str) -> Boundary:
+    """What crosses, of the sources in a directory and of the version."""
+    return boundary({it.stem: it.read_text(encoding="utf-8") for it in sorted(directory.glob("*.rt"))}, version)

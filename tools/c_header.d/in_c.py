@@ -93,6 +93,6 @@ def manual(it: Boundary) -> str:
     lines.append(".SH RETURN VALUE")
     for value in it.constants[0].named:
         lines += [".TP", f".BR GIX_CONFIG_{value.name} \" ({it.constants[0].numbers[value.name]})\"", told(value.says)]
-    lines += [".PP", "Those up to 27 are refusals of docs/refusals.md, which says more of each; gix_config_refusal_text has words for all.",
+    lines += [".PP", "Those up to 27 are errors of docs/refusals.md, which says more of each; gix_config_refusal_text has words for all.",
               ".SH SEE ALSO", ".BR gixcfg (1)"]
     return "\n".join(lines) + "\n"

@@ -55,7 +55,7 @@ def class_(name: str, about: str, fields: List[List[str]]) -> str:
 def struct(it: Struct) -> str:
     """A struct. A text is two: one whose bytes Python holds on to, and one that lies in the library or a handle."""
     if it.name != "text":
-        # (bytes that are handed out lie elsewhere than in Python's own)
+        # (bytes that are returned lie elsewhere than in Python's own)
         return class_(class_of(it.name), it.says, [[value.name, "c_void_p" if value.pointer else crosses_as(value)] for value in it.fields])
     return class_("Text", "Bytes that a program gives.", [[value.name, crosses_as(value)] for value in it.fields]) + \
         class_("Span", it.says, [[value.name, "c_void_p" if value.pointer else crosses_as(value)] for value in it.fields])

@@ -116,7 +116,7 @@ def tokens(text: str, name: str) -> List[Token]:
 
 
 def next_token(text: str, at: int, line: int, name: str) -> Tuple[Optional[Token], int]:
-    """The token at a place, if one is there and not a blank or a comment; and where the next one begins."""
+    """The token at a place, if one is there and not whitespace or a comment; and where the next one begins."""
     if text[at].isspace():
         return None, at + 1
     if text.startswith("//", at):
@@ -236,7 +236,7 @@ class Reader:
         return paragraphs(lines)
 
     def group(self) -> str:
-        """Takes all from a bracket to the one that closes it, and returns it without blanks."""
+        """Takes all from a bracket to the one that closes it, and returns it without whitespace."""
         begun, open_ = self.at, [CLOSES.get(self.left[self.at].text) if not self.is_done() else None]
         if open_[0] is None:
             self.refuse("a bracket is missing")

@@ -102,7 +102,7 @@ FAULTS: Dict[str, Dict[str, Tuple[str, str]]] = {
     "python": {
         "a field is moved": ('        ("source", c_uint32),\n        ("level", c_uint32),', '        ("level", c_uint32),\n        ("source", c_uint32),'),
         "a field is wider": ('("least_trust", c_uint32)', '("least_trust", c_size_t)'),
-        "a field of what is handed out is moved": ('        ("at", c_void_p),\n        ("len", c_size_t),\n    ]\n\n\nclass Key',
+        "a field of what is returned is moved": ('        ("at", c_void_p),\n        ("len", c_size_t),\n    ]\n\n\nclass Key',
                                                    '        ("len", c_size_t),\n        ("at", c_void_p),\n    ]\n\n\nclass Key'),
         "a number is another": ("NOT_TOLD = 103", "NOT_TOLD = 106"),
         "a parameter less": ('"gix_config_told_new": ([POINTER(Told)]', '"gix_config_told_new": ([]'),
@@ -148,7 +148,7 @@ def tell(report: Report, holds: bool, fault: str) -> None:
         report.fault(f"c_header: {fault}")
 
 
-def refusal(text: str, is_read: bool) -> str:
+def error_of(text: str, is_read: bool) -> str:
     """Why a source is refused, if it is."""
     try:
         source = rattle.read(text, "some.rt")
@@ -166,9 +166,9 @@ def refusal(text: str, is_read: bool) -> str:
 def try_refused(report: Report) -> None:
     for is_read, sources in ((False, REFUSED), (True, NO_SUCH)):
         for name, (text, words) in sources.items():
-            said = refusal(text, is_read)
+            said = error_of(text, is_read)
             tell(report, words in said, f"{name}: {said or 'it is read'}")
-            tell(report, not is_read or not refusal(text, False), f"{name}: it can't be read at all")
+            tell(report, not is_read or not error_of(text, False), f"{name}: it can't be read at all")
 
 
 def with_fault(texts: Dict[str, str], language: str, old: str, new: str, room: Path) -> compared.Files:

@@ -5,7 +5,7 @@
 # zsh completes only in a shell that somebody types into. So one is begun behind a pseudo-terminal, the words and a tab are
 # typed, and each match that the completion adds is noted in a file.
 zmodload zsh/zpty
-folder=${1:A:h}
+directory=${1:A:h}
 shift
 export CANDIDATES_ROOM=$(mktemp -d)
 trap 'rm -rf $CANDIDATES_ROOM' EXIT
@@ -44,7 +44,7 @@ until_there() {
     exit 2
 }
 
-export ZDOTDIR=$CANDIDATES_ROOM FPATH=$folder:$FPATH TERM=dumb
+export ZDOTDIR=$CANDIDATES_ROOM FPATH=$directory:$FPATH TERM=dumb
 # (exec, since the trap above is for this process alone)
 zpty -b shell exec zsh --no-global-rcs -i
 until_there begun

@@ -39,7 +39,7 @@ _gixcfg() {{
 # The files that a word begins.
 _gixcfg_files() {{
     mapfile -t COMPREPLY < <(compgen -f -- "$1")
-    # readline then writes a slash after a folder, and a backslash before a blank. (A test has no completion to set that for.)
+    # readline then writes a slash after a directory, and a backslash before a space. (A test has no completion to set that for.)
     compopt -o filenames 2>/dev/null || true
 }}
 
@@ -49,7 +49,7 @@ complete -F _gixcfg gixcfg
 ZSH = """\
 #compdef gixcfg
 # Completion of gixcfg in zsh, {note}.
-# `make install` puts this file where Debian's zsh finds it; else into a folder of $fpath.
+# `make install` puts this file where Debian's zsh finds it; else into a directory of $fpath.
 
 _gixcfg() {{
     local curcontext=$curcontext state line

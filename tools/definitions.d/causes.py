@@ -1,4 +1,4 @@
-"""Why each edit is refused, as the definition `causes` has it: the table of docs/refusals.md."""
+"""Why each edit is refused, as the definition `causes` has it: the list of docs/refusals.md."""
 import re
 
 EDITED, DONE = "crates/gitconf_store/specs/Edited.antt", "crates/gitconf_body/specs/Done.antt"
@@ -10,7 +10,7 @@ NUMBERS = {"Missing": "E7, E8 or E9", "InvalidKey": "E6", "InvalidName": "E4", "
 CALLS = {
     "SetRawValue": "`set_raw_value`, `set_raw_value_by`, and their forms with a filter",
     "Push": "`SectionMut::push`, `push_with_comment`",
-    "PushAfterLast": "`SectionMut::push_after_last`",
+    "PushAfterLast": "`push_after_last`",
     "PushLineEnd": "`SectionMut::push_newline`",
     "SetValue": "`SectionMut::set`",
     "WriteAt": "`ValueMut::set`, `MultiValueMut::set_at`; `set_existing_raw_value`, also of several values, after the errors of its lookup",
@@ -46,19 +46,22 @@ def named(body, found):
             yield from named(found[word], found)
 
 
-def table():
-    found = bodies()
-    rows = [(CALLS[edit], ", then ".join(NUMBERS[cause] for cause in named(found[edit], found))) for edit in CALLS]
-    return "".join(["| call | refused by |\n", "|---|---|\n", *(f"| {calls} | {numbers} |\n" for calls, numbers in rows)])
+def listed():
+    """The lines of the list: the calls that have the same causes, and these."""
+    found, calls = bodies(), {}
+    for edit in CALLS:
+        causes = "; ".join(NUMBERS[cause] for cause in named(found[edit], found))
+        calls.setdefault(causes, []).append(CALLS[edit])
+    return "".join(f"- {'; '.join(those)}: {causes}\n" for causes, those in calls.items())
 
 
 def on_page():
-    """The table that stands on the page."""
+    """The list that stands on the page."""
     return read(PAGE).partition(START)[2].partition(END)[0]
 
 
 def write():
     before, _, rest = read(PAGE).partition(START)
-    text = before + START + table() + END + rest.partition(END)[2]
+    text = before + START + listed() + END + rest.partition(END)[2]
     with open(PAGE, "w", encoding="utf-8") as file:
         file.write(text)

@@ -13,9 +13,9 @@ NAME = re.compile(r"[A-Za-z_]\w*(?:\.[A-Za-z_]\w*)?")
 
 
 def files(top, ending):
-    for folder, inner, names in os.walk(top):
+    for directory, inner, names in os.walk(top):
         inner[:] = sorted(name for name in inner if name != "out")
-        yield from (os.path.join(folder, name) for name in sorted(names) if name.endswith(ending))
+        yield from (os.path.join(directory, name) for name in sorted(names) if name.endswith(ending))
 
 
 def imports(text, crate):

@@ -10,7 +10,7 @@ from dataclasses import dataclass
 from email.utils import formatdate
 from pathlib import Path
 
-from release import TOP, Lacking, folder_of, run, time_of_release, version
+from release import TOP, Lacking, directory_of, run, time_of_release, version
 
 # What an archive has beside the program, by its place there and in the repository.
 FILES = {
@@ -26,7 +26,7 @@ FILES = {
     "INSTALL": "dist/INSTALL",
     "Makefile": "dist/install.mk",
 }
-# What one for x86_64 has of the library for C, in its folder lib.
+# What one for x86_64 has of the library for C, in its directory lib.
 LIBRARY_FILES = ["gix_config.h", "gix_config.pc", "gix_config.3", "gix_config_disk.h", "gix_config_disk.c", "libgix_config.a", "libgix_config_c.a",
                  "libgix_config.so.0"]
 
@@ -97,9 +97,9 @@ def packed(content):
     return subprocess.run(["gzip", "-9nc"], input=content, stdout=subprocess.PIPE, check=True).stdout
 
 
-def settle(folder, time):
-    """Gives all below a folder, and itself, modes that don't depend on the umask, and one time."""
-    for at, _, names in os.walk(folder, topdown=False):
+def settle(directory, time):
+    """Gives all below a directory, and itself, modes that don't depend on the umask, and one time."""
+    for at, _, names in os.walk(directory, topdown=False):
         for name in names:
             os.utime(os.path.join(at, name), (time, time), follow_symlinks=False)
         os.chmod(at, 0o755)
@@ -107,8 +107,8 @@ def settle(folder, time):
 
 
 def archive(program, processor, to, library=None):
-    """Makes the archive for a processor in the folder `to`, with the library of a folder if there is one, and returns its path."""
-    name, time = folder_of(processor), time_of_release()
+    """Makes the archive for a processor in the directory `to`, with the library of a directory if there is one, and returns its path."""
+    name, time = directory_of(processor), time_of_release()
     made = to / f"{name}.tar.gz"
     with tempfile.TemporaryDirectory() as room:
         top = Path(room, name)
@@ -165,7 +165,7 @@ def changelog(time):
 
 
 def install(target, top, *words):
-    """Puts below a folder what a target of make installs; of the licences what Debian wants."""
+    """Puts below a directory what a target of make installs; of the licences what Debian wants."""
     run("make", "-s", "-C", str(TOP), "-f", "dist/install.mk", target, f"DESTDIR={top}", "PREFIX=/usr", "licences=dist/copyright", *words,
         env=plain_environment())
 
@@ -181,7 +181,7 @@ def file_of(package, processor):
 
 
 def pack(package, processor, top, needs, to):
-    """Makes a Debian package of what lies in a folder, and of what each package has, in the folder `to`, and returns its path."""
+    """Makes a Debian package of what lies in a directory, and of what each package has, in the directory `to`, and returns its path."""
     time = time_of_release()
     made = to / file_of(package, processor)
     write(top / f"usr/share/doc/{package.name}/changelog.Debian.gz", packed(changelog(time).encode()))
@@ -198,7 +198,7 @@ def pack(package, processor, top, needs, to):
 
 
 def program_package(program, processor, to):
-    """Makes the Debian package of the program for a processor in the folder `to`, and returns its path."""
+    """Makes the Debian package of the program for a processor in the directory `to`, and returns its path."""
     with tempfile.TemporaryDirectory() as room:
         top = Path(room, "package")
         # (Debian has its own place for zsh's functions)
@@ -208,7 +208,7 @@ def program_package(program, processor, to):
 
 
 def library_packages(library, to):
-    """Makes the two Debian packages of the library for C that lies in a folder, in the folder `to`, and returns their paths."""
+    """Makes the two Debian packages of the library for C that lies in a directory, in the directory `to`, and returns their paths."""
     with tempfile.TemporaryDirectory() as room:
         runtime, top = Path(room, "runtime"), Path(room, "development")
         install("install-lib", top, f"LIBRARY={library}", f"libdir=/{LIBRARIES}", f"libdocdir=/usr/share/doc/{DEVELOPMENT.name}")

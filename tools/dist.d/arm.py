@@ -64,7 +64,7 @@ def copy_libraries(room):
 
 
 def left_by_ci(top):
-    """The folder of each proved library below the program, as `rt ci` leaves them in a repository."""
+    """The directory of each proved library below the program, as `rt ci` leaves them in a repository."""
     return {name: top / "crates" / name / "out/rlib" for name in libraries()[0]}
 
 
@@ -72,9 +72,9 @@ def left_in_clone():
     """The same of this clone, as ./prove or tools/build left them, if none is missing or older than a source."""
     left = crates.left_by_gate(libraries()[0])
     if left:
-        return {name: Path(folder) for name, folder in left.items()}
+        return {name: Path(directory) for name, directory in left.items()}
     built = {name: TOP / "out/libraries" / name for name in libraries()[0]}
-    files = [folder / f"{name}.rlib/format" for name, folder in built.items()]
+    files = [directory / f"{name}.rlib/format" for name, directory in built.items()]
     return built if all(file.exists() and source_newer_than(file) is None for file in files) else None
 
 
@@ -83,8 +83,8 @@ def words_of(below, root):
     words = ["--crate-name", "gixcfg", "src/main.rt"]
     for name in ["std", *crates.named(crates.lines()["gixcfg"])]:
         words += ["--extern", f"{name}={below.get(name, root / 'rlibs')}/{name}.rlib"]
-    for folder in [root / "rlibs", *below.values()]:
-        words += ["-L", f"dependency={folder}"]
+    for directory in [root / "rlibs", *below.values()]:
+        words += ["-L", f"dependency={directory}"]
     words += ["--antt-project", f"{root}/rattle/logic/antt-project.json", "--logic-built", f"{root}/logic_built"]
     return [*words, "--links", "gixcfg=", "--target", TARGET, "--toolchain", f"{root}/toolchain"]
 
@@ -126,7 +126,7 @@ def prove():
 
 
 def link():
-    """Links the object with the C files. No path of this machine comes into the program: they are named as they lie in their folder."""
+    """Links the object with the C files. No path of this machine comes into the program: they are named as they lie in their directory."""
     new = OUT / "new"
     run(COMPILER, "-std=c11", "-O2", "-Wall", "-Wextra", "-Werror", "-fPIE", "-pie", "-Wl,-z,relro,-z,now", *C_FILES, OBJECT, "-o", new,
         cwd=TOP / "dist/c")

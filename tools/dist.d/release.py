@@ -52,7 +52,7 @@ def version():
 
 
 def kit():
-    """The folder of the kit."""
+    """The directory of the kit."""
     if shutil.which("rt") is None:
         raise Lacking("the kit's command rt is not on the PATH")
     return Path(run("rt", "doc").strip()).parent
@@ -75,8 +75,8 @@ def sum_of(file):
     return hashlib.sha256(file.read_bytes()).hexdigest()
 
 
-def folder_of(processor):
-    """What the folder in the archive for a processor is called."""
+def directory_of(processor):
+    """What the directory in the archive for a processor is called."""
     return f"gixcfg-{version()}-{processor}-linux"
 
 
@@ -118,7 +118,7 @@ def built_program():
 
 
 def built_library():
-    """The folder of the library for C as `make lib` left it, if it is newer than its sources."""
+    """The directory of the library for C as `make lib` left it, if it is newer than its sources."""
     library = tool("c_library")
     if not library.is_made():
         raise Lacking(f"{library.MADE.relative_to(TOP)} has no library for C, or one that is older than its sources: `make lib` makes it")

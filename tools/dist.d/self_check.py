@@ -1,13 +1,13 @@
 """Shows that a comparison with dist/SHA256SUMS fails where a sum or a program is changed, and under another kit says nothing."""
 from dataclasses import replace
 
-from release import folder_of
+from release import directory_of
 from sums import FILE, Sums, compare, read
 
 
 def programs():
     """The files that have a sum."""
-    return [f"{folder_of('x86_64')}/gixcfg", f"{folder_of('aarch64')}/gixcfg.o", f"{folder_of('aarch64')}/gixcfg"]
+    return [f"{directory_of('x86_64')}/gixcfg", f"{directory_of('aarch64')}/gixcfg.o", f"{directory_of('aarch64')}/gixcfg"]
 
 
 def with_other_digit(sums, name):

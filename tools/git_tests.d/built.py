@@ -31,7 +31,7 @@ def run(*words, cwd):
 
 
 def asked_of_apt(room, *words):
-    """Asks apt for something with sources, lists and a cache of its own in this folder, so that the machine's stay as they are."""
+    """Asks apt for something with sources, lists and a cache of its own in this directory, so that the machine's stay as they are."""
     ran = run("apt-get", *words, "-q", "-o", f"Dir::Etc::sourcelist={room}/trixie.sources", "-o", "Dir::Etc::sourceparts=-",
               "-o", f"Dir::State::lists={room}/lists", "-o", f"Dir::Cache={room}/cache", "-o", "APT::Sandbox::User=root",
               "-o", "APT::Update::Error-Mode=any", "-o", "Acquire::Retries=1", "-o", "Acquire::http::Timeout=20", cwd=room)
@@ -40,7 +40,7 @@ def asked_of_apt(room, *words):
 
 
 def fetch(room):
-    """Puts the archive of the source into the folder. apt holds it to the sum that Debian's signed list has."""
+    """Puts the archive of the source into the directory. apt holds it to the sum that Debian's signed list has."""
     (room / "trixie.sources").write_text(SOURCES, encoding="utf-8")
     for name in ("lists/partial", "cache"):
         (room / name).mkdir(parents=True)
@@ -74,10 +74,10 @@ def make(source, *words):
 
 
 def git_in(cache, jobs):
-    """The folder of the built git below this one. What isn't there is fetched and built aside, and put there whole when it is done."""
-    folder = cache / f"git-{VERSION}"
-    if folder.exists():
-        return folder
+    """The directory of the built git below this one. What isn't there is fetched and built aside, and put there whole when it is done."""
+    directory = cache / f"git-{VERSION}"
+    if directory.exists():
+        return directory
     need_all()
     try:
         cache.mkdir(parents=True, exist_ok=True)
@@ -89,13 +89,13 @@ def git_in(cache, jobs):
         fetch(room)
         with tarfile.open(room / ARCHIVE) as archive:
             archive.extractall(room)
-        source = room / folder.name
+        source = room / directory.name
         make(source, f"-j{jobs}", *MAKE, *TARGETS)
         make(source, "-C", "templates")
         try:
-            os.rename(source, folder)
+            os.rename(source, directory)
         except OSError:
             # Another clone's gate may have put it there meanwhile.
-            if not folder.exists():
+            if not directory.exists():
                 raise
-    return folder
+    return directory

@@ -24,12 +24,12 @@ class Run(NamedTuple):
     planned: int  # how many the script says it has at its end, or None if it didn't come to that
 
 
-def front_in(folder, built, gixcfg):
-    """Makes the folder that comes first on the path of the tests."""
-    folder.mkdir()
+def front_in(directory, built, gixcfg):
+    """Makes the directory that comes first on the path of the tests."""
+    directory.mkdir()
     for name, target in (("git", HERE / "git"), ("git-gixcfg", HERE / "git-gixcfg"), ("built", built), ("gixcfg", gixcfg)):
-        (folder / name).symlink_to(target)
-    return folder
+        (directory / name).symlink_to(target)
+    return directory
 
 
 def told(lines):
@@ -48,7 +48,7 @@ def told(lines):
 
 
 def run_script(script, built, front, room):
-    """Runs a script. Its repositories stand in a folder that lies in no repository, since gixcfg looks for one up to the root."""
+    """Runs a script. Its repositories stand in a directory that lies in no repository, since gixcfg looks for one up to the root."""
     own = {name: value for name, value in os.environ.items() if not name.startswith("GIT_")}
     own |= {"GIT_TEST_INSTALLED": str(front), "GIT_TEST_EXEC_PATH": str(built), "TEST_OUTPUT_DIRECTORY": str(room)}
     ran = subprocess.run(["sh", f"./{script}", f"--root={room}", "--no-color"], cwd=built / "t", env=own, stdin=subprocess.DEVNULL,

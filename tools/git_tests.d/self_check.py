@@ -34,9 +34,9 @@ WRONG_TABLES = [
 ]
 WRONG_PAGES = [
     ("", "", None),
-    ("| 2 | 4 |", "| 3 | 4 |", "its tables aren't those of table.txt; tools/git_tests --write makes them"),
-    ("| 2 | in", "| 1 | in", "its tables aren't those of table.txt; tools/git_tests --write makes them"),
-    (page.END, "", "has no place for the tables"),
+    ("2 of 4", "3 of 4", "its lists aren't those of table.txt; tools/git_tests --write makes them"),
+    ("- 2: in", "- 1: in", "its lists aren't those of table.txt; tools/git_tests --write makes them"),
+    (page.END, "", "has no place for the lists"),
 ]
 
 

@@ -157,9 +157,9 @@ def accepts(text, data):
     return re.fullmatch(pattern(rules["text"], rules, words).encode("latin-1"), data, re.DOTALL) is not None
 
 
-def accepted_rows(folder):
+def accepted_rows(directory):
     """The texts of which rows say whether they are accepted, each with that and where it is said."""
-    for file in sorted(folder.glob("*.txt")):
+    for file in sorted(directory.glob("*.txt")):
         lines = file.read_text(encoding="utf-8").splitlines()
         for number, (command, answer) in enumerate(zip(lines, lines[1:]), 1):
             told = re.fullmatch(rf"events ({QUOTED})", command)

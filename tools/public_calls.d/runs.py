@@ -44,7 +44,7 @@ class Runs:
         self.unused = dict(receivers)
         for name in names:
             for module in crates.root(name).all():
-                place = f"{name}/{module.file.relative_to(crates.folder / name / 'src')}"
+                place = f"{name}/{module.file.relative_to(crates.directory / name / 'src')}"
                 self._read(module, {what: item for (at, what), item in receivers.items() if at == place}, place)
 
     def _read(self, module, receivers, place):

@@ -78,8 +78,8 @@ TOLD = "show_tests/lib.rt shown is file::Told\n"
 
 def faults_of(look, run, told):
     """What is told of the library with this source and this table."""
-    with tempfile.TemporaryDirectory() as folder:
-        top = Path(folder)
+    with tempfile.TemporaryDirectory() as directory:
+        top = Path(directory)
         files = LIBRARY | {"crates/show_tests/src/lib.rt": run, "crates/bench/src/main.rt": RUN, "told.txt": told}
         for name, text in files.items():
             path = top / name
@@ -117,5 +117,5 @@ def run(look):
         if wanted is None and not faults or wanted and wanted in faults:
             report.row_passed()
         else:
-            report.fault(f"row {number}: wanted {wanted}, told: {faults}")
+            report.fault(f"test case {number}: wanted {wanted}, told: {faults}")
     return report.close()

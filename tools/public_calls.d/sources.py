@@ -64,11 +64,11 @@ class Module:
     def __init__(self, crates, crate, path, file):
         self.crates, self.crate, self.path, self.file = crates, crate, path, file
         self.text = without_comments(file.read_text(encoding="utf-8"))
-        folder = file.parent if file.stem in ("lib", "main") and not path else file.with_suffix("")
+        directory = file.parent if file.stem in ("lib", "main") and not path else file.with_suffix("")
         self.modules, self.items, self.uses = {}, {}, {}
         for found in MODULE.finditer(self.text):
             name = found["name"]
-            inner = Module(crates, crate, (*path, name), folder / f"{name}.rt")
+            inner = Module(crates, crate, (*path, name), directory / f"{name}.rt")
             self.modules[name] = found["pub"] == "pub ", inner
         for found in ITEM.finditer(self.text):
             self.items[found["name"]] = found["pub"] == "pub ", Item(self, found["name"], found["kind"])
@@ -114,16 +114,16 @@ class Module:
 
 
 class Crates:
-    """The crates of a folder, each read when it is asked for."""
+    """The crates of a directory, each read when it is asked for."""
 
-    def __init__(self, folder):
-        self.folder = folder
+    def __init__(self, directory):
+        self.directory = directory
         self.roots = {}
 
     def root(self, name):
         """The crate's root module, or None where there is no such crate."""
         if name not in self.roots:
-            files = [self.folder / name / "src" / f"{stem}.rt" for stem in ("lib", "main")]
+            files = [self.directory / name / "src" / f"{stem}.rt" for stem in ("lib", "main")]
             found = [file for file in files if file.is_file()]
             self.roots[name] = Module(self, name, (), found[0]) if found else None
         return self.roots[name]

@@ -32,7 +32,7 @@ def inline(text, link_of=lambda name: None):
 
 
 def comment(text, link_of=lambda name: None):
-    """A comment: paragraphs, lists, headings, and code between fences or behind four blanks."""
+    """A comment: paragraphs, lists, headings, and code between fences or behind four spaces."""
     made = []
     for block in re.split(r"\n\s*\n", text.strip()):
         lines = block.splitlines()

@@ -48,7 +48,7 @@ def calls_of(text):
 
 
 def manual_pages(header, groups, examples):
-    """The manual page of each call: its text by its path, below a folder that `man -M` takes."""
+    """The manual page of each call: its text by its path, below a directory that `man -M` takes."""
     calls = calls_of(header.read_text(encoding="utf-8"))
     return {f"man3/{name}.3": manual_page(calls[name], examples.get(name), [it for it in names if it != name])
             for names in groups_of(calls, groups).values() for name in names}

@@ -9,6 +9,8 @@ from rattle_source import Source
 from sources import Crates
 
 LIBRARY = "gix_config"
+# How many words the first sentence of a comment may have.
+MOST_WORDS = 15
 # The functions of the guide's program, which the gate compiles and runs; and what names a call in them, with the label that it has here.
 FUNCTION = re.compile(r"^fn \w+.*? \{\n(.*?)^\}\n", re.MULTILINE | re.DOTALL)
 CALLED = {
@@ -21,9 +23,9 @@ CALLED = {
 class Library:
     """What a user of gix_config can name, by module, with the sources of it."""
 
-    def __init__(self, crates_folder):
-        self.top = crates_folder.parent
-        self.crates = Crates(crates_folder)
+    def __init__(self, crates_directory):
+        self.top = crates_directory.parent
+        self.crates = Crates(crates_directory)
         self.items = public_items(self.crates.root(LIBRARY))
         self.sources = {}
         self.modules = {}
@@ -137,9 +139,9 @@ def contents(library, module):
             yield from (f'<a href="#{place(f"{name}.{call.name}")}">{call.name}</a><br>' for call in calls)
 
 
-def pages(crates_folder):
+def pages(crates_directory):
     """The pages by their names."""
-    library = Library(crates_folder)
+    library = Library(crates_directory)
     made = {}
     for module, items in library.modules.items():
         here = file_name(module)
@@ -161,9 +163,21 @@ def about_of(library, module):
     return library.source(found.file).about if hasattr(found, "file") else ""
 
 
-def results(crates_folder, made):
+def first_sentence(docs):
+    """The first sentence of a comment; what follows a colon is one of its own."""
+    text = " ".join(docs.strip().split("\n\n")[0].split())
+    return re.split(r"(?<=[.:!?])\s", text)[0]
+
+
+def of_comment(label, docs):
+    """Whether an item has a comment, and whether its first sentence is short."""
+    yield bool(docs.strip()), f"{label} has no comment"
+    yield len(first_sentence(docs).split()) <= MOST_WORDS, f"the first sentence on {label} has over {MOST_WORDS} words"
+
+
+def results(crates_directory, made):
     """Whether each public item and call has its place and a comment."""
-    library = Library(crates_folder)
+    library = Library(crates_directory)
     labels = {f"{path[-1]}.{call.name}" for item, path in library.items.items() for _, calls in library.calls[item] for call in calls}
     labels |= {path[-1] for path in library.items.values()}
     for label in sorted(library.examples):
@@ -174,8 +188,8 @@ def results(crates_folder, made):
         source = library.source(item.module.file)
         piece = source.named(item.name)
         yield f'id="{place(path[-1])}"' in text, f"{label} isn't on its page"
-        yield bool(piece and piece.docs.strip()), f"{label} has no comment"
+        yield from of_comment(label, piece.docs if piece else "")
         for _, calls in library.calls[item]:
             for call in calls:
                 yield f'id="{place(path[-1] + "." + call.name)}"' in text, f"{label}::{call.name} isn't on its page"
-                yield bool(call.docs.strip()), f"{label}::{call.name} has no comment"
+                yield from of_comment(f"{label}::{call.name}", call.docs)

@@ -8,11 +8,11 @@ answer, and theirs, as transcripts have them.
 import re
 from typing import NamedTuple
 
-from plain import tell_stop
-from process import Stopped
+from plain import tell_end
+from process import Ended
 from words import Malformed, hex_word, to_transcript
 
-# Commands that another program need not have. Where it has none, the row is passed over.
+# Commands that another program need not have. Where it has none, the test case is passed over.
 BEYOND = {"name", "valuename", "keeps", "loadkept", "setkey", "stringkey", "printfail", "printnone", "refusals", "reset",
           "sectionkey", "sectionif", "bynameif", "headerof", "valueof", "implicitof", "valuesof", "namesof", "hasname",
           "countof", "entriesof", "display", "rawwith", "rawswith", "flag", "tryflag", "flags", "flagwith", "flagswith",
@@ -37,7 +37,7 @@ KEY = re.compile(r"(stringkey|setkey) x((?:[0-9a-f]{2})*)((?: .*)?)")
 
 
 class Difference(NamedTuple):
-    """A row that the other program answers otherwise."""
+    """A test case that the other program answers otherwise."""
 
     file: str
     title: str
@@ -104,7 +104,7 @@ def read_differences(path):
 
 
 def run(transcripts, start, listed, report):
-    """Compares each row, and then tells the listed differences that are gone."""
+    """Compares each test case, and then tells the listed differences that are gone."""
     comparison = _Comparison(listed, report)
     for transcript in transcripts:
         comparison.run(transcript, start)
@@ -118,7 +118,7 @@ def run(transcripts, start, listed, report):
 
 
 def _asked(row):
-    """The row's command, by names where it is by a key that has a dot."""
+    """The test case's command, by names where it is by a key that has a dot."""
     by_key = KEY.fullmatch(row.sent)
     if by_key is None:
         return row.sent
@@ -142,7 +142,7 @@ class _Comparison:
         self._is_same_outside = True
 
     def run(self, transcript, start):
-        """Compares the rows of a transcript."""
+        """Compares the test cases of a transcript."""
         done, program = 0, None
         self._is_same_file = True
         self._is_same_outside = True
@@ -151,14 +151,14 @@ class _Comparison:
             for row in transcript.rows:
                 self._take(transcript, row, program.ask(_asked(row)))
                 done += 1
-        except Stopped as fault:
-            tell_stop(transcript.rows, done, fault, self._report)
+        except Ended as fault:
+            tell_end(transcript.rows, done, fault, self._report)
         finally:
             if program is not None:
-                program.stop()
+                program.kill()
 
     def _take(self, transcript, row, answer):
-        """Compares the row with the other program's answer, or passes it over."""
+        """Compares the test case with the other program's answer, or passes it over."""
         if row.wanted == "unknown" or (answer in HAS_NONE and row.word in BEYOND and answer != row.answer):
             # One of the two programs has done it, the other hasn't.
             self._is_same_file = self._is_same_file and row.word not in CHANGES and answer in HAS_NONE
@@ -167,11 +167,11 @@ class _Comparison:
             return
         self._is_same_file = self._is_same_file or (row.word in LOADS and answer == "ok")
         if not self._is_same_outside:
-            self._pass_over("rows behind what the other program wasn't told")
+            self._pass_over("test cases behind what the other program wasn't told")
         elif self._is_same_file:
             self._compare(transcript, row, answer)
         else:
-            self._pass_over("rows whose file the other program hasn't")
+            self._pass_over("test cases whose file the other program hasn't")
 
     def _pass_over(self, word):
         self.passed_over[word] = self.passed_over.get(word, 0) + 1

@@ -1,4 +1,4 @@
-"""Looks whether the texts that calls of `gixcfg` write are read by it: those of the rows, and of made calls."""
+"""Looks whether the texts that calls of `gixcfg` write are read by it: those of the test cases, and of made calls."""
 
 import itertools
 import os
@@ -21,7 +21,7 @@ NAMES = (b"a", b"a.b", b"", b".b", b".", b"c d", b"a.]\"\\")
 
 
 def read_back(program, path, limit, report):
-    """Looks at each text that a row writes, and at those of made calls."""
+    """Looks at each text that a test case writes, and at those of made calls."""
     texts = {text: row.row.place for row in read_rows(path) for text in _written(row)}
     with ThreadPoolExecutor(os.cpu_count()) as workers:
         for text, is_read in zip(texts, workers.map(lambda text: _reads(program, text, limit), texts)):
@@ -40,7 +40,7 @@ def _tell(report, is_right, fault):
 
 
 def _written(row):
-    """The texts that a row writes."""
+    """The texts that a test case writes."""
     words, wanted = row.run.words, row.wanted
     if wanted.status != "0" or not row.run.is_plain:
         return

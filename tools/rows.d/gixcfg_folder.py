@@ -1,4 +1,4 @@
-"""The folder that a run of `gixcfg` works in, with what the run says stands there."""
+"""The directory that a run of `gixcfg` works in, with what the run says stands there."""
 
 import contextlib
 import ctypes
@@ -15,7 +15,7 @@ _LIBC = ctypes.CDLL(None, use_errno=True)
 
 
 class Entry(NamedTuple):
-    """What stands in the folder: its kind and its name, and its text, the place that it leads to, or its length; and the bits of its mode."""
+    """What stands in the directory: its kind and its name, and its text, the place that it leads to, or its length; and the bits of its mode."""
 
     kind: str
     name: bytes
@@ -24,18 +24,18 @@ class Entry(NamedTuple):
 
 
 @contextlib.contextmanager
-def folder_of(entries):
-    """Makes the folder. A pipe is fed as soon as it is opened."""
-    with tempfile.TemporaryDirectory() as folder, contextlib.ExitStack() as pipes:
+def directory_of(entries):
+    """Makes the directory. A pipe is fed as soon as it is opened."""
+    with tempfile.TemporaryDirectory() as directory, contextlib.ExitStack() as pipes:
         for entry in entries:
-            path = os.path.join(os.fsencode(folder), entry.name)
+            path = os.path.join(os.fsencode(directory), entry.name)
             if entry.kind == "pipe":
                 pipes.enter_context(_fed(path, entry.content))
             else:
                 _MAKERS[entry.kind](path, entry.content)
             if entry.mode is not None:
                 os.chmod(path, entry.mode)
-        yield folder
+        yield directory
 
 
 def _write(path, text):
@@ -84,9 +84,9 @@ def _feed(path, text):
         pipe.write(text)
 
 
-def files_in(folder):
-    """The regular files that stand in the folder: of each its text and the bits of its mode. Links are left out."""
-    found, top = {}, os.fsencode(folder)
+def files_in(directory):
+    """The regular files that stand in the directory: of each its text and the bits of its mode. Links are left out."""
+    found, top = {}, os.fsencode(directory)
     for inner, _, names in os.walk(top):
         for path in (os.path.join(inner, name) for name in names):
             if not os.path.islink(path) and os.path.isfile(path):

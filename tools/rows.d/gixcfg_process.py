@@ -9,7 +9,7 @@ import socket
 import subprocess
 import tempfile
 
-from gixcfg_folder import drop_rights, files_in, folder_of
+from gixcfg_folder import drop_rights, files_in, directory_of
 from gixcfg_runs import Ending, Left
 
 # Linux's F_SETPIPE_SZ, which Python has a name for from 3.10 on.
@@ -30,22 +30,22 @@ def unread(count):
 
 
 def ending(program, run, limit, variables=None, sees_files=False):
-    """How a run of this program ends, with what its folder has where that is asked for. `limit` is the seconds that it has."""
+    """How a run of this program ends, with what its directory has where that is asked for. `limit` is the seconds that it has."""
     with contextlib.ExitStack() as stack:
-        folder = stack.enter_context(folder_of(run.entries))
+        directory = stack.enter_context(directory_of(run.entries))
         source = stack.enter_context(_source(run.input))
         out = stack.enter_context(_target(run.out))
         err = stack.enter_context(_target(run.err))
         try:
             process = subprocess.Popen(
-                [os.fsencode(os.path.abspath(program))] + run.words, stdin=source, stdout=out, stderr=err, cwd=folder,
+                [os.fsencode(os.path.abspath(program))] + run.words, stdin=source, stdout=out, stderr=err, cwd=directory,
                 preexec_fn=_preparation_of(run), env=_variables_of(run, variables or {}))
         except (OSError, subprocess.SubprocessError) as fault:
             raise Failed(f"it can't be started: {fault}") from fault
         printed, told = _communicate(process, limit * HUGE if run.is_huge else limit)
         if run.input.stays_unread and source.tell() != 0:
             raise unread(source.tell())
-        files = {name: Left(*file) for name, file in files_in(folder).items()} if sees_files else None
+        files = {name: Left(*file) for name, file in files_in(directory).items()} if sees_files else None
         return Ending(_status(process), _seen(run.out, out, printed), _seen(run.err, err, told), files)
 
 

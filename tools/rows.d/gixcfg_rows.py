@@ -1,4 +1,4 @@
-"""The rows of `gixcfg`, run as they stand and under refused growths."""
+"""The test cases of `gixcfg`, run as they stand and under refused allocations."""
 
 import itertools
 import os
@@ -17,19 +17,19 @@ OUT_OF_MEMORY = b"gixcfg: E27\n"
 
 
 class ProgramRow:
-    """A row with the run and the ending that its lines are."""
+    """A test case with the run and the ending that its lines are."""
 
-    def __init__(self, row, folder):
+    def __init__(self, row, directory):
         try:
-            self.run = run_of(row.command, folder)
-            self.wanted = ending_of(row.wanted, folder)
+            self.run = run_of(row.command, directory)
+            self.wanted = ending_of(row.wanted, directory)
         except Malformed as fault:
             raise Malformed(f"{row.place}: {fault}") from fault
         self.row = row
 
     @property
     def sees_files(self):
-        """Whether it tells what its folder has in the end."""
+        """Whether it tells what its directory has in the end."""
         return self.wanted.files is not None
 
     def is_out_of_memory(self, got):
@@ -58,7 +58,7 @@ class ProgramRow:
 
 
 def read_rows(path):
-    """The rows of a file of runs."""
+    """The test cases of a file of runs."""
     return [ProgramRow(row, path.parent) for transcript in read(path) for row in transcript.rows]
 
 
@@ -77,7 +77,7 @@ def run(rows, end, report):
 
 
 def refuse(rows, program, limit, shim, report, table):
-    """Makes each run whose streams don't fail with its first growth refused, then its second, until none is."""
+    """Makes each run whose streams don't fail with its first allocation refused, then its second, until none is."""
     rows = [row for row in rows if row.run.is_plain]
     # Each run is a process of its own, so that each processor has one.
     with ThreadPoolExecutor(os.cpu_count()) as workers:
@@ -91,7 +91,7 @@ def refuse(rows, program, limit, shim, report, table):
 
 
 def _refuse_one(row, program, limit, shim):
-    """What was got in place of what is right, and how many growths were refused."""
+    """What was got in place of what is right, and how many allocations were refused."""
     for number in itertools.count(1):
         variables = shim.whole_process(number)
         try:
@@ -100,6 +100,6 @@ def _refuse_one(row, program, limit, shim):
             return f"nothing: {fault}", number - 1
         was_refused = shim.was_refused(variables)
         if not got.is_as(row.wanted) and not (was_refused and row.is_out_of_memory(got)):
-            return f"{got}, with growth {number} refused" if was_refused else got, number - 1
+            return f"{got}, with allocation {number} refused" if was_refused else got, number - 1
         if not was_refused:
             return None, number - 1

@@ -1,6 +1,6 @@
 """Runs of the program `gixcfg`: its words and streams, and its status, output and error.
 
-A run is a line `gixcfg WORDS [in PARTS] [< INPUT] [> OUTPUT] [2> ERROR]`, and behind two blanks on the next line
+A run is a line `gixcfg WORDS [in PARTS] [< INPUT] [> OUTPUT] [2> ERROR]`, and behind two spaces on the next line
 `STATUS OUTPUT ERROR [leaves FILES]`.
 rows/README.md has the form of each of them.
 """
@@ -15,7 +15,7 @@ _TOKEN = re.compile(rf"{QUOTED}|[^ \"]+")
 
 
 class Input(NamedTuple):
-    """Standard input: a text, or a folder where there is none."""
+    """Standard input: a text, or a directory where there is none."""
 
     text: Optional[bytes]
     step: int = 0
@@ -42,12 +42,12 @@ class Run(NamedTuple):
 
     @property
     def has_locked(self):
-        """Whether a file without rights stands in its folder."""
+        """Whether a file without rights stands in its directory."""
         return any(entry.kind == "locked" for entry in self.entries)
 
     @property
     def is_huge(self):
-        """Whether a file of its folder is too long to be read at once."""
+        """Whether a file of its directory is too long to be read at once."""
         return any(entry.kind == "sparse" for entry in self.entries)
 
     @property
@@ -67,7 +67,7 @@ class Left(NamedTuple):
 
 
 class Ending(NamedTuple):
-    """How a run ends: its status, what it wrote, and what its folder has; None for what can't be seen or isn't told."""
+    """How a run ends: its status, what it wrote, and what its directory has; None for what can't be seen or isn't told."""
 
     status: str
     out: Optional[bytes]
@@ -85,7 +85,7 @@ class Ending(NamedTuple):
         return self[:3] == wanted[:3] and (wanted.files is None or self.has(wanted.files))
 
     def has(self, files):
-        """Whether its folder has these files, and no other. A missing mode stands for any."""
+        """Whether its directory has these files, and no other. A missing mode stands for any."""
         return self.files.keys() == files.keys() and all(
             left.text == self.files[name].text and left.mode in (None, self.files[name].mode) for name, left in files.items())
 
@@ -102,11 +102,11 @@ def _shown(text):
 class _Tokens:
     """The words of a line, one after the other."""
 
-    def __init__(self, line, folder):
-        self._folder = folder
+    def __init__(self, line, directory):
+        self._directory = directory
         self._tokens = _TOKEN.findall(line)
         if " ".join(self._tokens) != line:
-            raise Malformed("words stand in quotes, with one blank between them")
+            raise Malformed("arguments stand in quotes, with one space between them")
 
     def next(self):
         if not self._tokens:
@@ -142,11 +142,11 @@ class _Tokens:
         return unquote(self.next())
 
     def text(self):
-        """A text in quotes, once or several times, or that of a file beside the rows, where one part may be changed."""
+        """A text in quotes, once or several times, or that of a file beside the test cases, where one part may be changed."""
         if self.comes_quoted():
             text = self.quoted()
             return text * self.number() if self.accept("times") else text
-        text = _text_of(self._folder / self.next())
+        text = _text_of(self._directory / self.next())
         while self.accept("with"):
             old = self.quoted()
             if not self.accept("as") or text.count(old) != 1:
@@ -163,12 +163,12 @@ def _text_of(path):
     try:
         return path.read_bytes()
     except OSError as fault:
-        raise Malformed(f"no file beside the rows: {path.name}") from fault
+        raise Malformed(f"no file beside the test cases: {path.name}") from fault
 
 
-def run_of(line, folder):
-    """The run that a line is; `folder` has the files that it names."""
-    tokens = _Tokens(line, folder)
+def run_of(line, directory):
+    """The run that a line is; `directory` has the files that it names."""
+    tokens = _Tokens(line, directory)
     if not tokens.accept("gixcfg"):
         raise Malformed("a run begins with gixcfg")
     words = []
@@ -183,7 +183,7 @@ def run_of(line, folder):
 
 
 def _parts_of(tokens):
-    """What stands in the folder of the run, and the variables that it has in place of ours."""
+    """What stands in the directory of the run, and the variables that it has in place of ours."""
     entries, variables = [], {}
     while not tokens.ends_with_streams():
         kind = tokens.next()
@@ -200,7 +200,7 @@ def _parts_of(tokens):
             entry = Entry(kind, tokens.quoted(), tokens.text())
             entries.append(entry._replace(mode=tokens.octal()) if tokens.accept("mode") else entry)
         else:
-            raise Malformed(f"nothing that a folder may have: {kind}")
+            raise Malformed(f"nothing that a directory may have: {kind}")
     return entries, variables
 
 
@@ -223,9 +223,9 @@ def _output_of(tokens):
     raise Malformed("an output is `full` or `room N`")
 
 
-def ending_of(line, folder):
+def ending_of(line, directory):
     """The ending that a line is."""
-    tokens = _Tokens(line, folder)
+    tokens = _Tokens(line, directory)
     status = str(tokens.number())
     out, err = (None if tokens.accept("-") else tokens.text() for _ in range(2))
     files = _files_of(tokens) if tokens.accept("leaves") else None
@@ -234,7 +234,7 @@ def ending_of(line, folder):
 
 
 def _files_of(tokens):
-    """The files that a folder has in the end."""
+    """The files that a directory has in the end."""
     files = {}
     while tokens.accept("file"):
         name = tokens.quoted()

@@ -4,11 +4,11 @@ import os
 
 from gixcfg_process import Failed, unread
 from gixcfg_runs import Ending, Left
-from process import Stopped
+from process import Ended
 from words import hex_word
 
-# The working folder of each machine, and the rights of a file that says nothing of them, as of one that Python makes.
-FOLDER = b"/w/"
+# The working directory of each machine, and the rights of a file that says nothing of them, as of one that Python makes.
+DIRECTORY = b"/w/"
 RIGHTS = 0o644
 
 # Paths to what is no file.
@@ -16,7 +16,7 @@ DEVICES = (b"/dev/", b"/proc/")
 
 
 def why_not(row):
-    """Why the run of a row can't be made on such a machine, or None."""
+    """Why the run of a test case can't be made on such a machine, or None."""
     run = row.run
     if any(entry.kind == "pipe" for entry in run.entries):
         return "a pipe"
@@ -64,18 +64,18 @@ def script_of(run):
 
 
 def _lines_of_entries(entries):
-    """What stands in the folder, each behind the folders that hold it."""
+    """What stands in the directory, each behind the directories that hold it."""
     made = {b""}
     for entry in entries:
-        for folder in _folders_above(entry.name):
-            if folder not in made:
-                made.add(folder)
-                yield f"folder {hex_word(folder)}"
+        for directory in _directories_above(entry.name):
+            if directory not in made:
+                made.add(directory)
+                yield f"folder {hex_word(directory)}"
         made.add(entry.name)
         yield _line_of_entry(entry)
 
 
-def _folders_above(name):
+def _directories_above(name):
     parts = name.split(b"/")[:-1]
     return [b"/".join(parts[:count]) for count in range(1, len(parts) + 1)]
 
@@ -98,7 +98,7 @@ def _line_of_input(given):
 
 
 def ending(row, answers):
-    """How the run of a row ended, by the answers to its lines."""
+    """How the run of a test case ended, by the answers to its lines."""
     *lines, call = script_of(row.run)
     try:
         for line in lines:
@@ -106,7 +106,7 @@ def ending(row, answers):
                 raise Failed(f"the machine doesn't take the line {line}")
         told = answers.ask(call)
         answers.finish()
-    except Stopped as fault:
+    except Ended as fault:
         raise Failed(str(fault)) from fault
     return _ending_of(row, told)
 
@@ -118,7 +118,7 @@ def _ending_of(row, answer):
         done, status, out, err, read, *files = answer.split(" ")
         if done != "ok" or len(files) % 3:
             raise ValueError
-        left = {os.path.relpath(_bytes(path), FOLDER): Left(_bytes(text), int(mode))
+        left = {os.path.relpath(_bytes(path), DIRECTORY): Left(_bytes(text), int(mode))
                 for path, text, mode in zip(files[::3], files[1::3], files[2::3])}
         told = [None if output.is_full else _bytes(word) for output, word in ((run.out, out), (run.err, err))]
         count = int(read)

@@ -1,6 +1,6 @@
 """Transcripts, run as they stand."""
 
-from process import Stopped
+from process import Ended
 
 
 def run(transcripts, start, report):
@@ -18,18 +18,18 @@ def _run_one(rows, start, report):
             report.answer(row, program.ask(row.sent))
             done += 1
         program.finish()
-    except Stopped as fault:
-        tell_stop(rows, done, fault, report)
+    except Ended as fault:
+        tell_end(rows, done, fault, report)
     finally:
         if program is not None:
-            program.stop()
+            program.kill()
 
 
-def tell_stop(rows, done, fault, report):
-    """Tells why the program stopped when so many rows were done, and that the others weren't asked."""
+def tell_end(rows, done, fault, report):
+    """Tells why the program ended when so many test cases were done, and that the others weren't asked."""
     if done == len(rows):
         report.fault(f"{rows[-1].place}: behind the last command: {fault}")
         return
     report.row_failed(rows[done], f"nothing: {fault}")
     for row in rows[done + 1:]:
-        report.row_failed(row, "nothing: the program had stopped before")
+        report.row_failed(row, "nothing: the program had ended before")

@@ -10,7 +10,7 @@ import time
 MOST_AT_ONCE = 32768
 
 
-class Stopped(Exception):
+class Ended(Exception):
     """The program ended, or gave no answer in time."""
 
 
@@ -26,7 +26,7 @@ class Program:
                 [str(path)], stdin=subprocess.PIPE, stdout=subprocess.PIPE, stderr=self._told, bufsize=0,
                 env={**os.environ, **(variables or {})})
         except OSError as fault:
-            raise Stopped(f"it can't be started: {fault}") from fault
+            raise Ended(f"it can't be started: {fault}") from fault
 
     def ask(self, line):
         """The answer to a line."""
@@ -53,7 +53,7 @@ class Program:
         while b"\n" not in self._unread:
             more = self._read(until - time.monotonic())
             if not more:
-                raise Stopped(self._how_it_ended())
+                raise Ended(self._how_it_ended())
             self._unread += more
         line, self._unread = self._unread.split(b"\n", 1)
         return line.decode("utf-8", "replace")
@@ -62,7 +62,7 @@ class Program:
         output = self._process.stdout
         ready, _, _ = select.select([output], [], [], max(seconds, 0))
         if not ready:
-            raise Stopped(f"no answer in {self._limit} seconds")
+            raise Ended(f"no answer in {self._limit} seconds")
         return output.read(65536)
 
     def _how_it_ended(self):
@@ -86,12 +86,12 @@ class Program:
                 break
             rest += more
         if rest:
-            raise Stopped(f"it printed more than its answers: {rest[:200].decode('utf-8', 'replace')}")
+            raise Ended(f"it printed more than its answers: {rest[:200].decode('utf-8', 'replace')}")
         ended = self._how_it_ended()
         if self._process.returncode != 0:
-            raise Stopped(ended)
+            raise Ended(ended)
 
-    def stop(self):
+    def kill(self):
         """Ends it, however it stands."""
         self._process.kill()
         self._process.wait()

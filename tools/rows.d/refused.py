@@ -1,19 +1,19 @@
-"""Transcripts under refused growths.
+"""Transcripts under refused allocations.
 
-Each command is given with its first growth refused, then its second, and so on until none is (tools/refuse.c). Behind each
-refusal the answer is `err E27` and the file as it was; the last answer is the transcript's.
+Each command is given with its first allocation refused, then its second, and so on until none is (tools/refuse.c). Behind each
+of these the answer is `err E27` and the file as it was; the last answer is the transcript's.
 """
 
 import re
 from typing import NamedTuple
 
-from plain import tell_stop
-from process import Stopped
+from plain import tell_end
+from process import Ended
 from transcripts import Row
 from words import to_transcript
 
-# A command with more growths than this has none to be refused one by one.
-MOST_GROWTHS = 20000
+# A command with more allocations than this has none to be refused one by one.
+MOST_ALLOCATIONS = 20000
 
 OUT_OF_MEMORY = "err E27"
 
@@ -53,9 +53,9 @@ def _sections_of(state):
     return re.findall(r"\[\d+ ([^\]]*)\]", state[1])
 
 
-# Commands that change a file in place, and what holds of it behind a refused growth: `before` and `done` are what is told of
-# the file before the command and behind it, `after` behind the refusal. A refused one may leave room that it asked for, and a
-# second try would ask for less. So each growth is refused behind the commands before it, which are done anew. The same holds
+# Commands that change a file in place, and what holds of it behind a refused allocation: `before` and `done` are what is told of
+# the file before the command and behind it, `after` behind the error. Such a command may leave room that it asked for, and a
+# second try would ask for less. So each allocation is refused behind the commands before it, which are done anew. The same holds
 # for all commands in scopes. Behind any other command all is as before.
 EDITS = {
     "setraw": as_before,
@@ -95,15 +95,15 @@ class Session:
         self._program = None
 
     def begin(self, count, first=1):
-        """A new program, behind so many commands. It will refuse the growth of this number first."""
-        self.stop()
+        """A new program, behind so many commands. It will refuse the allocation of this number first."""
+        self.kill()
         self._program = self._start(self._shim.by_command(first))
         for row in self._rows[:count]:
             self._program.ask(row.sent)
 
-    def stop(self):
+    def kill(self):
         if self._program is not None:
-            self._program.stop()
+            self._program.kill()
             self._program = None
 
     def finish(self):
@@ -119,7 +119,7 @@ class Session:
         return self._program.ask_all(STATE)
 
     def give(self, row, then_ask=()):
-        """Gives a command with a growth of it refused; then asks these. Answers whether one was refused, and the answers."""
+        """Gives a command with an allocation of it refused; then asks these. Answers whether one was refused, and the answers."""
         lines = ["refusals on", row.sent, "refusals off", *then_ask]
         answers = self._program.ask_all(lines)
         for at in (0, 2):
@@ -127,7 +127,7 @@ class Session:
                 raise Fault(f"{answers[at]} to {lines[at]}")
         mark, _, answer = answers[1].partition(" ")
         if mark not in ("-", "+"):
-            raise Fault(f"{answers[1]}, without a word that tells whether a growth was refused")
+            raise Fault(f"{answers[1]}, without a word that tells whether an allocation was refused")
         return mark == "+", answer, answers[3:]
 
 
@@ -156,7 +156,7 @@ def turns_on(transcript):
 
 
 def ends_in_scope(rows):
-    """Whether a scope is open behind these rows."""
+    """Whether a scope is open behind these test cases."""
     return bool(rows) and _places_of(rows)[-1].ends_in_scope
 
 
@@ -170,7 +170,7 @@ def run(transcripts, start, shim, report, table):
         try:
             _run_one(transcript.rows, session, report, table)
         finally:
-            session.stop()
+            session.kill()
 
 
 def _run_one(rows, session, report, table):
@@ -186,12 +186,12 @@ def _run_one(rows, session, report, table):
                 session.begin(done + 1)
             done += 1
         session.finish()
-    except Stopped as fault:
-        tell_stop(rows, done, fault, report)
+    except Ended as fault:
+        tell_end(rows, done, fault, report)
 
 
 def _refuse(session, place):
-    """Refuses each growth of the command, and leaves the session behind it. Answers how many were refused."""
+    """Refuses each allocation of the command, and leaves the session behind it. Answers how many were refused."""
     if place.begins_in_scope and not place.ends_in_scope:
         return _give_once(session, place.row)
     if place.ends_in_scope or place.row.word in EDITS:
@@ -208,33 +208,33 @@ def _give_once(session, row):
 def _refuse_again(session, row):
     """Gives the command again and again."""
     before = session.state()
-    for number in range(MOST_GROWTHS):
+    for number in range(MOST_ALLOCATIONS):
         was_refused, answer, after = session.give(row, STATE)
         if not was_refused:
             _check_last(row, answer, number)
             return number
-        _check_refusal(row, answer, number + 1)
+        _check_error(row, answer, number + 1)
         _check_state(row, (before, None, after), number + 1)
-    raise Fault(f"more than {MOST_GROWTHS} growths")
+    raise Fault(f"more than {MOST_ALLOCATIONS} allocations")
 
 
 def _refuse_afresh(session, place):
-    """Gives the command for each of its growths to a new program, behind the commands before it."""
+    """Gives the command for each of its allocations to a new program, behind the commands before it."""
     row = place.row
     before = _state_behind(session, place.at, place.begins_in_scope)
     done = _state_behind(session, place.at + 1, place.ends_in_scope)
-    for number in range(MOST_GROWTHS):
+    for number in range(MOST_ALLOCATIONS):
         session.begin(place.at, first=number + 1)
         was_refused, answer, _ = session.give(row)
         if not was_refused:
             _check_last(row, answer, number)
             return number
-        _check_refusal(row, answer, number + 1)
+        _check_error(row, answer, number + 1)
         after = session.state(place.ends_in_scope)
-        # A call that can do without the growth has done all. Want of memory may come sooner than where it is the row's own answer.
+        # A call that can do without the allocation has done all. Want of memory may come sooner than where it is the test case's own answer.
         has_done_all = answer == row.answer and answer != OUT_OF_MEMORY
         _check_state(row, (done if has_done_all else before, done, after), number + 1)
-    raise Fault(f"more than {MOST_GROWTHS} growths")
+    raise Fault(f"more than {MOST_ALLOCATIONS} allocations")
 
 
 def _state_behind(session, count, is_in_scope):
@@ -244,17 +244,17 @@ def _state_behind(session, count, is_in_scope):
 
 def _check_last(row, answer, refused):
     if answer != row.answer:
-        raise Fault(f"{to_transcript(answer)}, when {refused} growths had been refused one by one")
+        raise Fault(f"{to_transcript(answer)}, when {refused} allocations had been refused one by one")
 
 
-def _check_refusal(row, answer, number):
+def _check_error(row, answer, number):
     """The answer is want of memory, or the full one where the call can do without."""
-    if answer == row.answer or is_refusal(row, answer):
+    if answer == row.answer or is_want_of_memory(row, answer):
         return
-    raise Fault(f"{to_transcript(answer)}, with growth {number} refused")
+    raise Fault(f"{to_transcript(answer)}, with allocation {number} refused")
 
 
-def is_refusal(row, answer):
+def is_want_of_memory(row, answer):
     """Whether the answer is want of memory: by its number, or as the fault of a vector that is the writer."""
     return answer == OUT_OF_MEMORY or row.word in WRITERS and _is_beginning(answer, row.answer)
 
@@ -266,11 +266,11 @@ def _is_beginning(answer, full):
 
 
 def _check_state(row, states, number):
-    """What is told of the file before the command, behind it and behind the refusal fits together."""
+    """What is told of the file before the command, behind it and behind the error fits together."""
     before, _, after = states
     if EDITS.get(row.word, as_before)(*states):
         return
     differing = [
         f"\n    {command} was   {to_transcript(old)}\n    {command} is    {to_transcript(new)}"
         for command, old, new in zip(STATE, before, after) if old != new]
-    raise Fault(f"another file, with growth {number} refused:" + "".join(differing))
+    raise Fault(f"another file, with allocation {number} refused:" + "".join(differing))

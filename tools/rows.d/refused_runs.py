@@ -1,7 +1,7 @@
-"""Runs of gixcfg of which a growth is refused, another one at each start of the program.
+"""Runs of gixcfg of which an allocation is refused, another one at each start of the program.
 
-`rt try --fail-alloc N` has the Nth growth of a program refused, at each start the same. So each script begins with `grow K`, which takes
-K growths that are granted, and then makes the same runs: the K says which growth of these is the Nth of all.
+`rt try --fail-alloc N` has the Nth allocation of a program refused, at each start the same. So each script begins with `grow K`, which takes
+K allocations that are granted, and then makes the same runs: the K says which allocation of these is the Nth of all.
 """
 
 from collections import Counter
@@ -12,17 +12,17 @@ from gixcfg_process import Failed
 from gixcfg_rows import ProgramRow
 from unproved import OUT_OF_MEMORY, Answers
 
-# The growth that is refused. No other script has as many.
+# The allocation that is refused. No other script has as many.
 REFUSED = 400_000
 OPTIONS = ["--fail-alloc", str(REFUSED)]
 
-# How many starts there are, and how many growths of the runs lie between the refused ones of two starts.
+# How many starts there are, and how many allocations of the runs lie between the refused ones of two starts.
 STARTS = 60
 STRIDE = 43
 
 
 class Fault(Exception):
-    """A row, and what was got in place of what is right."""
+    """A test case, and what was got in place of what is right."""
 
 
 class Case(NamedTuple):
@@ -55,27 +55,27 @@ def _chosen(runs):
 
 
 def check(cases, played, report):
-    """Checks the answers at each start, and tells how many growths were refused of what. Answers how many of a call, or None without
+    """Checks the answers at each start, and tells how many allocations were refused of what. Answers how many of a call, or None without
     answers."""
     if not played:
         return None
-    refusals, faults = [], Counter()
+    found, faults = [], Counter()
     for case, answers in zip(cases, played):
         try:
-            refusals.append(_refusal_in(case, answers))
+            found.append(_refused_in(case, answers))
             report.row_passed()
         except Fault as fault:
             faults[fault.args] += 1
     for (row, got), count in faults.items():
-        report.row_failed(row, f"{got}, with a growth refused, at {count} of {len(cases)} starts", count)
-    told, ended = refusals.count("call"), refusals.count("script")
-    report.tell(f"{told + ended} growths refused in {len(cases)} starts of the same {len(cases[0].rows)} runs of gixcfg: "
+        report.row_failed(row, f"{got}, with an allocation refused, at {count} of {len(cases)} starts", count)
+    told, ended = found.count("call"), found.count("script")
+    report.tell(f"{told + ended} allocations refused in {len(cases)} starts of the same {len(cases[0].rows)} runs of gixcfg: "
                 f"{told} of a call that told so, {ended} around the calls; the others weren't needed or didn't come")
     return told
 
 
-def _refusal_in(case, played):
-    """What was refused at a start: a growth of a `call`, one of the `script` around them, or None."""
+def _refused_in(case, played):
+    """What was refused at a start: an allocation of a `call`, one of the `script` around them, or None."""
     refused = None
     for row, part in zip(case.rows, played.parts(case.counts)[1:]):
         if refused is None and part.fault == OUT_OF_MEMORY:

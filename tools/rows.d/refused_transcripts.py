@@ -1,6 +1,6 @@
-"""Transcripts of which one growth is refused: that of the same number, wherever in the transcript that is.
+"""Transcripts of which one allocation is refused: that of the same number, wherever in the transcript that is.
 
-`rt try --fail-alloc N` has the Nth growth of a program refused, at each start the same. So other transcripts have another growth refused.
+`rt try --fail-alloc N` has the Nth allocation of a program refused, at each start the same. So other transcripts have another allocation refused.
 """
 
 import itertools
@@ -9,7 +9,7 @@ import refused
 from unproved import OUT_OF_MEMORY
 from words import to_transcript
 
-# The growth that is refused, and how many transcripts of each file have it refused.
+# The allocation that is refused, and how many transcripts of each file have it refused.
 REFUSED = 120
 OPTIONS = ["--fail-alloc", str(REFUSED)]
 EACH = 2
@@ -23,30 +23,30 @@ def chosen(transcripts):
 
 
 def check(transcripts, played, report):
-    """Checks the answers to each, and tells how many growths were refused of what. Answers how many of a command, or None without
+    """Checks the answers to each, and tells how many allocations were refused of what. Answers how many of a command, or None without
     answers."""
     if not played:
         return None
-    refusals = [_check_one(transcript.rows, answers, report) for transcript, answers in zip(transcripts, played)]
-    told, ended = refusals.count("command"), refusals.count("script")
-    report.tell(f"{told + ended} growths refused in {len(transcripts)} transcripts: {told} of a command that told so, "
+    found = [_check_one(transcript.rows, answers, report) for transcript, answers in zip(transcripts, played)]
+    told, ended = found.count("command"), found.count("script")
+    report.tell(f"{told + ended} allocations refused in {len(transcripts)} transcripts: {told} of a command that told so, "
                 f"{ended} between commands; the others weren't needed or didn't come")
     return told
 
 
 def _check_one(rows, played, report):
-    """Counts a transcript. Answers what was refused: a growth of a `command`, one of the `script` between them, or None."""
+    """Counts a transcript. Answers what was refused: an allocation of a `command`, one of the `script` between them, or None."""
     answers = played.answers
     at = next((at for at, (row, answer) in enumerate(zip(rows, answers)) if answer != row.answer), None)
     if at is None and len(answers) < len(rows) and played.fault == OUT_OF_MEMORY:
         report.row_passed()
         return "script"
-    if at is not None and not refused.is_refusal(rows[at], answers[at]):
-        report.row_failed(rows[at], f"{to_transcript(answers[at])}, with growth {REFUSED} refused")
+    if at is not None and not refused.is_want_of_memory(rows[at], answers[at]):
+        report.row_failed(rows[at], f"{to_transcript(answers[at])}, with allocation {REFUSED} refused")
         return None
     if played.fault or len(answers) != len(rows):
         fault = played.fault or f"{len(answers)} answers to {len(rows)} commands"
-        report.row_failed(rows[0], f"{fault}, with growth {REFUSED} of its transcript refused")
+        report.row_failed(rows[0], f"{fault}, with allocation {REFUSED} of its transcript refused")
         return None
     report.row_passed()
     return None if at is None else "command"

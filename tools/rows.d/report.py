@@ -1,10 +1,10 @@
-"""What is told of the rows, and their count."""
+"""What is told of the test cases, and their count."""
 
 from words import to_transcript
 
 
 class Report:
-    """Counts rows, and tells each that failed."""
+    """Counts test cases, and tells each that failed."""
 
     def __init__(self, tell=print):
         self.tell = tell
@@ -15,11 +15,11 @@ class Report:
         self.passed += 1
 
     def row_failed(self, row, got, times=1):
-        """Tells a row with what was got, so many times, in place of the wanted answer, as a transcript has it."""
+        """Tells a test case with what was got, so many times, in place of the wanted answer, as a transcript has it."""
         self.fault(f"{row.place}: {row.command}\n  wanted  {row.wanted}\n  got     {got}", times)
 
     def answer(self, row, got):
-        """Counts a row by the program's answer."""
+        """Counts a test case by the program's answer."""
         if got == row.answer:
             self.row_passed()
         else:

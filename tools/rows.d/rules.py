@@ -1,4 +1,4 @@
-"""Rules that hold whatever the rows say."""
+"""Rules that hold whatever the test cases say."""
 
 
 class Broken(Exception):

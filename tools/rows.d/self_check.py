@@ -10,7 +10,7 @@ from typing import NamedTuple, Tuple
 import refused
 from report import Report
 
-# A program of the script language. `load` and some others take two growths; FAULT is what is wrong with it.
+# A program of the script language. `load` and some others take two allocations; FAULT is what is wrong with it.
 SPEAKER = r"""#!PYTHON
 import os, sys, time
 FAULT = "WRONG"
@@ -54,7 +54,7 @@ if FAULT == "more": print("ok")
 if FAULT == "status": sys.exit(1)
 """
 
-# A program whose growths are real ones, so that the shim refuses them: of the script language, and as a whole process
+# A program whose allocations are real ones, so that the shim refuses them: of the script language, and as a whole process
 # where it is given words.
 GROWER = r"""
 #include <stdio.h>
@@ -119,7 +119,7 @@ sys.stderr.write("?" if FAULT == "error" else "")
 sys.exit(1 if FAULT == "status" else 0)
 """
 
-# A program that is called as gixcfg is, and prints what stands in its folder, and two variables.
+# A program that is called as gixcfg is, and prints what stands in its directory, and two variables.
 LOOKER = r"""#!PYTHON
 import os
 def text(name):
@@ -160,13 +160,13 @@ for line in sys.stdin:
     print(answer, flush=True)
 """
 
-# A command that is called as rt is: it plays a script for each file of a folder, as gix_config_script and as gixcfg_script. With
+# A command that is called as rt is: it plays a script for each file of a directory, as gix_config_script and as gixcfg_script. With
 # --fail-alloc it refuses the first load, and the first call of a script that begins with `grow`.
 TRIER = r"""#!PYTHON
 import os, sys
 FAULT = "WRONG"
 words = sys.argv[1:]
-is_refusing, folder = "--fail-alloc" in words, words[words.index("--cases") + 1]
+is_refusing, directory = "--fail-alloc" in words, words[words.index("--cases") + 1]
 def of_files(lines):
     held, refuses = "x", is_refusing and FAULT != "never"
     for line in lines:
@@ -204,8 +204,8 @@ def of_machines(lines):
         else:
             yield "ok 2 x x7573616765 " + ("1" if FAULT == "reads" else "0")
 if FAULT == "uncompiled": sys.exit("error: it isn't Rattle")
-for name in sorted(os.listdir(folder)):
-    lines = open(os.path.join(folder, name)).read().split("\n")[:-1]
+for name in sorted(os.listdir(directory)):
+    lines = open(os.path.join(directory, name)).read().split("\n")[:-1]
     print("==", name, flush=True)
     play = of_files if os.path.basename(os.getcwd()) == "gix_config_script" else of_machines
     if FAULT == "stops":
@@ -226,13 +226,13 @@ RUNS = 'gixcfg "get" < "v"\n  0 "v" ""\n\ngixcfg "other" < "v" unread\n  2 "" "u
 AROUND = ('gixcfg "get" in file "m" "v" file "d/m" "w" times 2 pipe "p" "x" link "l" "m" locked "k" "y" sparse "s" 1 pipe "q" "z"'
           ' set "HOME" "h" unset "USER"\n  0 "v ww x v PermissionError \\x00 FileNotFoundError h None" ""\n')
 LEAVING = AROUND.replace("\\n\n", "").rstrip("\n") + ' leaves file "d/m" "ww" file "k" "y" mode 0 file "m" "v" file "s" "\\x00"\n'
-IN_FOLDER = 'gixcfg "get" in file "d/m" "w" mode 640 < "v"\n  0 "v" "" leaves file "d/m" "w" mode 640\n'
+IN_DIRECTORY = 'gixcfg "get" in file "d/m" "w" mode 640 < "v"\n  0 "v" "" leaves file "d/m" "w" mode 640\n'
 EDIT = '# one\nset "a" - "k" "v"\n  ok\n'
 REASON = "# A reason.\nin rows.txt: one\n"
 
 
 class Case(NamedTuple):
-    """Rows for a program, and what the tool has to tell: parts of its lines, and its last line."""
+    """Test cases for a program, and what the tool has to tell: parts of its lines, and its last line."""
 
     name: str
     program: str
@@ -245,7 +245,7 @@ class Case(NamedTuple):
 
 
 def plain(fault, told, count, rows=ROWS):
-    return Case(f"rows, {fault}", SPEAKER.replace("WRONG", fault), "rows.txt", rows, (), told, count)
+    return Case(f"test cases, {fault}", SPEAKER.replace("WRONG", fault), "rows.txt", rows, (), told, count)
 
 
 def refusals(fault, told, count, rows=GROWING):
@@ -284,47 +284,47 @@ CASES = [
           "0 passed, 1 failed", "# one\nprint\nprint\n  ok\n"),
     plain("an answer without a command", ("rows.txt:1: an answer without a command",), "0 passed, 1 failed", "  ok\n"),
     plain("an open quote", ("rows.txt:2: a quote stays open",), "0 passed, 1 failed", 'load "v\n  ok\n'),
-    refusals("right", ("6 growths refused in 4 commands", "load                  2 in     1"), "4 passed, 0 failed"),
-    refusals("halfload", ("another file, with growth 1 refused", 'print was   ok ""', 'print is    ok "\\x00"'),
+    refusals("right", ("6 allocations refused in 4 commands", "load                  2 in     1"), "4 passed, 0 failed"),
+    refusals("halfload", ("another file, with allocation 1 refused", 'print was   ok ""', 'print is    ok "\\x00"'),
              "3 passed, 1 failed"),
-    refusals("a scope", ("4 growths refused in 5 commands", "push                  2 in     1"), "5 passed, 0 failed", SCOPE),
-    refusals("halfpush", ('rows.txt:6: push "w"', "another file, with growth 1 refused"), "4 passed, 1 failed", SCOPE),
-    refusals("E1", ('rows.txt:2: load "v"', "err E1 1 name \"\", with growth 1 refused"), "2 passed, 2 failed"),
-    refusals("nobeginning", ('err E28 "\\x0b", with growth 1 refused',), "3 passed, 1 failed"),
-    Case("--refused, no growth", SPEAKER.replace("WRONG", "right"), "rows.txt", ROWS.replace("load", "other").replace(
-        "  ok\n", "  unknown\n").replace('"v"\n\n', '""\n\n'), ("--refused",), ("no growth was refused at all",),
+    refusals("a scope", ("4 allocations refused in 5 commands", "push                  2 in     1"), "5 passed, 0 failed", SCOPE),
+    refusals("halfpush", ('rows.txt:6: push "w"', "another file, with allocation 1 refused"), "4 passed, 1 failed", SCOPE),
+    refusals("E1", ('rows.txt:2: load "v"', "err E1 1 name \"\", with allocation 1 refused"), "2 passed, 2 failed"),
+    refusals("nobeginning", ('err E28 "\\x0b", with allocation 1 refused',), "3 passed, 1 failed"),
+    Case("--refused, no allocation", SPEAKER.replace("WRONG", "right"), "rows.txt", ROWS.replace("load", "other").replace(
+        "  ok\n", "  unknown\n").replace('"v"\n\n', '""\n\n'), ("--refused",), ("no allocation was refused at all",),
         "4 passed, 1 failed"),
-    Case("--refused, real growths", GROWER, "rows.txt", 'load ""\n  ok\nload ""\n  ok\nprint\n  ok\n', ("--refused",),
-         ("4 growths refused in 3 commands",), "3 passed, 0 failed"),
+    Case("--refused, real allocations", GROWER, "rows.txt", 'load ""\n  ok\nload ""\n  ok\nprint\n  ok\n', ("--refused",),
+         ("4 allocations refused in 3 commands",), "3 passed, 0 failed"),
     Case("--refused, a whole process", GROWER, "program.txt", 'gixcfg "get"\n  0 "v\\n" ""\n', ("--refused",),
-         ("2 growths refused in 1 commands",), "1 passed, 0 failed"),
+         ("2 allocations refused in 1 commands",), "1 passed, 0 failed"),
     Case("--refused, a whole process that ends otherwise", GROWER.replace("E27", "E1"), "program.txt",
-         'gixcfg "get"\n  0 "v\\n" ""\n', ("--refused",), ('got     5 "" "gixcfg: E1\\n", with growth 1 refused',),
+         'gixcfg "get"\n  0 "v\\n" ""\n', ("--refused",), ('got     5 "" "gixcfg: E1\\n", with allocation 1 refused',),
          "0 passed, 1 failed"),
     Case("--refused, of several files the first one done", TELLER, "program.txt", TOLD, ("--refused",),
-         ("2 growths refused in 1 commands",), "1 passed, 0 failed"),
+         ("2 allocations refused in 1 commands",), "1 passed, 0 failed"),
     Case("--refused, of several files another one told", TELLER.replace('"m: x', '"n: x'), "program.txt", TOLD, ("--refused",),
-         ('got     5 "" "n: x\\ngixcfg: E27\\n", with growth 1 refused',), "0 passed, 1 failed"),
+         ('got     5 "" "n: x\\ngixcfg: E27\\n", with allocation 1 refused',), "0 passed, 1 failed"),
     Case("--refused, of one file something told", TELLER, "program.txt", TOLD.replace(' "n"', ""), ("--refused",),
-         ('got     5 "" "m: x\\ngixcfg: E27\\n", with growth 1 refused',), "0 passed, 1 failed"),
+         ('got     5 "" "m: x\\ngixcfg: E27\\n", with allocation 1 refused',), "0 passed, 1 failed"),
     program_run("right", (), "2 passed, 0 failed"),
     program_run("output", ('program.txt:1: gixcfg "get" < "v"', 'wanted  0 "v" ""', 'got     0 "v!" ""'), "1 passed, 1 failed"),
     program_run("error", ('got     0 "v" "?"',), "1 passed, 1 failed"),
     program_run("status", ('got     1 "v" ""',), "1 passed, 1 failed"),
     program_run("reads", ("1 bytes of its standard input were read",), "1 passed, 1 failed"),
     program_run("hangs", ("got     nothing: no end in",), "0 passed, 2 failed"),
-    Case("gixcfg, what stands in its folder", LOOKER, "program.txt", AROUND, (), (), "1 passed, 0 failed"),
-    Case("gixcfg, another file in its folder", LOOKER, "program.txt", AROUND.replace('"v" file', '"u" file'), (), ('got     0 "u ww x u',),
+    Case("gixcfg, what stands in its directory", LOOKER, "program.txt", AROUND, (), (), "1 passed, 0 failed"),
+    Case("gixcfg, another file in its directory", LOOKER, "program.txt", AROUND.replace('"v" file', '"u" file'), (), ('got     0 "u ww x u',),
          "0 passed, 1 failed"),
-    Case("gixcfg, what its folder has in the end", LOOKER, "program.txt", LEAVING, (), (), "1 passed, 0 failed"),
-    Case("gixcfg, another text in its folder in the end", LOOKER, "program.txt", LEAVING.replace('"d/m" "ww"', '"d/m" "w"'), (),
+    Case("gixcfg, what its directory has in the end", LOOKER, "program.txt", LEAVING, (), (), "1 passed, 0 failed"),
+    Case("gixcfg, another text in its directory in the end", LOOKER, "program.txt", LEAVING.replace('"d/m" "ww"', '"d/m" "w"'), (),
          ('file "d/m" "ww"',), "0 passed, 1 failed"),
-    Case("gixcfg, another mode in its folder in the end", LOOKER, "program.txt", LEAVING.replace("mode 0", "mode 600"), (),
+    Case("gixcfg, another mode in its directory in the end", LOOKER, "program.txt", LEAVING.replace("mode 0", "mode 600"), (),
          ('file "k" "y" mode 0',), "0 passed, 1 failed"),
-    Case("gixcfg, a file more in its folder in the end", LOOKER, "program.txt", LEAVING.replace(' file "m" "v" file "s"', ' file "s"'), (),
+    Case("gixcfg, a file more in its directory in the end", LOOKER, "program.txt", LEAVING.replace(' file "m" "v" file "s"', ' file "s"'), (),
          ('file "m" "v"',), "0 passed, 1 failed"),
-    Case("gixcfg, nothing that a folder has", LOOKER, "program.txt", 'gixcfg "get" in thing "m"\n  0 "" ""\n', (),
-         ("nothing that a folder may have: thing",), "0 passed, 1 failed"),
+    Case("gixcfg, nothing that a directory has", LOOKER, "program.txt", 'gixcfg "get" in thing "m"\n  0 "" ""\n', (),
+         ("nothing that a directory may have: thing",), "0 passed, 1 failed"),
     other("the same", "right", "", (), "4 passed, 0 failed"),
     other("a difference", "changed", "", ("rows.txt:4: a difference that isn't listed",), "3 passed, 1 failed"),
     other("a listed one", "changed", REASON + "count\n  ok 1\n  ok 2\n", ("1 listed differences were seen",),
@@ -334,14 +334,14 @@ CASES = [
     other("a listed one that is gone", "right", REASON + "count\n  ok 1\n  ok 2\n", ("a listed difference is gone",),
           "4 passed, 1 failed"),
     other("commands that it has not", "right", "", ("passed over:     1 of name", "passed over:     1 of loadkept",
-                                                    "passed over:     1 of rows whose file"), "4 passed, 0 failed", BEYOND),
+                                                    "passed over:     1 of test cases whose file"), "4 passed, 0 failed", BEYOND),
     other("commands on what lies outside that it has not", "right", "",
-          ("passed over:     1 of paths", "passed over:     1 of rows whose file", "passed over:     1 of failread",
-           "passed over:     2 of rows behind what"), "3 passed, 0 failed", LOADERS),
+          ("passed over:     1 of paths", "passed over:     1 of test cases whose file", "passed over:     1 of failread",
+           "passed over:     2 of test cases behind what"), "3 passed, 0 failed", LOADERS),
     other("one without a reason", "changed", "in rows.txt: one\ncount\n  ok 1\n  ok 2\n", ("has a reason",),
           "0 passed, 1 failed"),
-    # Four rows, and two transcripts with a growth refused.
-    tried("right", ("not proved:", "1 growths refused in 2 transcripts: 1 of a command"), "6 passed, 0 failed"),
+    # Four test cases, and two transcripts with an allocation refused.
+    tried("right", ("not proved:", "1 allocations refused in 2 transcripts: 1 of a command"), "6 passed, 0 failed"),
     tried("changed", ("rows.txt:4: count", "wanted  ok 1", "got     ok 2"), "5 passed, 1 failed"),
     tried("kept", ('rows.txt:10: print', 'got     ok "v"'), "5 passed, 1 failed"),
     tried("noreset", ("rows.txt:6: behind the last command: it printed ['unknown'] behind its answers",), "6 passed, 2 failed"),
@@ -350,10 +350,10 @@ CASES = [
     tried("memory", ("rows.txt:10: behind the last command: it ended with status 5",), "4 passed, 4 failed"),
     tried("stops", ("rows.txt:2: load", "got     nothing: fault: fault kind=index"), "0 passed, 7 failed"),
     tried("uncompiled", ("rt try started nothing", "error: it isn't Rattle"), "0 passed, 2 failed"),
-    tried("E1", ('err E1 1 name "", with growth 120 refused',), "5 passed, 2 failed"),
-    tried("never", ("no growth of a command, or of a call, was refused at all",), "6 passed, 1 failed"),
-    # Two runs, and 60 starts with a growth refused.
-    tried_run("right", ("60 growths refused in 60 starts of the same 1 runs of gixcfg: 60 of a call",), "62 passed, 0 failed"),
+    tried("E1", ('err E1 1 name "", with allocation 120 refused',), "5 passed, 2 failed"),
+    tried("never", ("no allocation of a command, or of a call, was refused at all",), "6 passed, 1 failed"),
+    # Two runs, and 60 starts with an allocation refused.
+    tried_run("right", ("60 allocations refused in 60 starts of the same 1 runs of gixcfg: 60 of a call",), "62 passed, 0 failed"),
     tried_run("output", ('program.txt:1: gixcfg "get" < "v"', 'wanted  0 "v" ""', 'got     0 "v!" ""'), "61 passed, 1 failed"),
     tried_run("error", ('got     0 "v" "?"',), "61 passed, 1 failed"),
     tried_run("status", ('got     1 "v" ""',), "61 passed, 1 failed"),
@@ -361,13 +361,13 @@ CASES = [
     tried_run("garbled", ("got     nothing: no ending: garbled",), "61 passed, 1 failed"),
     tried_run("more", ("it printed ['ok'] behind its answers",), "1 passed, 62 failed"),
     tried_run("stops", ("got     nothing: fault: fault kind=index",), "0 passed, 63 failed"),
-    tried_run("E1", ('5 "" "gixcfg: E1\\n", with a growth refused',), "2 passed, 61 failed"),
-    tried_run("never", ("no growth of a command, or of a call, was refused at all",), "62 passed, 1 failed"),
-    tried_run("right", (), "61 passed, 0 failed", IN_FOLDER),
-    tried_run("text", ('file "d/m" "\\x00" mode 640',), "0 passed, 62 failed", IN_FOLDER),
+    tried_run("E1", ('5 "" "gixcfg: E1\\n", with an allocation refused',), "2 passed, 61 failed"),
+    tried_run("never", ("no allocation of a command, or of a call, was refused at all",), "62 passed, 1 failed"),
+    tried_run("right", (), "61 passed, 0 failed", IN_DIRECTORY),
+    tried_run("text", ('file "d/m" "\\x00" mode 640',), "0 passed, 62 failed", IN_DIRECTORY),
     # What a run leaves where memory was wanting has any rights.
-    tried_run("mode", ('file "d/m" "w" mode 1',), "60 passed, 1 failed", IN_FOLDER),
-    tried_run("nofolder", ("the machine doesn't take the line folder x64",), "0 passed, 62 failed", IN_FOLDER),
+    tried_run("mode", ('file "d/m" "w" mode 1',), "60 passed, 1 failed", IN_DIRECTORY),
+    tried_run("nofolder", ("the machine doesn't take the line folder x64",), "0 passed, 62 failed", IN_DIRECTORY),
     tried_run("right", ("1 runs of gixcfg need the built program: 1 for a pipe",), "0 passed, 0 failed",
               'gixcfg "get" in pipe "m" "x"\n  0 "" ""\n'),
     left("right", (), "1 passed, 0 failed"),
@@ -384,9 +384,9 @@ CASES = [
 ]
 
 
-def _check_case(case, tools, folder):
+def _check_case(case, tools, directory):
     """What is wrong with what the tool tells of this case, or None."""
-    rows, program = folder / "rows", folder / ("rt" if "--try" in case.words else "program")
+    rows, program = directory / "rows", directory / ("rt" if "--try" in case.words else "program")
     rows.mkdir()
     (rows / case.file).write_text(case.rows)
     words = list(case.words)
@@ -397,7 +397,7 @@ def _check_case(case, tools, folder):
     called = [sys.executable, str(tools / case.tool), "--rows", str(rows), "--program", str(program), *words]
     if case.tool == "rows":
         called += ["--gixcfg", str(program), "--limit", "4"]
-    variables = {**os.environ, "PATH": f"{folder}:{os.environ['PATH']}"}
+    variables = {**os.environ, "PATH": f"{directory}:{os.environ['PATH']}"}
     ran = subprocess.run(called, stdout=subprocess.PIPE, stderr=subprocess.STDOUT, env=variables)
     told = ran.stdout.decode("utf-8", "replace")
     missing = [part for part in case.told if part not in told]
@@ -423,7 +423,7 @@ def _state(*sections):
 
 
 A, B, C = "[0 x61 - x6b x31 ]", "[1 x62 - x6b x32 ]", "[2 x63 - ]"
-# What may hold of a file behind a refused growth, by command, before, behind and behind the refusal.
+# What may hold of a file behind a refused allocation, by command, before, behind and behind the error.
 STATES = [
     ("load", _state(A), _state(B), _state(A), True),
     ("load", _state(A), _state(B), _state(B), False),
@@ -446,8 +446,8 @@ def run(tools):
     """Checks each case, and closes with their count."""
     report = Report()
     for case in CASES:
-        with tempfile.TemporaryDirectory() as folder:
-            fault = _check_case(case, tools, Path(folder))
+        with tempfile.TemporaryDirectory() as directory:
+            fault = _check_case(case, tools, Path(directory))
         _count(report, case.name, fault)
     for word, before, done, after, is_right in STATES:
         holds = refused.EDITS.get(word, refused.as_before)(before, done, after)

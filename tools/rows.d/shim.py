@@ -1,4 +1,4 @@
-"""The shim that refuses growths (tools/refuse.c), built into a temporary folder."""
+"""The shim that refuses allocations (tools/refuse.c), built into a temporary directory."""
 
 import itertools
 import subprocess
@@ -12,9 +12,9 @@ class NotBuilt(Exception):
 class Shim:
     """The built shim, and the variables that a program gets for it."""
 
-    def __init__(self, source, folder):
-        self._library = Path(folder) / "refuse.so"
-        self._folder = Path(folder)
+    def __init__(self, source, directory):
+        self._library = Path(directory) / "refuse.so"
+        self._directory = Path(directory)
         self._numbers = itertools.count()
         options = ["-shared", "-fPIC", "-O2", "-Wall", "-Wextra", "-Werror"]
         try:
@@ -25,15 +25,15 @@ class Shim:
             raise NotBuilt(f"cc can't build {source}: {built.stderr.decode('utf-8', 'replace')}")
 
     def by_command(self, first):
-        """For a program of the script language: the growth of this number is refused first."""
+        """For a program of the script language: the allocation of this number is refused first."""
         return {"LD_PRELOAD": str(self._library), "REFUSE_FIRST": str(first)}
 
     def whole_process(self, number):
-        """For any program: the growth of this number is refused."""
-        log = self._folder / f"refused-{next(self._numbers)}"
+        """For any program: the allocation of this number is refused."""
+        log = self._directory / f"refused-{next(self._numbers)}"
         return {"LD_PRELOAD": str(self._library), "REFUSE_AT": str(number), "REFUSE_LOG": str(log)}
 
     @staticmethod
     def was_refused(variables):
-        """Whether the whole process that had these variables had a growth refused."""
+        """Whether the whole process that had these variables had an allocation refused."""
         return Path(variables["REFUSE_LOG"]).exists()

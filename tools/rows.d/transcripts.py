@@ -1,4 +1,4 @@
-"""Transcripts: a command, and behind two blanks on the next line its answer."""
+"""Transcripts: a command, and behind two spaces on the next line its answer."""
 
 from typing import List, NamedTuple
 
@@ -34,7 +34,7 @@ class Row(NamedTuple):
 
 
 class Transcript(NamedTuple):
-    """Rows that follow each other. The next transcript starts afresh."""
+    """Test cases that follow each other. The next transcript starts afresh."""
 
     file: str
     title: str

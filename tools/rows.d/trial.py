@@ -1,7 +1,7 @@
-"""Rows on programs that `rt try` compiles of the sources, with nothing proved: the transcripts by gix_config_script, the runs of gixcfg by
-gixcfg_script, and some of both with a growth refused.
+"""Test cases on programs that `rt try` compiles of the sources, with nothing proved: the transcripts by gix_config_script, the runs of gixcfg by
+gixcfg_script, and some of both with an allocation refused.
 
-`rt try` takes most of a second to start a program, so many rows are joined to a script.
+`rt try` takes most of a second to start a program, so many test cases are joined to a script.
 """
 
 import itertools
@@ -27,14 +27,14 @@ TURN = 15
 
 
 def run(crates, transcripts, runs, options, report):
-    """Runs all rows that can be run so, and tells how many can't."""
+    """Runs all test cases that can be run so, and tells how many can't."""
     limit = options.limit
     runs = _that_fit(runs, report)
     files, groups, cases = _by_file(transcripts), _groups_of(runs), refused_runs.cases_of(runs)
     chosen = refused_transcripts.chosen(transcripts)
     answered, refusing, called = _play(report, [
         Trial("transcripts", crates / "gix_config_script", [_script_of(rows) for rows in files], limit),
-        Trial("transcripts with a growth refused", crates / "gix_config_script",
+        Trial("transcripts with an allocation refused", crates / "gix_config_script",
               [[row.sent for row in transcript.rows] for transcript in chosen], limit, refused_transcripts.OPTIONS),
         Trial("runs of gixcfg", crates / "gixcfg_script", [_calls_of(rows) for rows in groups] + [case.script for case in cases], limit,
               refused_runs.OPTIONS)])
@@ -45,7 +45,7 @@ def run(crates, transcripts, runs, options, report):
     told = [refused_transcripts.check(chosen, refusing, report), refused_runs.check(cases, called[len(groups):], report)]
     # Those of a single file may be too short.
     if 0 in told and not options.files:
-        report.fault("no growth of a command, or of a call, was refused at all")
+        report.fault("no allocation of a command, or of a call, was refused at all")
     report.tell("not proved: what ran was compiled by rt try of the sources as they are")
 
 
@@ -114,7 +114,7 @@ def _played(trial, report):
     try:
         return trial.play() if trial.count else []
     except NotCompiled as fault:
-        report.fault(f"{trial.name}: {fault}\nThese rows are left out.")
+        report.fault(f"{trial.name}: {fault}\nThese test cases are left out.")
         return []
 
 
@@ -123,7 +123,7 @@ def _tell_progress(trials, ended):
     began = time.monotonic()
     while not ended.wait(TURN):
         told = [f"{trial.name}: {_progress_of(trial)}" for trial in trials]
-        print(f"rows, not proved, {time.monotonic() - began:.0f} s", *told, sep="; ", file=sys.stderr, flush=True)
+        print(f"test cases, not proved, {time.monotonic() - began:.0f} s", *told, sep="; ", file=sys.stderr, flush=True)
 
 
 def _progress_of(trial):

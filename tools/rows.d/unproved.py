@@ -12,7 +12,7 @@ import threading
 from pathlib import Path
 from typing import List, NamedTuple, Optional
 
-from process import Stopped
+from process import Ended
 
 # `rt try` runs a program on an interpreter too, which can't read standard input; so it gets no time for that.
 QUICK = ["--steps", "1"]
@@ -55,17 +55,17 @@ class Answers:
     def ask(self, _line):
         """The answer to the next line."""
         if not self._left:
-            raise Stopped(self._fault or "it gave no answer")
+            raise Ended(self._fault or "it gave no answer")
         return self._left.pop(0)
 
     def finish(self):
         """All answers were asked for, and those behind them are the right ones."""
         if self._fault:
-            raise Stopped(self._fault)
+            raise Ended(self._fault)
         if self._left != self._behind:
-            raise Stopped(f"it printed {self._left} behind its answers, and not {self._behind}")
+            raise Ended(f"it printed {self._left} behind its answers, and not {self._behind}")
 
-    def stop(self):
+    def kill(self):
         """There is nothing to end."""
 
 
@@ -84,23 +84,23 @@ class Trial:
     def play(self):
         """What the program answered to each of the scripts, in their order."""
         names = [f"{number:04}" for number in range(self.count)]
-        with tempfile.TemporaryDirectory() as folder:
+        with tempfile.TemporaryDirectory() as directory:
             for name, lines in zip(names, self._scripts):
-                (Path(folder) / name).write_text("".join(line + "\n" for line in lines), encoding="utf-8")
-            printed, told = self._run(folder)
+                (Path(directory) / name).write_text("".join(line + "\n" for line in lines), encoding="utf-8")
+            printed, told = self._run(directory)
         answers, faults = _answers_in(printed, names), _faults_in(told)
         if not faults:
             raise NotCompiled(f"rt try started nothing in {self._crate}:\n{told.strip()}")
         return [Played(answers.get(name, []), faults.get(name, "it wasn't started")) for name in names]
 
-    def _run(self, folder):
+    def _run(self, directory):
         """What `rt try` prints and tells. Scripts are counted as they are told."""
         rt = shutil.which("rt")
         if rt is None:
             raise NotCompiled("there is no command rt on the PATH")
         told = []
         with subprocess.Popen(
-                [rt, "try", *self._options, "--cases", folder], cwd=self._crate, stdin=subprocess.DEVNULL,
+                [rt, "try", *self._options, "--cases", directory], cwd=self._crate, stdin=subprocess.DEVNULL,
                 stdout=subprocess.PIPE, stderr=subprocess.PIPE, encoding="utf-8", errors="replace") as process:
             listener = threading.Thread(target=self._listen, args=(process.stderr, told))
             listener.start()

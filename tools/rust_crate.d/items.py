@@ -58,19 +58,19 @@ def refused(said, where):
 
 def compiling(calls, room, check):
     """Those of the calls that compile. A compiler that refuses some may not come to look at others, so it is asked again without these."""
-    folder = room / "items"
-    (folder / "src").mkdir(parents=True)
-    (folder / ".cargo").mkdir()
-    (folder / ".cargo/config.toml").write_bytes((room / "crate/.cargo/config.toml").read_bytes())
-    (folder / "Cargo.toml").write_text(MANIFEST, encoding="utf-8")
+    directory = room / "items"
+    (directory / "src").mkdir(parents=True)
+    (directory / ".cargo").mkdir()
+    (directory / ".cargo/config.toml").write_bytes((room / "crate/.cargo/config.toml").read_bytes())
+    (directory / "Cargo.toml").write_text(MANIFEST, encoding="utf-8")
     left = list(calls)
     while True:
         text, where = FRONT, {}
         for number, call in enumerate(left):
             text += PROBE.format(number=number, call=call[1].replace("$TRUST", "gix_config::Trust::Full"))
             where[text.count("\n")] = call
-        (folder / "src/lib.rs").write_text(text, encoding="utf-8")
-        status, said = check(folder)
+        (directory / "src/lib.rs").write_text(text, encoding="utf-8")
+        status, said = check(directory)
         others = refused(said, where)
         if not others:
             return left if status == 0 else None
@@ -78,7 +78,7 @@ def compiling(calls, room, check):
 
 
 def faults(room, check):
-    """What is told of the items otherwise than it is, each as a line. `check` compiles a folder, and returns its status and what is said."""
+    """What is told of the items otherwise than it is, each as a line. `check` compiles a directory, and returns its status and what is said."""
     items = read()
     compiles = compiling([call for item in items for call in item.calls], room, check)
     if compiles is None:

@@ -1,4 +1,4 @@
-"""Reads and edits git's configuration files. Comments, blanks and layout stay as they are.
+"""Reads and edits git's configuration files. Comments, whitespace and layout stay as they are.
 
     >>> import gixcfg
     >>> config = gixcfg.Config.parse('[remote "origin"]\\n\\turl = https://example.org/a.git\\n')

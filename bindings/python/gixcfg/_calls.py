@@ -244,7 +244,7 @@ class Filter(Structure):
 
 
 class Folders(Structure):
-    """The folders that the shorthands of paths stand for. One that is not known refuses the paths that need it."""
+    """The directories that the shorthands of paths stand for. One that is not known refuses the paths that need it."""
 
     has_installation: bool
     installation: Text
@@ -260,7 +260,7 @@ class Folders(Structure):
 
 
 class Layout(Structure):
-    """How a text is laid out. gix_config_layout_default fills it."""
+    """How a text is formatted. gix_config_layout_default fills it."""
 
     keeps_root_blanks: bool
     has_root_tabs: bool
@@ -294,7 +294,7 @@ class Layout(Structure):
 
 
 class Includes(Structure):
-    """How includes are followed: ten files deep; deeper ones are refused, and so is a path relative to the folder of a file that has no path."""
+    """How includes are followed: ten files deep; deeper ones are refused, and so is a path relative to the directory of a file that has no path."""
 
     strict: bool
     lossy: bool
@@ -368,7 +368,7 @@ class Places(Structure):
 
 
 class Repository(Structure):
-    """A repository: its folders, and the places of configuration besides."""
+    """A repository: its directories, and the places of configuration besides."""
 
     git_folder: Text
     real_git_folder: Text

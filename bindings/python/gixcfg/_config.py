@@ -16,12 +16,12 @@ from gixcfg._names import (Entry, Key, Name, decoded, done, done_of, encoded, en
                            path_of, refuse, refuse_text, section_of, taken, text_of, texts_of)
 from gixcfg._saving import Lock, PathName
 from gixcfg._section import SectionEditor, Value, written
-from gixcfg._sources import SOURCES, Includes, Origin, Section, Source, folders, includes_of, origin_of, places_of
+from gixcfg._sources import SOURCES, Includes, Origin, Section, Source, directories, includes_of, origin_of, places_of
 from gixcfg._view import View
 
 T = TypeVar("T")
 
-# Blocks for what look-ups hand out: the next one frees what the last one got, which spares a call. A value of more bytes is freed at once.
+# Blocks for what look-ups return: the next one frees what the last one got, which spares a call. A value of more bytes is freed at once.
 BLOCKS: List[c.Bytes] = []
 LARGE = 4096
 
@@ -127,7 +127,7 @@ class Config(MutableMapping[Key, str]):
         """The configuration of the machine and of the user, with what it includes: the file that was installed with git, if its path is given,
         `etc/gitconfig` below the prefix, and the user's two, as the variables of the process say it (`GIT_CONFIG_NOSYSTEM`,
         `GIT_CONFIG_SYSTEM`, `GIT_CONFIG_GLOBAL`, `XDG_CONFIG_HOME`, `HOME`). An empty file if there is none. It is for look-ups, as that of
-        `load_with_includes`, and raises as that does. The home folder is that for `~/` in the paths of includes."""
+        `load_with_includes`, and raises as that does. The home directory is that for `~/` in the paths of includes."""
         made, places = cls(), places_of(installation, prefix, home)
         made._follow(lambda told, asked: int(LIBRARY.gix_config_load_globals_told(told, places, made._file, asked)))
         return made
@@ -144,7 +144,7 @@ class Config(MutableMapping[Key, str]):
     @classmethod
     def load_repository(cls, git_folder: PathName, installation: Optional[PathName] = None, prefix: PathName = "/",
                         home: Optional[PathName] = None) -> "Config":
-        """The configuration of a repository by its folder, as `.git`: that of `load_globals`, its own, that of its worktree if
+        """The configuration of a repository by its directory, as `.git`: that of `load_globals`, its own, that of its worktree if
         `extensions.worktreeConfig` is true, and the entries of `load_environment`, one after the other. Raises as these do, and IncludeError
         if the repository's `config` is missing."""
         git = os.path.abspath(os.fspath(git_folder))
@@ -415,16 +415,16 @@ class Config(MutableMapping[Key, str]):
     def get_path(self, key: Key, default: T, *, home: Optional[PathName] = None, prefix: Optional[PathName] = None) -> Union[str, T]: ...
 
     def get_path(self, key: Key, default: Any = None, *, home: Optional[PathName] = None, prefix: Optional[PathName] = None) -> Any:
-        """The last value of a key as a path, as git takes it: `~/` at its front is the home folder, which is the user's if none is given, and
-        `%(prefix)/` the folder where git is installed. The default if there is none, as for an entry without `=`. Raises NotOfType for a value
-        that is empty, that needs the folder of another user or a prefix that isn't given, or that is not UTF-8; Refused for a folder that is
+        """The last value of a key as a path, as git takes it: `~/` at its front is the home directory, which is the user's if none is given, and
+        `%(prefix)/` the directory where git is installed. The default if there is none, as for an entry without `=`. Raises NotOfType for a value
+        that is empty, that needs the directory of another user or a prefix that isn't given, or that is not UTF-8; Refused for a directory that is
         not UTF-8.
 
         >>> Config.parse("[core] excludesFile = ~/.ignore").get_path("core.excludesFile", home="/home/ada")
         '/home/ada/.ignore'
         """
         block = c.Bytes()
-        number = LIBRARY.gix_config_path(self._file, key_of(key), folders(prefix, home), block)
+        number = LIBRARY.gix_config_path(self._file, key_of(key), directories(prefix, home), block)
         if number == c.NOTHING_THERE:
             return default
         if number in (c.MISSING_FOLDER, c.PATH_NOT_UTF8, c.USER_NOT_UTF8):
@@ -494,7 +494,7 @@ class Config(MutableMapping[Key, str]):
 
     def __eq__(self, other: object) -> bool:
         """Whether the files have the same sections in order, with the same keys that mean the same. Names are compared without case. Comments,
-        blanks, what is before the first section and where sections come from don't count. As it changes with edits, a `Config` has no hash.
+        whitespace, what is before the first section and where sections come from don't count. As it changes with edits, a `Config` has no hash.
 
         >>> Config.parse("[A] k = 1") == Config.parse("[a]\\nK = 1 # one")
         True

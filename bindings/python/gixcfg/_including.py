@@ -19,7 +19,7 @@ def tell_text(told: c.Told, path: bytes, text: bytes) -> int:
 
 
 def tell_from_disk(told: c.Told, path: bytes) -> int:
-    """Tells what is at a path on the disk. What is no file, as a folder, is missing."""
+    """Tells what is at a path on the disk. What is no file, as a directory, is missing."""
     if not os.path.isfile(path):
         return tell_missing(told, path)
     try:

@@ -1,4 +1,4 @@
-"""Texts that are laid out."""
+"""Texts that are formatted."""
 from typing import AnyStr, Optional, Tuple
 
 from gixcfg import _calls as c
@@ -6,7 +6,7 @@ from gixcfg._library import LIBRARY
 from gixcfg._names import decoded, encoded, refuse_text, taken
 
 
-def _laid_out(text: bytes, layout: c.Layout) -> bytes:
+def _formatted(text: bytes, layout: c.Layout) -> bytes:
     block, place = c.Bytes(), c.Place()
     number = LIBRARY.gix_config_normalize(text, len(text), layout, block, place)
     if number != c.DONE:
@@ -30,10 +30,10 @@ def _limit(count: Optional[int]) -> Tuple[bool, int]:
 
 def normalize(text: AnyStr, *, indent: str = "\t", newline: Optional[str] = None, root_indent: Optional[str] = "", spaces: bool = True,
               final_newline: bool = True, max_leading_blank_lines: Optional[int] = None, max_blank_lines: Optional[int] = None) -> AnyStr:
-    """The text laid out as `gixcfg fmt` does it: an indent before each name, one blank on either side of `=`, one line ending at the end; with
+    """The text formatted as `gixcfg fmt` does it: an indent before each name, one space on either side of `=`, one line ending at the end; with
     the same sections, entries and comments. Lines end with the newline, LF or CR LF, or as the first line of the text does.
 
-    The root indent stands before comments ahead of the first header; with None the blanks stay that are there. Without `spaces` none is
+    The root indent stands before comments ahead of the first header; with None the whitespace stays that is there. Without `spaces` none is
     around `=`, and without `final_newline` the end stays as it is. Blank lines are limited ahead of the first line that isn't blank, and where
     they stand together behind it; with None all stay. An indent is of tabs alone or of spaces alone.
 
@@ -54,5 +54,5 @@ def normalize(text: AnyStr, *, indent: str = "\t", newline: Optional[str] = None
     layout.limits_leading_blank_lines, layout.max_leading_blank_lines = _limit(max_leading_blank_lines)
     layout.limits_blank_lines, layout.max_blank_lines = _limit(max_blank_lines)
     if isinstance(text, str):
-        return decoded(_laid_out(encoded(text), layout))
-    return _laid_out(text, layout)
+        return decoded(_formatted(encoded(text), layout))
+    return _formatted(text, layout)

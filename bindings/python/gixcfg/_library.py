@@ -65,7 +65,7 @@ def bytes_at(found: Any) -> bytes:
 
 
 def words_of(number: int) -> str:
-    """What the number of a refusal says."""
+    """What the number of an error says."""
     words = Span()
     LIBRARY.gix_config_refusal_text(number, words)
     return bytes_at(words).decode()

@@ -59,7 +59,7 @@ def text_of(text: str) -> c.Text:
 
 
 def text_at(span: c.Span) -> str:
-    """A text that was handed out."""
+    """A text that was returned."""
     return decoded(bytes_at(span))
 
 
@@ -139,7 +139,7 @@ def is_missing(number: int) -> bool:
 
 
 def refuse(number: int, about: Optional[str] = None, kind: Optional[Type[ConfigError]] = None) -> NoReturn:
-    """Raises what stands for the number of a refusal, or this kind."""
+    """Raises what stands for the number of an error, or this kind."""
     if number == c.OUT_OF_MEMORY:
         raise MemoryError
     raised = KINDS.get(number, Refused) if kind is None else kind

@@ -40,11 +40,11 @@ class Lock:
         os.rename(self.name, self.path)
         # (from here on the name of the lock is no longer this program's)
         file, self.file = self.file, None
-        # (the text is on the disk; the new name may follow later, where a folder can't be synced, and a crash until then leaves the old file)
+        # (the text is on the disk; the new name may follow later, where a directory can't be synced, and a crash until then leaves the old file)
         with contextlib.suppress(OSError):
             os.close(file)
         with contextlib.suppress(OSError):
-            sync_folder(os.path.dirname(self.path))
+            sync_directory(os.path.dirname(self.path))
 
     def __exit__(self, kind: Optional[Type[BaseException]], error: Optional[BaseException], trace: Optional[TracebackType]) -> None:
         if self.file is not None:
@@ -53,10 +53,10 @@ class Lock:
             os.unlink(self.name)
 
 
-def sync_folder(path: str) -> None:
-    """Syncs a folder, so that new names are on the disk. Raises OSError for one that can't be opened to be read, and where the disk fails."""
-    folder = os.open(path, os.O_RDONLY | os.O_DIRECTORY)
+def sync_directory(path: str) -> None:
+    """Syncs a directory, so that new names are on the disk. Raises OSError for one that can't be opened to be read, and where the disk fails."""
+    directory = os.open(path, os.O_RDONLY | os.O_DIRECTORY)
     try:
-        os.fsync(folder)
+        os.fsync(directory)
     finally:
-        os.close(folder)
+        os.close(directory)

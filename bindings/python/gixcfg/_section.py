@@ -47,7 +47,7 @@ class SectionEditor:
         return entries_of(entries)
 
     def add(self, name: str, value: Optional[Value] = None, comment: Optional[str] = None) -> None:
-        """Adds an entry after all others, also of a name that is there, with the blanks that the section uses. Raises Refused.
+        """Adds an entry after all others, also of a name that is there, with the whitespace that the section uses. Raises Refused.
 
         >>> config = Config.parse("[a] k = 1")
         >>> config.edit("a").add("k", 2, comment="why")

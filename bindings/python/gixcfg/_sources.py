@@ -1,4 +1,4 @@
-"""Where configuration comes from, and what is known of places and folders."""
+"""Where configuration comes from, and what is known of places and directories."""
 import enum
 import os
 from typing import List, NamedTuple, Optional
@@ -17,9 +17,9 @@ class Source(str, enum.Enum):
     SYSTEM = "system"
     """The configuration of the whole machine."""
     GIT = "git"
-    """The user's configuration in `git/config` of the folder for configuration."""
+    """The user's configuration in `git/config` of the directory for configuration."""
     USER = "user"
-    """The user's configuration in `.gitconfig` of the home folder."""
+    """The user's configuration in `.gitconfig` of the home directory."""
     LOCAL = "local"
     """The repository's configuration."""
     WORKTREE = "worktree"
@@ -78,11 +78,11 @@ class Includes(NamedTuple):
     """How includes are followed: ten files deep, and no deeper."""
 
     git_folder: Optional[PathName] = None
-    """The folder of the repository, as `.git`, for the conditions `gitdir:` and `gitdir/i:`; without one they don't hold."""
+    """The directory of the repository, as `.git`, for the conditions `gitdir:` and `gitdir/i:`; without one they don't hold."""
     branch: Optional[str] = None
     """The full name of the branch, as `refs/heads/main`, for the condition `onbranch:`; without one it doesn't hold."""
     home: Optional[PathName] = None
-    """The folder for `~/`; without one it is the user's."""
+    """The directory for `~/`; without one it is the user's."""
     strict: bool = False
     """Whether an include is refused whose path has a shorthand that stands for nothing; else it is left out."""
 
@@ -91,8 +91,8 @@ def _user_or(home: Optional[PathName]) -> str:
     return os.path.expanduser("~") if home is None else os.fspath(home)
 
 
-def folders(installation: Optional[PathName], home: Optional[PathName]) -> c.Folders:
-    """The folders that the shorthands of paths stand for, for the library."""
+def directories(installation: Optional[PathName], home: Optional[PathName]) -> c.Folders:
+    """The directories that the shorthands of paths stand for, for the library."""
     return c.Folders(installation is not None, text_of("" if installation is None else os.fspath(installation)), True, text_of(_user_or(home)))
 
 
@@ -100,7 +100,7 @@ def includes_of(includes: Includes) -> c.Includes:
     """How includes are followed, for the library."""
     git = None if includes.git_folder is None else os.path.abspath(os.fspath(includes.git_folder))
     real_git = None if git is None else os.path.realpath(git)
-    return c.Includes(includes.strict, False, folders(None, includes.home), git is not None, text_of(git or ""), text_of(real_git or ""),
+    return c.Includes(includes.strict, False, directories(None, includes.home), git is not None, text_of(git or ""), text_of(real_git or ""),
                       includes.branch is not None, text_of(includes.branch or ""))
 
 

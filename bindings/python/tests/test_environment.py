@@ -11,14 +11,14 @@ from gixcfg import Config, IncludeError, ParseError, Refused, VariableError
 
 class Environment(unittest.TestCase):
     def setUp(self) -> None:
-        folder = tempfile.TemporaryDirectory()
-        self.addCleanup(folder.cleanup)
-        self.folder = Path(folder.name)
+        directory = tempfile.TemporaryDirectory()
+        self.addCleanup(directory.cleanup)
+        self.directory = Path(directory.name)
         self.set({})
 
     def set(self, variables: Dict[str, str]) -> None:
         """The variables of the process are these."""
-        patch = mock.patch.dict(os.environ, {"HOME": str(self.folder / "home"), **variables}, clear=True)
+        patch = mock.patch.dict(os.environ, {"HOME": str(self.directory / "home"), **variables}, clear=True)
         patch.start()
         self.addCleanup(patch.stop)
 
@@ -30,7 +30,7 @@ class Environment(unittest.TestCase):
         self.set(variables)
 
     def put(self, name: str, text: str) -> Path:
-        path = self.folder / name
+        path = self.directory / name
         path.parent.mkdir(parents=True, exist_ok=True)
         path.write_text(text, encoding="utf-8")
         return path
@@ -40,14 +40,14 @@ class Environment(unittest.TestCase):
         self.put("home/.config/git/config", "[a]\n\tk = folder\n")
         self.put("home/.gitconfig", "[a]\n\tk = user\n[include]\n\tpath = ~/more\n")
         self.put("home/more", "[a]\n\tmore\n")
-        config = Config.load_globals(self.put("installed", "[a]\n\tk = installed\n"), self.folder)
+        config = Config.load_globals(self.put("installed", "[a]\n\tk = installed\n"), self.directory)
         self.assertEqual(config.get_all("a.k"), ["installed", "machine", "folder", "user"])
         self.assertEqual((config["a.machine"], config.get_bool("a.more"), config.path), ("1", True, None))
         self.set({"GIT_CONFIG_NOSYSTEM": "1", "GIT_CONFIG_GLOBAL": str(self.put("other", "[b]\n\tk = 1\n"))})
         # (it stands for both of the user's files, and is read once)
-        self.assertEqual([it.name for it in Config.load_globals(None, self.folder).sections()], ["b"])
-        self.set({"GIT_CONFIG_NOSYSTEM": "1", "GIT_CONFIG_GLOBAL": str(self.folder / "none")})
-        self.assertEqual(Config.load_globals(None, self.folder).text, "")
+        self.assertEqual([it.name for it in Config.load_globals(None, self.directory).sections()], ["b"])
+        self.set({"GIT_CONFIG_NOSYSTEM": "1", "GIT_CONFIG_GLOBAL": str(self.directory / "none")})
+        self.assertEqual(Config.load_globals(None, self.directory).text, "")
 
     def test_entries_of_variables(self) -> None:
         self.assertEqual(Config.load_environment().text, "")
@@ -72,21 +72,21 @@ class Environment(unittest.TestCase):
         self.assertRaises(Refused, Config.load_environment)
 
     def test_a_repository(self) -> None:
-        git = self.folder / "repo/.git"
+        git = self.directory / "repo/.git"
         self.put("etc/gitconfig", "[a]\n\tk = machine\n")
         self.put("home/.gitconfig", "[a]\n\tk = user\n")
         self.put("repo/.git/config", '[a]\n\tk = repo\n[extensions]\n\tworktreeConfig\n[includeIf "gitdir:repo/"]\n\tpath = ../../more\n')
         self.put("repo/.git/config.worktree", "[a]\n\tk = worktree\n")
         self.put("more", "[a]\n\tk = more\n")
         self.entries("a.k=env")
-        config = Config.load_repository(git, None, self.folder)
+        config = Config.load_repository(git, None, self.directory)
         self.assertEqual(config.get_all("a.k"), ["machine", "user", "repo", "more", "worktree", "env"])
         (git / "config.worktree").write_text("[a\n", encoding="utf-8")
         with self.assertRaises(ParseError) as refused:
-            Config.load_repository(git, None, self.folder)
+            Config.load_repository(git, None, self.directory)
         self.assertEqual((refused.exception.path, refused.exception.line), (str(git / "config.worktree"), 1))
         with self.assertRaises(IncludeError) as caught:
-            Config.load_repository(self.folder, None, self.folder)
+            Config.load_repository(self.directory, None, self.directory)
         self.assertEqual(caught.exception.number, 21)
 
 

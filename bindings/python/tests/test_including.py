@@ -9,12 +9,12 @@ from gixcfg import Config, IncludeError, Includes, ParseError
 
 class Loads(unittest.TestCase):
     def setUp(self) -> None:
-        folder = tempfile.TemporaryDirectory()
-        self.addCleanup(folder.cleanup)
-        self.folder = Path(folder.name)
+        directory = tempfile.TemporaryDirectory()
+        self.addCleanup(directory.cleanup)
+        self.directory = Path(directory.name)
 
     def put(self, name: str, text: str) -> Path:
-        path = self.folder / name
+        path = self.directory / name
         path.parent.mkdir(exist_ok=True)
         path.write_text(text, encoding="utf-8")
         return path
@@ -44,27 +44,27 @@ class Loads(unittest.TestCase):
         self.put("home/h", "[h]\n\tk\n")
         self.put("r", "[r]\n\tk\n")
         self.put("m", "[m]\n\tk\n")
-        (self.folder / "repo/.git").mkdir(parents=True)
-        plain = Config.load_with_includes(path, Includes(home=self.folder / "home"))
+        (self.directory / "repo/.git").mkdir(parents=True)
+        plain = Config.load_with_includes(path, Includes(home=self.directory / "home"))
         self.assertEqual([it.name for it in plain.sections()], ["include", "h", "includeIf", "includeIf"])
-        given = Includes(git_folder=self.folder / "repo/.git", branch="refs/heads/main", home=self.folder / "home")
+        given = Includes(git_folder=self.directory / "repo/.git", branch="refs/heads/main", home=self.directory / "home")
         whole = Config.load_with_includes(path, given)
         self.assertEqual([it.name for it in whole.sections()], ["include", "h", "includeIf", "r", "includeIf", "m"])
 
-    def test_refusals(self) -> None:
+    def test_errors(self) -> None:
         with self.assertRaises(IncludeError) as caught:
-            Config.load_with_includes(self.folder / "none")
+            Config.load_with_includes(self.directory / "none")
         self.assertEqual(caught.exception.number, 21)
         path = self.put("a", "[include]\n\tpath = b\n")
         self.put("b", "[x]\n\tk = \"1\n")
         with self.assertRaises(ParseError) as refused:
             Config.load_with_includes(path)
-        self.assertEqual((refused.exception.path, refused.exception.line), (str(self.folder / "b"), 2))
+        self.assertEqual((refused.exception.path, refused.exception.line), (str(self.directory / "b"), 2))
         self.put("b", "[x]\n\tk = v\n= 1\n")
         with self.assertRaises(ParseError) as placed:
-            Config.parse("[include]\n\tpath = %s\n" % (self.folder / "b")).resolve_includes()
+            Config.parse("[include]\n\tpath = %s\n" % (self.directory / "b")).resolve_includes()
         self.assertEqual((placed.exception.number, placed.exception.line, placed.exception.column, placed.exception.offset), (1, 3, 1, 11))
-        self.assertEqual(str(placed.exception), f"{self.folder / 'b'}:3:1: {placed.exception.reason}")
+        self.assertEqual(str(placed.exception), f"{self.directory / 'b'}:3:1: {placed.exception.reason}")
         self.put("b", "[include]\n\tpath = a\n")
         with self.assertRaises(IncludeError) as deep:
             Config.load_with_includes(path)
@@ -77,11 +77,11 @@ class Loads(unittest.TestCase):
         with self.assertRaises(IncludeError) as caught:
             Config.load_with_includes(path)
         self.assertEqual(caught.exception.number, 19)
-        self.assertIn(str(self.folder / "b"), str(caught.exception))
+        self.assertIn(str(self.directory / "b"), str(caught.exception))
 
     def test_file_that_is_there(self) -> None:
         self.put("b", "[y]\n\tk = 2\n")
-        config = Config.parse(f"[include]\n\tpath = {self.folder}/b\n[x]\n\tk = 1\n")
+        config = Config.parse(f"[include]\n\tpath = {self.directory}/b\n[x]\n\tk = 1\n")
         config.resolve_includes()
         self.assertEqual([it.name for it in config.sections()], ["include", "y", "x"])
         relative = Config.parse("[include]\n\tpath = b\n")

@@ -1,4 +1,4 @@
-"""Texts that are laid out, by the rows of docs/layout.md."""
+"""Texts that are formatted, by the rows of docs/layout.md."""
 import unittest
 
 from gixcfg import Config, ParseError, normalize
@@ -6,11 +6,11 @@ from gixcfg import Config, ParseError, normalize
 
 class Layout(unittest.TestCase):
     def test_rows_of_the_usual_layout(self) -> None:
-        for text, laid_out in (
+        for text, formatted in (
             ("[a]\nk = v", "[a]\n\tk = v\n"), ("  # c", "# c\n"), ("[B.C] l=1", '[B.c]l = 1\n'), ("[a] b c=d;x", "[a]b c = d ;x\n"),
             ("[a]\nk = x\\\n  y\n", "[a]\n\tk = x\\\n  y\n"), ("[a] k # c", "[a]k # c\n"), ("", ""),
         ):
-            self.assertEqual(normalize(text), laid_out, text)
+            self.assertEqual(normalize(text), formatted, text)
 
     def test_lines_end_as_the_first_or_as_asked_for(self) -> None:
         self.assertEqual(normalize("[a]\r\nk=1\n"), "[a]\r\n\tk = 1\r\n")

@@ -101,8 +101,8 @@ class Copies(unittest.TestCase):
         self.assertEqual(config.text, TEXT)
 
     def test_pickled(self) -> None:
-        with tempfile.TemporaryDirectory() as folder:
-            path = Path(folder) / "config"
+        with tempfile.TemporaryDirectory() as directory:
+            path = Path(directory) / "config"
             path.write_text(TEXT)
             for config in (Config.parse(TEXT), Config.load(path), Config.load(path, source=Source.LOCAL)):
                 config.edit_section(1).set_trusted(False)
@@ -113,10 +113,10 @@ class Copies(unittest.TestCase):
                 self.assertEqual(config["core.editor"], "vi")
 
     def test_what_can_not_be_pickled(self) -> None:
-        with tempfile.TemporaryDirectory() as folder:
-            path = Path(folder) / "config"
+        with tempfile.TemporaryDirectory() as directory:
+            path = Path(directory) / "config"
             path.write_text("[include]\n\tpath = more\n")
-            (Path(folder) / "more").write_text("[a]\n")
+            (Path(directory) / "more").write_text("[a]\n")
             variables: Dict[str, str] = {"GIT_CONFIG_COUNT": "1", "GIT_CONFIG_KEY_0": "a.k", "GIT_CONFIG_VALUE_0": "1"}
             with mock.patch.dict("os.environ", variables):
                 made = (Config.load_with_includes(path), Config.load_environment())

@@ -14,7 +14,7 @@ class Paths(unittest.TestCase):
             config["a.k"] = value
             self.assertEqual(config.get_path("a.k", home="/h", prefix=Path("/p")), path)
 
-    def test_the_home_folder_of_the_user(self) -> None:
+    def test_the_home_directory_of_the_user(self) -> None:
         with mock.patch.dict(os.environ, {"HOME": "/home/ada"}):
             self.assertEqual(Config.parse("[a]\n\tk = ~/x\n").get_path("a.k"), "/home/ada/x")
 
@@ -33,7 +33,7 @@ class Paths(unittest.TestCase):
             self.assertEqual(caught.exception.number, number, name)
             self.assertIn(f"a.{name}: ", str(caught.exception))
 
-    def test_a_folder_that_is_not_utf8(self) -> None:
+    def test_a_directory_that_is_not_utf8(self) -> None:
         with self.assertRaises(Refused) as caught:
             Config.parse("[a]\n\tk = ~/x\n").get_path("a.k", home="/\udcff")
         self.assertEqual(caught.exception.number, 101)

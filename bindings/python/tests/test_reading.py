@@ -187,8 +187,8 @@ class Texts(unittest.TestCase):
         self.assertIsInstance(error, gixcfg.ConfigError)
 
     def test_files(self) -> None:
-        with tempfile.TemporaryDirectory() as folder:
-            path = Path(folder) / "config"
+        with tempfile.TemporaryDirectory() as directory:
+            path = Path(directory) / "config"
             self.assertRaises(FileNotFoundError, Config.load, path)
             path.write_text(TEXT)
             config = Config.load(path)
@@ -202,25 +202,25 @@ class Texts(unittest.TestCase):
             self.assertTrue(str(caught.exception).startswith(f"{path}:1:"))
 
     def test_load_follows_nothing_until_it_is_asked(self) -> None:
-        with tempfile.TemporaryDirectory() as folder:
-            path = Path(folder) / "config"
+        with tempfile.TemporaryDirectory() as directory:
+            path = Path(directory) / "config"
             text = "# c\n[include]\n\tpath = more\n\tpath = ~/none\n[includeIf \"onbranch:x\"]\n\tpath = more\n[a]\n\tk = 1\n"
             path.write_text(text)
-            (Path(folder) / "more").write_text("[a]\n\tj = 2\n")
+            (Path(directory) / "more").write_text("[a]\n\tj = 2\n")
             config = Config.load(path)
             self.assertEqual((config.text, len(config.sections())), (text, 3))
             config.resolve_includes()
             self.assertEqual((config["a.j"], config.path), ("2", None))
 
     def test_names_that_are_no_text(self) -> None:
-        with tempfile.TemporaryDirectory() as folder:
-            path = os.path.join(os.fsencode(folder), b"\xff")
+        with tempfile.TemporaryDirectory() as directory:
+            path = os.path.join(os.fsencode(directory), b"\xff")
             with open(path, "wb") as file:
                 file.write(b"[a]\n\tk = 1\n")
             config = Config.load(os.fsdecode(path))
             self.assertEqual((config["a.k"], config.path, config.origin.path), ("1", os.fsdecode(path), None))
-            (Path(folder) / "config").write_bytes(b"[include]\n\tpath = \xff\n[a]\n\tk = 1\n")
-            self.assertEqual(Config.load(Path(folder) / "config")["a.k"], "1")
+            (Path(directory) / "config").write_bytes(b"[include]\n\tpath = \xff\n[a]\n\tk = 1\n")
+            self.assertEqual(Config.load(Path(directory) / "config")["a.k"], "1")
 
     def test_many_files_are_freed(self) -> None:
         for _ in range(1000):

@@ -15,14 +15,14 @@ TEXT = "[core]\n\teditor = vi ; was ed\n"
 
 class Saving(unittest.TestCase):
     def setUp(self) -> None:
-        folder = tempfile.TemporaryDirectory()
-        self.addCleanup(folder.cleanup)
-        self.folder = Path(folder.name).resolve()
-        self.path = self.folder / "config"
+        directory = tempfile.TemporaryDirectory()
+        self.addCleanup(directory.cleanup)
+        self.directory = Path(directory.name).resolve()
+        self.path = self.directory / "config"
         self.path.write_text(TEXT)
 
     def names(self) -> "list[str]":
-        return sorted(os.listdir(self.folder))
+        return sorted(os.listdir(self.directory))
 
     def test_save_writes_what_was_loaded(self) -> None:
         os.chmod(self.path, 0o640)
@@ -34,8 +34,8 @@ class Saving(unittest.TestCase):
         self.assertEqual(self.names(), ["config"])
 
     def test_save_elsewhere(self) -> None:
-        Config.load(self.path).save(self.folder / "other")
-        self.assertEqual((self.folder / "other").read_text(), TEXT)
+        Config.load(self.path).save(self.directory / "other")
+        self.assertEqual((self.directory / "other").read_text(), TEXT)
         self.assertRaises(ValueError, Config.parse(TEXT).save)
 
     def test_git_reads_it(self) -> None:
@@ -47,7 +47,7 @@ class Saving(unittest.TestCase):
         self.assertEqual(said, ' x;y "z" \n')
 
     def test_links_stay(self) -> None:
-        link = self.folder / "link"
+        link = self.directory / "link"
         link.symlink_to("config")
         with Config.editing(link) as config:
             self.assertEqual(self.names(), ["config", "config.lock", "link"])
@@ -56,7 +56,7 @@ class Saving(unittest.TestCase):
         self.assertEqual(Config.load(self.path)["core.editor"], "ed")
 
     def test_lock_of_another_program(self) -> None:
-        lock = self.folder / "config.lock"
+        lock = self.directory / "config.lock"
         lock.write_text("theirs")
         config = Config.load(self.path)
         config["core.editor"] = "ed"
@@ -80,43 +80,43 @@ class Saving(unittest.TestCase):
         self.assertEqual((self.names(), self.path.read_text()), (["config"], TEXT))
 
     def test_file_that_is_not_there_yet(self) -> None:
-        with Config.editing(self.folder / "new") as config:
+        with Config.editing(self.directory / "new") as config:
             config["a.k"] = "v"
-        self.assertEqual(Config.load(self.folder / "new")["a.k"], "v")
+        self.assertEqual(Config.load(self.directory / "new")["a.k"], "v")
 
     def test_save_raises_nothing_once_it_has_replaced(self) -> None:
-        for call in ("sync_folder", "os.close"):
+        for call in ("sync_directory", "os.close"):
             config = Config.load(self.path)
             config["core.editor"] = call
             with mock.patch(f"gixcfg._saving.{call}", side_effect=PermissionError(13, "Permission denied")):
                 config.save()
             self.assertEqual((self.names(), Config.load(self.path)["core.editor"]), (["config"], call))
 
-    def test_a_folder_that_can_not_be_listed(self) -> None:
+    def test_a_directory_that_can_not_be_listed(self) -> None:
         if os.geteuid() == 0:
-            self.skipTest("root may list each folder")
+            self.skipTest("root may list each directory")
         config = Config.load(self.path)
         config["core.editor"] = "ed"
-        os.chmod(self.folder, 0o300)
+        os.chmod(self.directory, 0o300)
         try:
             config.save()
         finally:
-            os.chmod(self.folder, 0o700)
+            os.chmod(self.directory, 0o700)
         self.assertEqual(Config.load(self.path)["core.editor"], "ed")
 
     def test_a_lock_that_came_since_the_rename_is_not_removed(self) -> None:
-        lock = self.folder / "config.lock"
+        lock = self.directory / "config.lock"
 
         def replace(old: str, new: str) -> None:
             os.replace(old, new)
             lock.write_text("theirs")
-        with mock.patch("gixcfg._saving.os.rename", side_effect=replace), mock.patch("gixcfg._saving.sync_folder", side_effect=OSError):
+        with mock.patch("gixcfg._saving.os.rename", side_effect=replace), mock.patch("gixcfg._saving.sync_directory", side_effect=OSError):
             Config.parse(TEXT).save(self.path)
         self.assertEqual(lock.read_text(), "theirs")
 
     def test_another_working_directory(self) -> None:
         before = os.getcwd()
-        os.chdir(self.folder)
+        os.chdir(self.directory)
         try:
             config = Config.load("config")
         finally:

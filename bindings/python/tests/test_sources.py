@@ -10,9 +10,9 @@ from gixcfg import Config, NotOfType, Source
 
 class Sources(unittest.TestCase):
     def setUp(self) -> None:
-        folder = tempfile.TemporaryDirectory()
-        self.addCleanup(folder.cleanup)
-        top = Path(folder.name)
+        directory = tempfile.TemporaryDirectory()
+        self.addCleanup(directory.cleanup)
+        top = Path(directory.name)
         self.user, self.local = top / ".gitconfig", top / "repository/config"
         self.local.parent.mkdir()
         self.user.write_text("[a]\n\tk = user\n\tword = two\n\tbool = yes\n\tint = 2k\n[u]\n\tk = 1\n", encoding="utf-8")

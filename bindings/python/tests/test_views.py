@@ -27,8 +27,8 @@ class Views(unittest.TestCase):
         self.assertEqual(config.text, '[a]\n\tk = 1\n[A "s"]\n\tk = 2\n[b]\n[A]\n\tK = 3\n\tj\n[a "S"]\n[a]\n\tn = 4\n')
 
     def test_origins_in_the_middle(self) -> None:
-        with tempfile.TemporaryDirectory() as folder:
-            main, inner, last = (Path(folder).resolve() / it for it in ("main", "\u00e4 inner", "last"))
+        with tempfile.TemporaryDirectory() as directory:
+            main, inner, last = (Path(directory).resolve() / it for it in ("main", "\u00e4 inner", "last"))
             main.write_text(f'[a]\n[include]\n\tpath = "{inner.name}"\n[b]\n\tk = 1\n[include]\n\tpath = last\n[c]\n', encoding="utf-8")
             inner.write_text("[i]\n[j]\n\tk = 2\n", encoding="utf-8")
             last.write_text("[l]\n", encoding="utf-8")

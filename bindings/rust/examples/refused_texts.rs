@@ -2,9 +2,9 @@
 use gix_config::File;
 
 fn main() -> Result<(), Box<dyn std::error::Error>> {
-    let refusal = "[core]\n\tbare\n[core\n".parse::<File>();
+    let parsed = "[core]\n\tbare\n[core\n".parse::<File>();
     assert_eq!(
-        refusal.expect_err("no text of configuration").line_number(),
+        parsed.expect_err("no text of configuration").line_number(),
         3
     );
     let mut file = File::try_from("[core]\n\tbare = maybe\n")?;

@@ -44,7 +44,7 @@ pub mod set_raw_value {
     }
 
     impl Error {
-        /// The number of the refusal in docs/refusals.md.
+        /// The number of the error in docs/refusals.md.
         #[must_use]
         pub fn number(&self) -> u32 {
             match self {
@@ -94,7 +94,7 @@ pub mod rename_section {
     }
 
     impl Error {
-        /// The number of the refusal in docs/refusals.md.
+        /// The number of the error in docs/refusals.md.
         #[must_use]
         pub fn number(&self) -> u32 {
             match self {

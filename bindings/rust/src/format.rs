@@ -1,4 +1,4 @@
-//! Texts that are laid out.
+//! Texts that are formatted.
 use bstr::BString;
 
 use crate::{parse, sys};
@@ -23,10 +23,10 @@ pub enum Newline {
     CrLf,
 }
 
-/// How a text is laid out.
+/// How a text is formatted.
 #[derive(Clone, Copy, Debug, PartialEq, Eq)]
 pub struct Options {
-    /// What stands before a comment on a line of its own before the first header; the blanks that are there for `None`.
+    /// What stands before a comment on a line of its own before the first header; the whitespace that is there for `None`.
     pub root_comment_indent: Option<Indent>,
     /// What stands before a name or a comment that begins a line after a header.
     pub key_value_indent: Indent,
@@ -64,7 +64,7 @@ fn given(indent: Indent) -> (bool, usize) {
     }
 }
 
-/// The text laid out, with the same sections, entries and comments.
+/// The text formatted, with the same sections, entries and comments.
 ///
 /// # Errors
 ///
@@ -96,7 +96,7 @@ pub fn normalize(input: &[u8], options: Options) -> Result<BString, parse::Error
         limits_blank_lines: options.max_consecutive_blank_lines.is_some(),
         max_blank_lines: options.max_consecutive_blank_lines.unwrap_or_default(),
     };
-    let laid_out = sys::normalize(input, &layout);
-    let laid_out = laid_out.map_err(|refused| parse::Error::of(refused, input))?;
-    Ok(laid_out.copy())
+    let formatted = sys::normalize(input, &layout);
+    let formatted = formatted.map_err(|refused| parse::Error::of(refused, input))?;
+    Ok(formatted.copy())
 }

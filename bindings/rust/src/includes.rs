@@ -18,7 +18,7 @@ pub mod conditional {
     /// What the conditions of `includeIf` are about. The default has nothing, and no condition on it holds.
     #[derive(Clone, Copy, Debug, Default)]
     pub struct Context<'a> {
-        /// The folder of the repository, for `gitdir:` and `gitdir/i:`.
+        /// The directory of the repository, for `gitdir:` and `gitdir/i:`.
         pub git_dir: Option<&'a Path>,
         /// The full name of the branch, such as `refs/heads/main`, for `onbranch:`.
         pub branch_name: Option<&'a BStr>,
@@ -28,7 +28,7 @@ pub mod conditional {
 pub use crate::path::interpolate;
 
 /// How includes are followed: not at all, as the default has it, or ten files deep; deeper ones are then refused, and so is a path relative
-/// to the folder of a file that has no path.
+/// to the directory of a file that has no path.
 #[derive(Clone, Copy, Debug, Default)]
 pub struct Options<'a> {
     follow: bool,
@@ -58,7 +58,7 @@ impl<'a> Options<'a> {
         }
     }
 
-    /// [`Options::follow`] with the home folder, and nothing that a condition could be about.
+    /// [`Options::follow`] with the home directory, and nothing that a condition could be about.
     #[must_use]
     pub fn follow_without_conditional(home_dir: Option<&'a Path>) -> Self {
         let interpolate = interpolate::Context {
@@ -69,7 +69,7 @@ impl<'a> Options<'a> {
         Options::follow(interpolate, conditional::Context::default())
     }
 
-    /// The same, but an include whose path has a shorthand that stands for nothing is refused, and a condition on the git folder if there
+    /// The same, but an include whose path has a shorthand that stands for nothing is refused, and a condition on the git directory if there
     /// is none.
     #[must_use]
     pub fn strict(mut self) -> Self {
@@ -77,7 +77,7 @@ impl<'a> Options<'a> {
         self
     }
 
-    /// The same with other folders for the shorthands of paths.
+    /// The same with other directories for the shorthands of paths.
     #[must_use]
     pub fn interpolate_with(mut self, context: interpolate::Context<'a>) -> Self {
         self.interpolate = context;
@@ -88,7 +88,7 @@ impl<'a> Options<'a> {
         self.follow
     }
 
-    /// The git folder with its symbolic links resolved, or as it is given where that fails.
+    /// The git directory with its symbolic links resolved, or as it is given where that fails.
     pub(crate) fn real_git_dir(&self) -> BString {
         self.conditional
             .git_dir
@@ -174,16 +174,16 @@ pub enum Error {
     /// An include's path is relative, and the file that names it has no path.
     #[error("{}", sys::words(number::MISSING_CONFIG_PATH))]
     MissingConfigPath,
-    /// A condition is about the git folder, and there is none.
+    /// A condition is about the git directory, and there is none.
     #[error("{}", sys::words(number::MISSING_GIT_DIR))]
     MissingGitDir,
-    /// The git folder can't be resolved.
+    /// The git directory can't be resolved.
     #[error("{}", sys::words(number::REALPATH))]
     Realpath,
 }
 
 impl Error {
-    /// The number of the refusal in docs/refusals.md.
+    /// The number of the error in docs/refusals.md.
     #[must_use]
     pub fn number(&self) -> u32 {
         match self {
@@ -201,7 +201,7 @@ impl Error {
 }
 
 /// Why a load is refused.
-pub(crate) enum Refusal {
+pub(crate) enum LoadError {
     /// For an include, or the text of a file.
     Include(Error),
     /// A file that is loaded is missing, or can't be opened or read.
@@ -218,23 +218,23 @@ pub(crate) enum Refusal {
     ValueName(value_name::Error),
 }
 
-impl Refusal {
-    /// Ends the program by a refusal that the call doesn't answer.
+impl LoadError {
+    /// Ends the program by an error that the call doesn't answer.
     pub(crate) fn unforeseen(&self) -> ! {
         sys::unforeseen(match self {
-            Refusal::Include(error) => error.number(),
-            Refusal::File { .. } => number::FILE_NOT_READ,
-            Refusal::Variable { number, .. } => *number,
-            Refusal::Header(error) => error.number(),
-            Refusal::ValueName(error) => error.number(),
+            LoadError::Include(error) => error.number(),
+            LoadError::File { .. } => number::FILE_NOT_READ,
+            LoadError::Variable { number, .. } => *number,
+            LoadError::Header(error) => error.number(),
+            LoadError::ValueName(error) => error.number(),
         })
     }
 }
 
-impl From<Refusal> for Error {
-    fn from(refusal: Refusal) -> Self {
-        match refusal {
-            Refusal::Include(error) => error,
+impl From<LoadError> for Error {
+    fn from(error: LoadError) -> Self {
+        match error {
+            LoadError::Include(error) => error,
             other => other.unforeseen(),
         }
     }
@@ -336,9 +336,9 @@ impl Files for Followed<'_> {
 pub struct Places<'a> {
     /// The path of the configuration that was installed with git, if there is some.
     pub installation_config: Option<&'a Path>,
-    /// The folder that `etc/gitconfig` is in, the configuration of the whole machine.
+    /// The directory that `etc/gitconfig` is in, the configuration of the whole machine.
     pub system_prefix: &'a Path,
-    /// The user's home folder, for `~/` in the paths of includes.
+    /// The user's home directory, for `~/` in the paths of includes.
     pub home: Option<&'a Path>,
 }
 
@@ -381,7 +381,7 @@ impl<'a> Host<'a> {
         mut self,
         file: &mut sys::File,
         wanted: Wanted<'_>,
-    ) -> Result<bool, Refusal> {
+    ) -> Result<bool, LoadError> {
         loop {
             let (answer, asked) = file.load(&mut self.told, wanted);
             let about = asked.bytes();
@@ -411,8 +411,8 @@ impl<'a> Host<'a> {
         told
     }
 
-    /// What a refusal comes to, with what the call named.
-    fn refused(mut self, number: u32, about: &[u8]) -> Refusal {
+    /// What an error comes to, with what the call named.
+    fn refused(mut self, number: u32, about: &[u8]) -> LoadError {
         let path = path_of(about);
         let missing = || io::Error::from(io::ErrorKind::NotFound);
         let error = match number {
@@ -429,9 +429,9 @@ impl<'a> Host<'a> {
             },
             span::Error::NUMBER => Error::Span(span::Error),
             number::INVALID_SECTION_NAME | number::INVALID_SUBSECTION => {
-                return Refusal::Header(header::Error::of(number))
+                return LoadError::Header(header::Error::of(number))
             }
-            value_name::Error::NUMBER => return Refusal::ValueName(value_name::Error),
+            value_name::Error::NUMBER => return LoadError::ValueName(value_name::Error),
             number::MISSING_FOLDER..=number::USER_NOT_UTF8 | sys::NOT_UTF8 => {
                 Error::Interpolate(path::interpolate::Error::of(number))
             }
@@ -449,13 +449,13 @@ impl<'a> Host<'a> {
             },
             number::FILE_NOT_READ => {
                 let source = self.fault.unwrap_or_else(missing);
-                return Refusal::File { path, source };
+                return LoadError::File { path, source };
             }
             number::ILLFORMED_VARIABLE..=number::INVALID_VALUE_ID => {
                 let name = about.to_str_lossy().into_owned();
                 let value = self.variables.get(&name).unwrap_or_default();
                 let value = value.to_str_lossy().into_owned();
-                return Refusal::Variable {
+                return LoadError::Variable {
                     number,
                     name,
                     value,
@@ -463,7 +463,7 @@ impl<'a> Host<'a> {
             }
             number => sys::unforeseen(number),
         };
-        Refusal::Include(error)
+        LoadError::Include(error)
     }
 }
 

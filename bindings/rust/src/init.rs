@@ -1,5 +1,5 @@
 //! Files that are made: how, and why they aren't.
-use crate::includes::Refusal;
+use crate::includes::LoadError;
 use crate::parse::{self, span};
 use crate::path::interpolate;
 
@@ -10,7 +10,7 @@ pub use crate::includes;
 pub struct Options<'a> {
     /// Which includes are followed.
     pub includes: includes::Options<'a>,
-    /// Whether blanks, line endings and comments are left out: such a file is for lookups.
+    /// Whether whitespace, line endings and comments are left out: such a file is for lookups.
     pub lossy: bool,
     /// Whether a file that can't be opened counts as missing, and one that can't be read as empty.
     pub ignore_io_errors: bool,
@@ -44,7 +44,7 @@ pub enum Error {
 }
 
 impl Error {
-    /// The number of the refusal in docs/refusals.md.
+    /// The number of the error in docs/refusals.md.
     #[must_use]
     pub fn number(&self) -> u32 {
         match self {
@@ -61,7 +61,7 @@ pub mod from_paths {
     use std::io;
     use std::path::PathBuf;
 
-    use super::Refusal;
+    use super::LoadError;
     use crate::sys::{self, number};
 
     /// Why files aren't loaded.
@@ -81,7 +81,7 @@ pub mod from_paths {
     }
 
     impl Error {
-        /// The number of the refusal in docs/refusals.md.
+        /// The number of the error in docs/refusals.md.
         #[must_use]
         pub fn number(&self) -> u32 {
             match self {
@@ -91,11 +91,11 @@ pub mod from_paths {
         }
     }
 
-    impl From<Refusal> for Error {
-        fn from(refusal: Refusal) -> Self {
-            match refusal {
-                Refusal::File { path, source } => Error::Io { source, path },
-                Refusal::Include(error) => Error::Init(error.into()),
+    impl From<LoadError> for Error {
+        fn from(error: LoadError) -> Self {
+            match error {
+                LoadError::File { path, source } => Error::Io { source, path },
+                LoadError::Include(error) => Error::Init(error.into()),
                 other => other.unforeseen(),
             }
         }
@@ -104,7 +104,7 @@ pub mod from_paths {
 
 /// Entries that variables set.
 pub mod from_env {
-    use super::{includes, Refusal};
+    use super::{includes, LoadError};
     use crate::parse::section::header;
     use crate::section::value;
     use crate::sys::{self, number};
@@ -164,7 +164,7 @@ pub mod from_env {
     }
 
     impl Error {
-        /// The number of the refusal in docs/refusals.md.
+        /// The number of the error in docs/refusals.md.
         #[must_use]
         pub fn number(&self) -> u32 {
             match self {
@@ -201,17 +201,17 @@ pub mod from_env {
         }
     }
 
-    impl From<Refusal> for Error {
-        fn from(refusal: Refusal) -> Self {
-            match refusal {
-                Refusal::Variable {
+    impl From<LoadError> for Error {
+        fn from(error: LoadError) -> Self {
+            match error {
+                LoadError::Variable {
                     number,
                     name,
                     value,
                 } => Error::of(number, &name, value),
-                Refusal::Include(error) => error.into(),
-                Refusal::Header(error) => error.into(),
-                Refusal::ValueName(error) => value::Error::from(error).into(),
+                LoadError::Include(error) => error.into(),
+                LoadError::Header(error) => error.into(),
+                LoadError::ValueName(error) => value::Error::from(error).into(),
                 other => other.unforeseen(),
             }
         }
@@ -220,7 +220,7 @@ pub mod from_env {
 
 /// The configuration of a repository.
 pub mod from_git_dir {
-    use super::{from_env, from_paths, includes, Refusal};
+    use super::{from_env, from_paths, includes, LoadError};
 
     /// Why the configuration of a repository isn't loaded.
     #[derive(Debug, thiserror::Error)]
@@ -237,7 +237,7 @@ pub mod from_git_dir {
     }
 
     impl Error {
-        /// The number of the refusal in docs/refusals.md.
+        /// The number of the error in docs/refusals.md.
         #[must_use]
         pub fn number(&self) -> u32 {
             match self {
@@ -248,11 +248,11 @@ pub mod from_git_dir {
         }
     }
 
-    impl From<Refusal> for Error {
-        fn from(refusal: Refusal) -> Self {
-            match refusal {
-                Refusal::Include(error) => error.into(),
-                Refusal::File { .. } => from_paths::Error::from(refusal).into(),
+    impl From<LoadError> for Error {
+        fn from(error: LoadError) -> Self {
+            match error {
+                LoadError::Include(error) => error.into(),
+                LoadError::File { .. } => from_paths::Error::from(error).into(),
                 other => from_env::Error::from(other).into(),
             }
         }

@@ -15,12 +15,12 @@ use crate::source::{Source, Trust};
 use crate::sys::{self, Wanted};
 use crate::text::AsBStr;
 
-/// The user's home folder.
+/// The user's home directory.
 fn home() -> Option<PathBuf> {
     env::var_os("HOME").map(PathBuf::from)
 }
 
-/// The places of the machine, with the user's home folder.
+/// The places of the machine, with the user's home directory.
 fn places(home: Option<&Path>) -> includes::Places<'_> {
     includes::Places {
         installation_config: None,
@@ -284,7 +284,7 @@ impl File {
         Ok(is_set.then_some(file))
     }
 
-    /// [`File::from_env`], whose includes know the user's home folder; an empty file if that is `None`.
+    /// [`File::from_env`], whose includes know the user's home directory; an empty file if that is `None`.
     ///
     /// # Errors
     ///
@@ -295,7 +295,7 @@ impl File {
         Ok(File::from_env(options.into())?.unwrap_or_default())
     }
 
-    /// The configuration of a repository by its folder, as `.git`: that of [`File::from_globals`], its own, that of its worktree if
+    /// The configuration of a repository by its directory, as `.git`: that of [`File::from_globals`], its own, that of its worktree if
     /// `extensions.worktreeConfig` is true, and the entries of [`File::from_env`], one after the other.
     ///
     /// # Errors

@@ -31,7 +31,7 @@ pub mod existing {
     }
 
     impl Error {
-        /// The number of the refusal in docs/refusals.md.
+        /// The number of the error in docs/refusals.md.
         #[must_use]
         pub fn number(&self) -> u32 {
             match self {

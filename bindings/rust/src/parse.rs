@@ -13,7 +13,7 @@ pub struct Events {
 }
 
 impl Events {
-    /// Those of a text. No filter can be given: [`init::Options`] says that blanks and comments are left out.
+    /// Those of a text. No filter can be given: [`init::Options`] says that whitespace and comments are left out.
     ///
     /// # Errors
     ///
@@ -86,7 +86,7 @@ impl Error {
         &self.remaining
     }
 
-    /// The number of the refusal in docs/refusals.md: 2 for a text that is too long, else 1.
+    /// The number of the error in docs/refusals.md: 2 for a text that is too long, else 1.
     #[must_use]
     pub fn number(&self) -> u32 {
         self.number
@@ -115,7 +115,7 @@ pub mod span {
     impl Error {
         pub(crate) const NUMBER: u32 = crate::sys::number::SPAN_TOO_LARGE;
 
-        /// The number of the refusal in docs/refusals.md.
+        /// The number of the error in docs/refusals.md.
         #[must_use]
         pub fn number(&self) -> u32 {
             Error::NUMBER
@@ -216,7 +216,7 @@ pub mod section {
         }
 
         impl Error {
-            /// The number of the refusal in docs/refusals.md.
+            /// The number of the error in docs/refusals.md.
             #[must_use]
             pub fn number(&self) -> u32 {
                 match self {
@@ -288,7 +288,7 @@ pub mod section {
         impl Error {
             pub(crate) const NUMBER: u32 = crate::sys::number::INVALID_VALUE_NAME;
 
-            /// The number of the refusal in docs/refusals.md.
+            /// The number of the error in docs/refusals.md.
             #[must_use]
             pub fn number(&self) -> u32 {
                 Error::NUMBER

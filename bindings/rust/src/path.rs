@@ -20,15 +20,15 @@ pub mod interpolate {
     /// What the shorthands of paths stand for. The default knows nothing.
     #[derive(Clone, Copy, Debug, Default)]
     pub struct Context<'a> {
-        /// The folder where git is installed, for `%(prefix)/`.
+        /// The directory where git is installed, for `%(prefix)/`.
         pub git_install_dir: Option<&'a Path>,
-        /// The user's home folder, for `~/`.
+        /// The user's home directory, for `~/`.
         pub home_dir: Option<&'a Path>,
-        /// What finds the home folders of other users, for `~user/`; not for the paths of includes.
+        /// What finds the home directories of other users, for `~user/`; not for the paths of includes.
         pub home_for_user: Option<fn(&str) -> Option<PathBuf>>,
     }
 
-    /// The home folder of a user, as `/etc/passwd` has it.
+    /// The home directory of a user, as `/etc/passwd` has it.
     #[must_use]
     pub fn home_for_user(name: &str) -> Option<PathBuf> {
         let users = fs::read("/etc/passwd").ok()?;
@@ -56,7 +56,7 @@ pub mod interpolate {
     /// Why a path stands for none.
     #[derive(Clone, Copy, Debug, PartialEq, Eq, thiserror::Error)]
     pub enum Error {
-        /// It is empty, or needs a folder that is not known, as those of other users.
+        /// It is empty, or needs a directory that is not known, as those of other users.
         #[error("{}", sys::words(number::MISSING_FOLDER))]
         Missing,
         /// It is not UTF-8.
@@ -65,13 +65,13 @@ pub mod interpolate {
         /// The name of a user in it is not UTF-8.
         #[error("{}", sys::words(number::USER_NOT_UTF8))]
         UsernameConversion,
-        /// A folder that is known, or the path of a file, is not UTF-8.
+        /// A directory that is known, or the path of a file, is not UTF-8.
         #[error("{}", sys::words(sys::NOT_UTF8))]
         FolderConversion,
     }
 
     impl Error {
-        /// The number of the refusal in docs/refusals.md; 101 for a folder that is not UTF-8.
+        /// The number of the error in docs/refusals.md; 101 for a directory that is not UTF-8.
         #[must_use]
         pub fn number(&self) -> u32 {
             match self {
@@ -102,12 +102,12 @@ pub struct Path {
 }
 
 impl Path {
-    /// The path with the shorthand at its front replaced: `%(prefix)/` by the folder where git is installed, `~/` by the user's home
-    /// folder, `~user/` by that of another user.
+    /// The path with the shorthand at its front replaced: `%(prefix)/` by the directory where git is installed, `~/` by the user's home
+    /// directory, `~user/` by that of another user.
     ///
     /// # Errors
     ///
-    /// The path is empty, needs a folder that is not known, as those of other users, or is not UTF-8; or a folder is not.
+    /// The path is empty, needs a directory that is not known, as those of other users, or is not UTF-8; or a directory is not.
     ///
     /// # Examples
     ///

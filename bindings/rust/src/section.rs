@@ -92,7 +92,7 @@ pub mod value {
     }
 
     impl Error {
-        /// The number of the refusal in docs/refusals.md.
+        /// The number of the error in docs/refusals.md.
         #[must_use]
         pub fn number(&self) -> u32 {
             match self {
@@ -230,7 +230,7 @@ impl<'a> SectionMut<'a> {
         Ok(self)
     }
 
-    /// Adds an entry after all others, with the blanks that the section uses; without a value it is the name alone.
+    /// Adds an entry after all others, with the whitespace that the section uses; without a value it is the name alone.
     ///
     /// # Errors
     ///

@@ -18,9 +18,9 @@ pub enum Source {
     GitInstallation = 1,
     /// The configuration of the whole machine.
     System = 2,
-    /// The user's configuration in `git/config` of the folder for configuration.
+    /// The user's configuration in `git/config` of the directory for configuration.
     Git = 4,
-    /// The user's configuration in `.gitconfig` of the home folder.
+    /// The user's configuration in `.gitconfig` of the home directory.
     User = 8,
     /// The repository's configuration.
     Local = 16,
@@ -78,7 +78,7 @@ impl Source {
         }
     }
 
-    /// Where the file of the place is, by variables of the environment: that of a repository or a worktree in its folder. `None` for a place
+    /// Where the file of the place is, by variables of the environment: that of a repository or a worktree in its directory. `None` for a place
     /// without a file, and for what was installed with git, which isn't looked for.
     ///
     /// # Examples
@@ -112,8 +112,8 @@ impl Source {
                     return home(".gitconfig");
                 }
                 let default = home(".config/git/config");
-                let folder = env_var("XDG_CONFIG_HOME").filter(|it| !it.is_empty());
-                let named = folder.map(|it| PathBuf::from(it).join("git/config"));
+                let directory = env_var("XDG_CONFIG_HOME").filter(|it| !it.is_empty());
+                let named = directory.map(|it| PathBuf::from(it).join("git/config"));
                 named.or(default)
             }
             Source::Local => Some("config".into()),

@@ -1,6 +1,6 @@
 //! The library's calls, as safe functions: no other file has `unsafe`.
 //!
-//! Each returns the number of a refusal that its caller is to tell. Out of memory ends the program, as in Rust's own collections, and a number
+//! Each returns the number of an error that its caller is to tell. Out of memory ends the program, as in Rust's own collections, and a number
 //! that a call doesn't answer is a panic that names it.
 #![allow(unsafe_code)]
 
@@ -26,7 +26,7 @@ pub(crate) use raw::{
     SOURCES_ALL, VARIABLE_NOT_TOLD,
 };
 
-/// The numbers of refusals.
+/// The numbers of errors.
 pub(crate) mod number {
     pub(crate) use super::raw::{
         BAD_VALUE, FILE_NOT_READ, ILLFORMED_VARIABLE, INCLUDE_DEPTH_EXCEEDED, INCLUDE_NOT_OPENED,
@@ -37,7 +37,7 @@ pub(crate) mod number {
     };
 }
 
-/// The number of a refusal.
+/// The number of an error.
 pub(crate) type Number = u32;
 
 /// What the answer of a call says.
@@ -91,7 +91,7 @@ impl<'a> Text<'a> {
     }
 }
 
-/// Bytes that a call hands out, which are freed with this.
+/// Bytes that a call returns, which are freed with this.
 pub(crate) struct Bytes(raw::Bytes);
 
 impl Bytes {
@@ -257,14 +257,15 @@ impl<T> Lazy<T> {
     }
 }
 
-/// A text that is laid out; else the number, and where the text is refused.
+/// A text that is formatted; else the number, and where the text is refused.
 pub(crate) fn normalize(text: &[u8], layout: &Layout) -> Result<Bytes, (Number, Place)> {
-    let (mut laid_out, mut place) = (Bytes::empty(), Place::default());
+    let (mut formatted, mut place) = (Bytes::empty(), Place::default());
     let (at, len) = (text.as_ptr(), text.len());
     // SAFETY: the text is as long as is said.
-    let answer = unsafe { raw::gix_config_normalize(at, len, layout, &mut laid_out.0, &mut place) };
+    let answer =
+        unsafe { raw::gix_config_normalize(at, len, layout, &mut formatted.0, &mut place) };
     match done(answer) {
-        Ok(()) => Ok(laid_out),
+        Ok(()) => Ok(formatted),
         Err(number @ (number::UNEXPECTED_TOKEN | number::INPUT_TOO_LARGE)) => Err((number, place)),
         Err(number) => unforeseen(number),
     }
@@ -482,7 +483,7 @@ impl File {
         }
     }
 
-    /// Loads into the file, of what was told. Returns the path or the name that the call hands out, too.
+    /// Loads into the file, of what was told. Returns the path or the name that the call returns, too.
     pub(crate) fn load(
         &mut self,
         told: &mut Told,

@@ -15,7 +15,7 @@ pub struct Error {
 }
 
 impl Error {
-    /// The number of the refusal in docs/refusals.md.
+    /// The number of the error in docs/refusals.md.
     pub(crate) const NUMBER: u32 = number::BAD_VALUE;
 
     /// That a value is wrong, by what is.

@@ -519,41 +519,41 @@ fn all_of(file: &File) -> Vec<bstr::BString> {
 fn paths() {
     let text: &BStr = b"[p]\n\thome = ~/x\n\tgit = %(prefix)/etc\n\tplain = /y\n\tada = ~ada/x\n\tempty =\n\tlatin = /\xff\n".as_bstr();
     let file = File::try_from(text).expect("a text");
-    let folders = Context {
+    let directories = Context {
         git_install_dir: Some(Path::new("/git")),
         home_dir: Some(Path::new("/home/ada")),
         ..Context::default()
     };
     let path = file.path("p.home").expect("a path");
     assert_eq!(path.as_bytes(), b"~/x");
-    assert_eq!(path.interpolate(folders), Ok("/home/ada/x".into()));
-    let interpolated = |name: &str, folders: Context<'_>| {
+    assert_eq!(path.interpolate(directories), Ok("/home/ada/x".into()));
+    let interpolated = |name: &str, directories: Context<'_>| {
         let path = file.path_by("p", None, name).expect("a path");
-        path.interpolate(folders).map_err(|it| it.number())
+        path.interpolate(directories).map_err(|it| it.number())
     };
-    assert_eq!(interpolated("git", folders), Ok("/git/etc".into()));
+    assert_eq!(interpolated("git", directories), Ok("/git/etc".into()));
     assert_eq!(interpolated("plain", Context::default()), Ok("/y".into()));
     for name in ["home", "git", "empty"] {
         assert_eq!(interpolated(name, Context::default()), Err(12));
     }
-    assert_eq!(interpolated("ada", folders), Err(12));
+    assert_eq!(interpolated("ada", directories), Err(12));
     let only_git = Context {
         home_dir: None,
-        ..folders
+        ..directories
     };
     let only_home = Context {
         git_install_dir: None,
-        ..folders
+        ..directories
     };
     assert_eq!(interpolated("git", only_git), Ok("/git/etc".into()));
     assert_eq!(interpolated("home", only_git), Err(12));
     assert_eq!(interpolated("home", only_home), Ok("/home/ada/x".into()));
     assert_eq!(interpolated("git", only_home), Err(12));
-    assert_eq!(interpolated("latin", folders), Err(13));
+    assert_eq!(interpolated("latin", directories), Err(13));
     let latin = Path::new(std::ffi::OsStr::from_bytes(b"/\xff"));
     let unknown = Context {
         home_dir: Some(latin),
-        ..folders
+        ..directories
     };
     assert_eq!(interpolated("home", unknown), Err(101));
     assert!(file.path("p.none").is_none() && file.path("p").is_none());
@@ -1120,7 +1120,7 @@ fn integers_booleans_and_paths_of_any_text() {
 }
 
 #[test]
-fn texts_that_are_laid_out() {
+fn texts_that_are_formatted() {
     use gix_config::format::{normalize, Indent, Newline, Options};
     let text = b"  # c\n\n\n[a]\nk=1\n\n\n\nj";
     assert_eq!(
@@ -1428,7 +1428,7 @@ fn files_of_texts_from_elsewhere() {
 #[test]
 fn files_of_the_disk() {
     let room = std::env::temp_dir().join(format!("gix-config-{}", std::process::id()));
-    std::fs::create_dir_all(&room).expect("a folder");
+    std::fs::create_dir_all(&room).expect("a directory");
     let write = |name: &str, text: &str| {
         let path = room.join(name);
         std::fs::write(&path, text).expect("a file");
@@ -1467,9 +1467,9 @@ fn files_of_the_disk() {
         ignore_io_errors: true,
         ..options
     };
-    let file = File::from_paths_metadata([of(&room), of(&none)], ignoring).expect("a folder");
-    assert_eq!(file.expect("a folder").to_string(), "");
-    std::fs::remove_dir_all(&room).expect("a folder");
+    let file = File::from_paths_metadata([of(&room), of(&none)], ignoring).expect("a directory");
+    assert_eq!(file.expect("a directory").to_string(), "");
+    std::fs::remove_dir_all(&room).expect("a directory");
 }
 
 #[test]
@@ -1572,7 +1572,7 @@ fn places_of_sources() {
 }
 
 #[test]
-fn home_folders_of_other_users() {
+fn home_directories_of_other_users() {
     use gix_config::path::interpolate::{home_for_user, Error};
     let of = |text: &str, home_for_user| {
         let path = gix_config::Path::from(BString::from(text));

@@ -27,7 +27,7 @@ pub struct Memory {
 impl Memory {
     ghost use Rattle.folder_replay.specs.Memory.{calls_of, faults_of, KeepsNone, Counts, MakesIn, SharesIn, WritesIn, SyncsIn, MovesIn, RemovesIn, SettlesIn};
 
-    /// An empty folder, of which the call behind so many fails, and is done all the same or not.
+    /// An empty directory, of which the call behind so many fails. That call is done all the same or not.
     pub fn new(alloc: Global, until: usize, halfway: bool) -> Memory
         ensures { calls_of result ≡ [] }
     {
@@ -52,7 +52,7 @@ impl Memory {
         self.calls.len()
     }
 
-    /// What a crash before the last so many of these calls leaves at a name, by chance.
+    /// What a crash leaves at a name, by chance. The crash comes before the last so many of these calls.
     ///
     /// # Errors
     ///

@@ -10,8 +10,8 @@ use gitconf_text::parse::span;
 ///
 /// # Errors
 ///
-/// A [`span::Error`]: number 3 if the buffer would be longer than 4294967295 bytes, otherwise 27 when out of memory.
-/// The buffer is then as it was.
+/// A [`span::Error`]: E3 if the buffer would be longer than 4294967295 bytes, otherwise E27 when out of memory. The
+/// buffer is then as it was.
 #[tactic(auto, using(crate::proofs::Buffers::appending))]
 pub fn append(buffer: &mut Vec<u8>, bytes: &[u8]) -> Result<Span, span::Error>
     requires room { length buffer.old.items < 2 ^ 32 }
@@ -29,7 +29,8 @@ pub fn append(buffer: &mut Vec<u8>, bytes: &[u8]) -> Result<Span, span::Error>
     Ok(Span::between(start, start + bytes.len()))
 }
 
-/// What an addition to a buffer returned; if it was refused, what it added behind the first `len` bytes is taken back.
+/// Returns what an addition to a buffer returned. If that is an error, what it added behind the first `len` bytes is
+/// taken back.
 pub fn take_back<T: Drop, E: Drop>(
     added: Result<T, E>,
     buffer: &mut Vec<u8>,
@@ -49,7 +50,7 @@ pub fn take_back<T: Drop, E: Drop>(
 ///
 /// # Errors
 ///
-/// A [`span::Error`], number 3, if the buffer would be longer than 4294967295 bytes.
+/// A [`span::Error`] (E3) if the buffer would be longer than 4294967295 bytes.
 pub fn check_room(buffer: &[u8], count: usize) -> Result<(), span::Error>
     requires room { length buffer.now < 2 ^ 32 }
     ensures too_large { IsErrOf result 3 ↔ (2 ^ 32 ≤ length buffer.now + count) }

@@ -137,8 +137,8 @@ fn copied_item(from: &[u8], to: &mut Vec<u8>, item: &Item) -> Result<Item, span:
 ///
 /// # Errors
 ///
-/// A [`span::Error`]: number 3 if the other buffer would be longer than 4294967295 bytes, otherwise 27 when out of memory. It may
-/// have grown.
+/// A [`span::Error`]: E3 if the other buffer would be longer than 4294967295 bytes, otherwise E27 when out of memory. It may have
+/// grown.
 #[tactic(auto, using(crate::proofs::Copies::copying))]
 pub fn copied_items(from: &[u8], to: &mut Vec<u8>, items: &[Item]) -> Result<Vec<Item>, span::Error>
     requires room { length to.old.items < 2 ^ 32 }
@@ -156,7 +156,7 @@ pub fn copied_items(from: &[u8], to: &mut Vec<u8>, items: &[Item]) -> Result<Vec
     Ok(copies)
 }
 
-/// A copy of a header of one buffer, with its bytes added to another, without the decoded copy of its subsection.
+/// A copy of a header of one buffer, with its bytes added to another. It comes without the decoded copy of its subsection.
 ///
 /// # Errors
 ///

@@ -28,7 +28,7 @@ pub enum Leading<'a> {
 pub enum Around<'a> {
     /// A space on both sides, which is added to the buffer with each value.
     Spaces,
-    /// Those at spans of the buffer that is edited; a span of no bytes for none.
+    /// Those at spans of the buffer that is edited. A span of no bytes stands for none.
     Stored { before: Span, behind: Span },
     /// These bytes, which are added to the buffer with each value.
     Given { before: &'a [u8], behind: &'a [u8] },

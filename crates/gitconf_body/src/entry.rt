@@ -33,8 +33,8 @@ pub(crate) fn entry_len(blanks: usize, line_end: LineEnd, key: &[u8], value: &[u
 ///
 /// # Errors
 ///
-/// A [`span::Error`]: number 3 if and only if the buffer would be longer than 4294967295 bytes, before any growth, otherwise 27 when out of
-/// memory. The items are then as they were, and the buffer may have grown.
+/// A [`span::Error`]: E3 if and only if the buffer would be longer than 4294967295 bytes, before any allocation, otherwise E27 when
+/// out of memory. The items are then as they were, and the buffer may have grown.
 pub fn set_value(
     buffer: &mut Vec<u8>,
     items: &mut Vec<Item>,

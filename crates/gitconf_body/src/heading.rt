@@ -17,7 +17,7 @@ use gitconf_text::parse::span;
 ///
 /// # Errors
 ///
-/// A [`span::Error`], number 3, if the buffer would be longer than 4294967295 bytes.
+/// A [`span::Error`] (E3) if the buffer would be longer than 4294967295 bytes.
 pub fn check_header(
     buffer: &[u8],
     name: &[u8],
@@ -30,12 +30,12 @@ pub fn check_header(
     check_room(buffer, header_len(name, subsection))
 }
 
-/// Adds the text of a header to a buffer, and a decoded copy of its subsection, if that isn't what is spelled, to the other copies.
+/// Adds the text of a header to a buffer. A decoded copy of its subsection, if that isn't what is spelled, is added to the other copies.
 ///
 /// # Errors
 ///
-/// A [`span::Error`]: number 3 if and only if the buffer would be longer than 4294967295 bytes, otherwise 27 when out of memory. The buffer
-/// is then as it was; the copies may have grown.
+/// A [`span::Error`]: E3 if and only if the buffer would be longer than 4294967295 bytes, otherwise E27 when out of memory. The buffer is
+/// then as it was; the copies may have grown.
 pub fn put_header(
     buffer: &mut Vec<u8>,
     copies: &mut Vec<u8>,

@@ -7,7 +7,7 @@ ghost use Rattle.gitconf_items.specs.ShownEvents.{IsExtended};
 use crate::buffer::take_back;
 use gitconf_items::items::Item;
 
-/// An edit of a list of items over the buffer that their spans are offsets of.
+/// An edit of a list of items. It works over the buffer that their spans are offsets of.
 pub trait ItemsEdit {
     ghost use Rattle.std.specs.Prelude.{◌≡◌, ◌<◌, ◌^◌, ℕ, List, [], Result, Ok, Err, None, length, IfErr, IfOk, IfSome, OnErr, OnOk};
     ghost use Rattle.gitconf_text.specs.Part as parts;
@@ -35,7 +35,7 @@ pub trait ItemsEdit {
     /// How many bytes the buffer has before it and after it, by how it ends.
     ghost grows: { Self → List parts.Item → Result Self.Answer Self.Error → ℕ → ℕ → Type 0 };
 
-    /// What is known of the items, and of the bytes of the buffer, once there is something to change.
+    /// What is known of the items and of the buffer's bytes. It is known once there is something to change.
     ghost begins: { Self → List parts.Item → ℕ → Type 0 };
 
     /// What is found in the items, as they are stored.
@@ -45,7 +45,7 @@ pub trait ItemsEdit {
     fn unchanged(&self) -> Self::Answer
         ensures { tells self.now [] result };
 
-    /// Looks for what is to be changed, and whether it may be; `None` if nothing is. Nothing has grown then.
+    /// Looks for what is to be changed, and whether it may be changed. It is `None` if nothing is to be changed. Nothing has grown then.
     fn look(&self, buffer: &[u8], items: &[Item]) -> Result<Option<Self::Found>, Self::Error>
         requires room { length buffer.now < 2 ^ 32 }
         requires edit { can_edit self.now }

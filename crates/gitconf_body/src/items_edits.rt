@@ -221,7 +221,7 @@ pub struct SetInSection<'a> {
     pub value: &'a [u8],
 }
 
-/// The blanks that items use, and the place of the last entry of a key among them.
+/// The blanks that items use, and the place of a key's last entry among them.
 #[derive(Drop)]
 pub struct SetPlace {
     editor: Editor<'static>,

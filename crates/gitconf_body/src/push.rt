@@ -137,7 +137,7 @@ pub fn put_entry(
     Ok(entry_with(*buffer.allocator(), name, before, behind, value)?)
 }
 
-/// Whether there is a first byte, and it is not white space.
+/// Whether there is a first byte, and it is not whitespace.
 fn begins_with_word(text: &[u8]) -> bool
     ensures { result ≡ begins (λ b. not (is_whitespace b)) text.now }
 {
@@ -147,7 +147,7 @@ fn begins_with_word(text: &[u8]) -> bool
     }
 }
 
-/// The text of a comment after its mark: after a space, unless it begins with white space, with each LF turned to a space.
+/// The text of a comment after its mark: after a space, unless it begins with whitespace, with each LF turned to a space.
 fn comment_text(alloc: Global, text: &[u8]) -> Result<Vec<u8>, NoMemory>
     ensures { IfOk result (λ t. t.items ≡ state.comment_text text.now) }
 {
@@ -245,7 +245,7 @@ pub(crate) fn put_line(
     })
 }
 
-/// Adds the items of a line after the others. Takes one growth.
+/// Adds the items of a line after the others. Takes one allocation.
 pub(crate) fn push_items(items: &mut Vec<Item>, line: Line) -> Result<(), NoMemory>
     ensures ok { OnOk result (items.new.items ≡ items.old.items ++ line_items line) }
     ensures err { OnErr result (items.new.items ≡ items.old.items) }
@@ -289,7 +289,7 @@ pub fn around_len(around: &Around<'_>) -> usize
     }
 }
 
-/// How many bytes a value and the blanks around its `=` add to the buffer, or `usize::MAX` if there are more.
+/// How many bytes a value and the blanks around its `=` add to the buffer. It is `usize::MAX` if there are more.
 pub fn value_len(around: &Around<'_>, value: Option<&[u8]>) -> usize
     ensures { result ≡ min (spec.value_put around.now (option_copied value.entry)) (2 ^ 64 - 1) }
 {
@@ -340,7 +340,7 @@ pub(crate) fn line_len(
 ///
 /// # Errors
 ///
-/// A [`span::Error`], number 3, if the buffer would be longer than 4294967295 bytes.
+/// A [`span::Error`] (E3) if the buffer would be longer than 4294967295 bytes.
 pub fn check_push(
     buffer: &[u8],
     editor: &Editor<'_>,
@@ -357,15 +357,15 @@ pub fn check_push(
 }
 
 /// Pushes a line after the items: the editor's blanks, the key, and if a value is given `=` with the editor's blanks around it and the
-/// value as a file spells it; then the comment, if one is given, after a space and `#`, with a space before a first byte that is not white
-/// space, and each LF turned to a space; then the editor's line ending, unless it is switched off. The key is written as it is.
+/// value as a file spells it; then the comment, if one is given, after a space and `#`, with a space before a first byte that is not
+/// whitespace , and each LF turned to a space; then the editor's line ending, unless it is switched off. The key is written as it is.
 ///
 /// It looks at no item. Takes memory for what is added to the buffer, and for the new items.
 ///
 /// # Errors
 ///
-/// A [`span::Error`]: number 3 where the buffer would be longer than 4294967295 bytes, which [`check_push`] tells before any growth, otherwise
-/// 27 when out of memory. The items are then as they were, and the buffer may have grown.
+/// A [`span::Error`]: E3 where the buffer would be longer than 4294967295 bytes, which [`check_push`] tells before any allocation,
+/// otherwise E27 when out of memory. The items are then as they were, and the buffer may have grown.
 #[tactic(auto, using(crate::proofs::Buffers::extending))]
 pub fn push(
     buffer: &mut Vec<u8>,
@@ -403,8 +403,8 @@ pub fn check_newline(buffer: &[u8], editor: &Editor<'_>) -> Result<(), span::Err
     check_room(buffer, editor.line_end.as_bytes().len())
 }
 
-/// Pushes the editor's line ending after the items, even if it is switched off after lines. It looks at no item. Takes memory for the
-/// line ending in the buffer, and for the new item.
+/// Pushes the editor's line ending after the items. It does so even if the line ending is switched off after lines. It looks at no
+/// item. Takes memory for the line ending in the buffer, and for the new item.
 ///
 /// # Errors
 ///

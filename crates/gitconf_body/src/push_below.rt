@@ -167,7 +167,7 @@ fn items_in(gap: Gap, mut new: Vec<Item>, line: Line) -> Result<Vec<Item>, NoMem
     Ok(new)
 }
 
-/// Puts items in place of those from one place up to another. Takes one growth, and memory for the items behind.
+/// Puts items in place of those from one place up to another. Takes one allocation, and memory for the items behind.
 fn replace(
     items: &mut Vec<Item>,
     from: usize,
@@ -186,7 +186,7 @@ fn replace(
     Ok(())
 }
 
-/// Puts a line into its gap. Takes two growths, and memory for the items behind the gap.
+/// Puts a line into its gap. Takes two allocations, and memory for the items behind the gap.
 fn put_in(items: &mut Vec<Item>, below: Below) -> Result<(), NoMemory>
     requires order { (below.gap.from ≤ below.gap.to) × (below.gap.to ≤ length items.old.items) }
     ensures ok { OnOk result (items.new.items ≡ items_below below items.old.items) }
@@ -211,7 +211,7 @@ fn lacking_len(items: &[Item], editor: &Editor<'_>) -> usize
 ///
 /// # Errors
 ///
-/// A [`span::Error`], number 3, if the buffer would be longer than 4294967295 bytes.
+/// A [`span::Error`] (E3) if the buffer would be longer than 4294967295 bytes.
 pub fn check_push_after_last(
     buffer: &[u8],
     items: &[Item],
@@ -228,17 +228,17 @@ pub fn check_push_after_last(
     check_room(buffer, lacking_len(items, editor).saturating_add(count))
 }
 
-/// Pushes a line below the line of the last entry, whatever its key, or below the header's line if there is no entry: the editor's
-/// blanks, the key, and if a value is given `=` with the editor's blanks around it and the value as a file spells it; then the editor's
-/// line ending, unless it is switched off. The comments and blank lines that come after the last entry come after it. If the line before
-/// it has no line ending, it gets the editor's one first. The key is written as it is.
+/// Pushes a line below the line of the last entry, whatever its key. If there is no entry, it goes below the header's line. The line is
+/// the editor's blanks, the key, and if a value is given `=` with the editor's blanks around it and the value as a file spells it; then
+/// the editor's line ending, unless it is switched off. The comments and blank lines that come after the last entry come after it. If
+/// the line before it has no line ending, it gets the editor's one first. The key is written as it is.
 ///
 /// It walks from the end up to the last entry. Takes memory for what is added to the buffer, for the new items and for those behind them.
 ///
 /// # Errors
 ///
-/// A [`span::Error`]: number 3 where the buffer would be longer than 4294967295 bytes, which [`check_push_after_last`] tells before any
-/// growth, otherwise 27 when out of memory. The items are then as they were, and the buffer may have grown.
+/// A [`span::Error`]: E3 where the buffer would be longer than 4294967295 bytes, which [`check_push_after_last`] tells before any
+/// allocation, otherwise E27 when out of memory. The items are then as they were, and the buffer may have grown.
 #[tactic(auto, using(crate::proofs::Buffers::extending))]
 pub fn push_after_last(
     buffer: &mut Vec<u8>,

@@ -101,8 +101,8 @@ fn append_quoted(buffer: &mut Vec<u8>, name: &[u8], spelling: &[u8]) -> Result<Q
 ///
 /// # Errors
 ///
-/// A [`span::Error`]: number 3 if the buffer would be longer than 4294967295 bytes, otherwise 27 when out of memory. The buffer and
-/// the copies may have grown.
+/// A [`span::Error`]: E3 if the buffer would be longer than 4294967295 bytes, otherwise E27 when out of memory. The buffer and the
+/// copies may have grown.
 #[tactic(auto, using(crate::proofs::Buffers::extending))]
 pub(crate) fn append_header(
     buffer: &mut Vec<u8>,
@@ -208,8 +208,8 @@ fn append_section_with(
 ///
 /// # Errors
 ///
-/// A [`span::Error`]: number 3 if and only if the buffer would be longer than 4294967295 bytes, otherwise 27 when out of memory. The buffer
-/// is then as it was; the copies may have grown.
+/// A [`span::Error`]: E3 if and only if the buffer would be longer than 4294967295 bytes, otherwise E27 when out of memory. The buffer is
+/// then as it was; the copies may have grown.
 pub fn section_with(
     buffer: &mut Vec<u8>,
     copies: &mut Vec<u8>,
@@ -243,7 +243,7 @@ pub fn section_with(
 ///
 /// # Errors
 ///
-/// A [`span::Error`], number 3, if the buffer would be longer than 4294967295 bytes.
+/// A [`span::Error`] (E3) if the buffer would be longer than 4294967295 bytes.
 pub fn check_section(
     buffer: &[u8],
     line_end: LineEnd,

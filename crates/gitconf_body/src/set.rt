@@ -129,12 +129,12 @@ fn change(
     Ok(())
 }
 
-/// The place of the last entry of a key, `None` if none has it, if the buffer has room for what [`set_at`] adds to it there. One walk over
-/// the items. Takes no memory.
+/// The place of the last entry of a key, `None` if none has it. There is a result if the buffer has room for what [`set_at`] adds to
+/// it there. One walk over the items. Takes no memory.
 ///
 /// # Errors
 ///
-/// A [`span::Error`], number 3, if the buffer would be longer than 4294967295 bytes.
+/// A [`span::Error`] (E3) if the buffer would be longer than 4294967295 bytes.
 pub fn place_to_set(
     buffer: &[u8],
     items: &[Item],
@@ -160,8 +160,8 @@ pub fn place_to_set(
 ///
 /// # Errors
 ///
-/// A [`span::Error`]: 3 where the buffer would be longer than 4294967295 bytes, otherwise 27 when out of memory. The items are then as they
-/// were, and the buffer may have grown.
+/// A [`span::Error`]: E3 where the buffer would be longer than 4294967295 bytes, otherwise E27 when out of memory. The items are then as
+/// they were, and the buffer may have grown.
 pub fn set_at(
     buffer: &mut Vec<u8>,
     items: &mut Vec<Item>,
@@ -198,8 +198,8 @@ pub fn set_at(
 ///
 /// # Errors
 ///
-/// A [`span::Error`]: number 3 if and only if the buffer would be longer than 4294967295 bytes, before any growth, otherwise 27 when out of
-/// memory. The items are then as they were, and the buffer may have grown.
+/// A [`span::Error`]: E3 if and only if the buffer would be longer than 4294967295 bytes, before any allocation, otherwise E27 when
+/// out of memory. The items are then as they were, and the buffer may have grown.
 pub fn set(
     buffer: &mut Vec<u8>,
     items: &mut Vec<Item>,

@@ -66,8 +66,8 @@ fn take_out(items: &mut Vec<Item>, at: usize)
     drop_blanks(items, at);
 }
 
-/// Removes the entry at a place, with the blanks directly before it and the line endings directly after it. All else in the body stays.
-/// Returns the raw text of its value: its pieces joined, not decoded; no bytes for an entry without `=`.
+/// Removes the entry at a place. The blanks directly before it and the line endings directly after it go too. All else in the body
+/// stays. Returns the raw text of its value: its pieces joined, not decoded; no bytes for an entry without `=`.
 ///
 /// Takes memory for the result alone.
 ///
@@ -122,8 +122,8 @@ fn told(alloc: Global, buffer: &[u8], entry: &Entry) -> Result<(Vec<u8>, Vec<u8>
     Ok((name, value))
 }
 
-/// Removes the last entry, which is at the place, with the blanks directly before it and everything after it. Returns its key as it is
-/// spelled, and what its value means; no bytes for an entry without `=`.
+/// Removes the last entry, which is at the place. The blanks directly before it and everything after it go too. Returns its key as it
+/// is spelled, and what its value means; no bytes for an entry without `=`.
 ///
 /// Takes memory for the result, and for the raw text of the value.
 ///

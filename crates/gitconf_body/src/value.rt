@@ -9,13 +9,13 @@ use thiserror::Error;
 /// Why an editor doesn't write a value.
 #[derive(Debug, Drop, Error)]
 pub enum Error {
-    /// The name of the value is invalid: refusal 6.
+    /// The name of the value is invalid: E6.
     #[error(transparent)]
     ValueName(ValueNameError),
-    /// There is no room for the new bytes: refusal 3.
+    /// There is no room for the new bytes: E3.
     #[error(transparent)]
     Span(span::Error),
-    /// A growth was refused: refusal 27.
+    /// An allocation failed: E27.
     #[error("out of memory")]
     Memory,
 }

@@ -27,8 +27,8 @@ pub enum InPlaceOf {
     Nothing,
     /// The whole entry there.
     Entry,
-    /// The entry there, except that the last line ending of its value stays if that value ends in an empty last piece and a comment comes
-    /// next, apart from blanks: it keeps the comment off the new value.
+    /// The entry there, except that the last line ending of its value may stay. It stays if that value ends in an empty last piece and a
+    /// comment comes next, apart from blanks: it keeps the comment off the new value.
     EntryButLineEnd,
 }
 
@@ -100,7 +100,7 @@ fn way_before(items: &[Item], in_place_of: InPlaceOf) -> Way
     }
 }
 
-/// Puts an entry at a place. Takes one growth, or none.
+/// Puts an entry at a place. Takes one allocation, or none.
 fn put(items: &mut Vec<Item>, at: usize, entry: Entry, way: Way) -> Result<(), NoMemory>
     requires within { at ≤ length items.old.items }
     requires over { IfReplaces way (at < length items.old.items) }
@@ -130,7 +130,7 @@ fn written_len(editor: &Editor<'_>, key: &[u8], value: &[u8]) -> usize
 ///
 /// # Errors
 ///
-/// A [`span::Error`], number 3, if the buffer would be longer than 4294967295 bytes.
+/// A [`span::Error`] (E3) if the buffer would be longer than 4294967295 bytes.
 pub fn check_write(
     buffer: &[u8],
     editor: &Editor<'_>,
@@ -144,17 +144,17 @@ pub fn check_write(
     check_room(buffer, written_len(editor, key, value))
 }
 
-/// Writes an entry at a place among the items, counted in items from 0; after all of them if there are fewer.
-/// The entry has the key as it is given, and `=` with the editor's blanks around it and the value as a file spells it. It replaces
-/// the entry there, as `in_place_of` says; if no entry is there, it comes before what is there. All other items stay.
+/// Writes an entry at a place among the items. The place is counted in items from 0; if there are fewer, the entry comes after all
+/// of them. The entry has the key as it is given, and `=` with the editor's blanks around it and the value as a file spells it. It
+/// replaces the entry there, as `in_place_of` says; if no entry is there, it comes before what is there. All other items stay.
 ///
 /// It looks at the items from the place on up to the first that is not blanks. Takes memory for what is added to the buffer, and for at
 /// most one more item. It doesn't ask first whether the buffer has room: the caller has asked [`check_write`].
 ///
 /// # Errors
 ///
-/// A [`span::Error`]: 3 where the buffer would be longer than 4294967295 bytes, otherwise 27 when out of memory. The items are then as they
-/// were, and the buffer may have grown.
+/// A [`span::Error`]: E3 where the buffer would be longer than 4294967295 bytes, otherwise E27 when out of memory. The items are then as
+/// they were, and the buffer may have grown.
 #[tactic(auto, using(crate::proofs::Buffers::extending))]
 pub fn write_at(
     buffer: &mut Vec<u8>,

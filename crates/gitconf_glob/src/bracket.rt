@@ -117,7 +117,7 @@ impl Member {
         }
     }
 
-    /// Whether the member takes the byte, or its lower or upper form if case is ignored.
+    /// Whether the member takes the byte. If case is ignored, it may take the byte's lower or upper form instead.
     pub fn has(self, ignore_case: bool, b: u8) -> bool
         ensures { result ≡ spec.has ignore_case self b }
     {
@@ -129,7 +129,7 @@ impl Member {
     }
 }
 
-/// Whether a bracket takes the byte; `among` says whether the byte is one of its members.
+/// Whether a bracket takes the byte. `among` says whether the byte is one of its members.
 pub fn lets_in(negated: bool, among: bool, b: u8) -> bool
     ensures { result ≡ spec.lets_in negated among b }
 {
@@ -162,7 +162,7 @@ fn count_anew(passed: usize, text: &[u8], close: Option<usize>) -> Option<usize>
     }
 }
 
-/// The offset of the first `]` of a byte and a text, given its offset in the text alone.
+/// The offset of the first `]` of a byte and a text. `behind` is its offset in the text alone.
 pub fn close_with(first: u8, rest: &[u8], behind: Option<usize>) -> Option<usize>
     requires { behind ≡ counted.close_from 0 rest.now }
     ensures { result ≡ counted.close_from 0 (first ∷ rest.now) }

@@ -23,7 +23,7 @@ pub enum Front {
     Run(bool, usize),
     /// Stars at the pattern's end that take any text.
     Rest,
-    /// Stars before a `/`, which take a run of bytes, or nothing together with that `/`.
+    /// Stars before a `/`. They take a run of bytes, or nothing together with that `/`.
     Folders(usize),
 }
 
@@ -114,8 +114,8 @@ pub fn read_front(fresh: bool, first: u8, rest: &[u8]) -> Front
     }
 }
 
-/// How many bytes the front of a pattern has after its first one, if it takes this one byte of the text. It takes
-/// no memory.
+/// How many bytes a pattern's front has after its first, if it takes the byte. The byte is one of the text. It takes no
+/// memory.
 #[tactic(auto, unfolding(crate::specs::Cursor::front))]
 pub fn front_passed(ignore_case: bool, first: u8, rest: &[u8], b: u8) -> Option<usize>
     ensures value { result ≡ cursor.passed ignore_case (cursor.front false first rest.now) b }

@@ -7,7 +7,7 @@ use crate::bracket::{Member, begins_close, close_with, either, read_member};
 use gitconf_text::NoMemory;
 use std::alloc::Global;
 
-/// What the members take that begin at a place of a pattern, up to their `]`.
+/// What members take that begin at a place of a pattern, up to their `]`.
 #[derive(Drop)]
 pub struct Place {
     /// For each byte of the text, whether it is one of them.
@@ -124,8 +124,8 @@ fn untold(alloc: Global, count: usize) -> Result<Vec<Option<Place>>, NoMemory>
     Ok(places)
 }
 
-/// What is known of each place of a pattern, and of its end, from the last place to the first, each
-/// from those after it: if a `]` comes later, a step for each byte of the text, and memory for a cell for each.
+/// What is known of each place of a pattern, and of its end. It is found from the last place to the first, each from
+/// those after it: if a `]` comes later, a step for each byte of the text, and memory for a cell for each.
 pub fn tell_places(
     alloc: Global,
     ignore_case: bool,

@@ -322,9 +322,9 @@ impl Table {
 
     /// The table of a pattern and a text. Letters are compared without ASCII case if `ignore_case` is set.
     ///
-    /// It takes memory for `pattern.len() + 1` rows of `text.len() + 1` cells, with one growth for each row, and for a few
-    /// words for each place of the pattern; for each place with members that a `]` ends, also for
-    /// `text.len()` cells of what they take, while the rows are filled. The product of the two lengths is never computed.
+    /// It takes memory for `pattern.len() + 1` rows of `text.len() + 1` cells, with one allocation for each row, and for a
+    /// few words for each place of the pattern; for each place with members that a `]` ends, also for `text.len()` cells
+    /// of what they take, while the rows are filled. The product of the two lengths is never computed.
     ///
     /// The time is a few steps for each cell, even for nested brackets: what the members take
     /// that begin at a place is computed once for each place, from those after it.

@@ -76,7 +76,7 @@ fn deep(pattern: Vec<u8>) -> Result<Vec<u8>, NoMemory>
     Ok(all)
 }
 
-/// The pattern; if it doesn't begin with `/`, it may match in any folder. Only then does it ask for memory, once,
+/// The pattern; if it doesn't begin with `/`, it may match in any directory. Only then does it ask for memory, once,
 /// also for what [`deep`] adds.
 fn anywhere(alloc: Global, pattern: Vec<u8>) -> Result<Vec<u8>, NoMemory>
     ensures { IfOk result (λ all. all.items ≡ spec.anywhere pattern.items) }
@@ -90,7 +90,7 @@ fn anywhere(alloc: Global, pattern: Vec<u8>) -> Result<Vec<u8>, NoMemory>
     Ok(all)
 }
 
-/// A folder, a slash, and the rest of a pattern.
+/// A directory, a slash, and the rest of a pattern.
 fn below(alloc: Global, folder: &[u8], rest: &[u8]) -> Result<Vec<u8>, NoMemory>
     ensures { IfOk result (λ all. all.items ≡ folder.now ++ (codes "/" ++ rest.now)) }
 {
@@ -100,7 +100,7 @@ fn below(alloc: Global, folder: &[u8], rest: &[u8]) -> Result<Vec<u8>, NoMemory>
     Ok(all)
 }
 
-/// A pattern with `./` at its front replaced by the folder of the section's file, or `None` if the file has no path
+/// A pattern with `./` at its front replaced by the directory of the section's file, or `None` if the file has no path
 /// and what needs one is left out.
 fn based(
     alloc: Global,
@@ -141,7 +141,7 @@ fn pattern_of(
     }
 }
 
-/// The pattern that the folder of the repository is matched with, or `None` if it is left out.
+/// The pattern that the directory of the repository is matched with, or `None` if it is left out.
 fn gitdir_pattern(
     alloc: Global,
     options: &Options<'_>,
@@ -157,7 +157,7 @@ fn gitdir_pattern(
     }
 }
 
-/// Whether the folder of the repository matches, as it is given or with its symbolic links resolved.
+/// Whether the directory of the repository matches, as it is given or with its symbolic links resolved.
 fn matches_folder(
     alloc: Global,
     ignore_case: bool,
@@ -175,7 +175,7 @@ fn matches_folder(
     }
 }
 
-/// Whether the condition on the folder of the repository holds.
+/// Whether the condition on the directory of the repository holds.
 fn holds_gitdir(
     alloc: Global,
     ignore_case: bool,
@@ -273,19 +273,19 @@ fn judge_kind<'a>(
     Ok(Judged::Holds(false))
 }
 
-/// Judges the condition of an `includeIf`, by the options and by where its section comes from. The text before the
-/// first colon is its kind, in exactly this spelling: `gitdir` and `gitdir/i` match the folder of the repository, `onbranch`
-/// the branch, and `hasconfig:remote.*.url` the urls of remotes, for which the caller has to ask. Any other condition
-/// doesn't hold, and neither does one without a colon.
+/// Judges the condition of an `includeIf`. It goes by the options and by where the condition's section comes from. The text
+/// before the first colon is its kind, in exactly this spelling: `gitdir` and `gitdir/i` match the directory of the
+/// repository, `onbranch` the branch, and `hasconfig:remote.*.url` the urls of remotes, for which the caller has to ask. Any
+/// other condition doesn't hold, and neither does one without a colon.
 ///
-/// It takes memory for the pattern of a folder that is known, and what [`wildmatch`] takes: no memory for a condition of
-/// another kind, or on what the options don't give.
+/// It takes memory for the pattern of a directory that is known, and what [`wildmatch`] takes: no memory for a condition
+/// of another kind, or on what the options don't give.
 ///
 /// # Errors
 ///
-/// Those of [`file_named`](crate::paths::file_named), for the pattern of a folder in place of the path; E17
-/// ([`Error::MissingGitDir`]) if no folder of a repository is given and the options ask for a refusal; E18
-/// ([`Error::Realpath`]) with the fault of the options, if the folder as it is given doesn't match and could not be
+/// Those of [`file_named`](crate::paths::file_named), for the pattern of a directory in place of the path; E17
+/// ([`Error::MissingGitDir`]) if no directory of a repository is given and the options ask for an error; E18
+/// ([`Error::Realpath`]) with the fault of the options, if the directory as it is given doesn't match and could not be
 /// resolved; E27.
 pub fn judge<'a>(
     alloc: Global,

@@ -43,7 +43,7 @@ pub trait ConfigFile: Drop {
 
     ghost rest: { Self → List SectionState };
 
-    /// A file loaded from a text, all of it or only what has a meaning, with nothing done.
+    /// A file loaded from a text, all of it or only what has a meaning. None of its sections is done.
     ///
     /// # Errors
     ///
@@ -58,7 +58,7 @@ pub trait ConfigFile: Drop {
         ensures fresh { IfOk result (λ file. (done file).sections ≡ []) }
         ensures refused { IfErr result (IsRefused text.items) };
 
-    /// Visits the next section, which is then done, and returns what it includes; `None` if no section is left.
+    /// Visits the next section, which is then done, and returns what it includes. The result is `None` if no section is left.
     ///
     /// # Errors
     ///
@@ -69,7 +69,7 @@ pub trait ConfigFile: Drop {
         ensures err_rest { OnErr result (rest self.new ≡ rest self.old) }
         ensures more { OnErr result (0 < length (rest self.old)) };
 
-    /// Whether a value of `url` in some section named `remote`, with any subsection, matches the pattern.
+    /// Whether a value of `url` in some section named `remote` matches the pattern. The section may have any subsection.
     ///
     /// # Errors
     ///
@@ -82,7 +82,7 @@ pub trait ConfigFile: Drop {
     ///
     /// # Errors
     ///
-    /// A [`span::Error`]: number 3 if and only if there is no room, otherwise 27 when out of memory. The file is then as it was, and the other
+    /// A [`span::Error`]: E3 if and only if there is no room, otherwise E27 when out of memory. The file is then as it was, and the other
     /// is dropped.
     fn include(&mut self, other: Self) -> Result<(), span::Error>
         requires { 0 < length (done self.old).sections }

@@ -166,7 +166,7 @@ fn expand<'a, F: Files, S: ConfigFile>(
     Ok(())
 }
 
-/// Expands a file that no other file includes, as many levels deep as the options say.
+/// Expands a file that no other file includes. It goes as many levels deep as the options say.
 ///
 /// # Errors
 ///

@@ -17,7 +17,7 @@ use gitconf_text::NoMemory;
 use std::alloc::Global;
 use std::rc::Rc;
 
-/// The refusal for a fault of the file at that path.
+/// The error for a fault of the file at that path.
 fn refusal(fault: FileFault, path: String) -> Error
     ensures { says result ≡ fault_said (string_bytes path) fault }
 {
@@ -34,7 +34,7 @@ fn refusal(fault: FileFault, path: String) -> Error
     }
 }
 
-/// The refusal of the file at that path because the parser refuses its text.
+/// The error for the file at that path because the parser refuses its text.
 fn refused(parse: parse::Error, path: String) -> Error
     ensures { result ≡ include_of_parse path parse }
 {
@@ -76,7 +76,7 @@ fn included_meta(from: &Metadata, path: String) -> Metadata
 ///
 /// # Errors
 ///
-/// Number 19 if it can't be opened, 20 if it can't be read, 15 if the level is past 255, those of the parser, and 27 when out of
+/// E19 if it can't be opened, E20 if it can't be read, E15 if the level is past 255, those of the parser, and E27 when out of
 /// memory.
 pub(crate) fn fetch<F: Files, S: ConfigFile>(
     alloc: Global,

@@ -15,34 +15,34 @@ use thiserror::Error;
 /// Why includes are refused.
 #[derive(Debug, Drop, Error)]
 pub enum Error {
-    /// Reading the included file at that path failed: refusal 20.
+    /// Reading the included file at that path failed: E20.
     #[error("Failed to copy configuration file into buffer")]
     CopyBuffer { path: String, source: FileFault },
-    /// Opening the included file at that path failed: refusal 19.
+    /// Opening the included file at that path failed: E19.
     #[error("Could not read included configuration file at '{path}'")]
     Io { path: String, source: FileFault },
-    /// The parser refused the included file at that path: refusal 1 or 2.
+    /// The parser refused the included file at that path: E1 or E2.
     #[error("{source}")]
     Parse { path: String, source: parse::Error },
-    /// The place of a part would be past 4294967295, or no section number is left: refusal 3.
+    /// The place of a part would be past 4294967295, or no section number is left: E3.
     #[error(transparent)]
     Span(span::Error),
-    /// The path of an include could not be interpolated: refusal 12 to 14.
+    /// The path of an include could not be interpolated: E12 to E14.
     #[error(transparent)]
     Interpolate(interpolate::Error),
-    /// Files include each other deeper than the options allow, or than a level can count: refusal 15.
+    /// Files include each other deeper than the options allow, or than a level can count: E15.
     #[error("The maximum allowed length {max_depth} of the file include chain built by following nested resolve_includes is exceeded")]
     IncludeDepthExceeded { max_depth: u8 },
-    /// A path is relative to the folder of a file that has no path: refusal 16.
+    /// A path is relative to the directory of a file that has no path: E16.
     #[error("Include paths from environment variables must not be relative as no config file paths exists as root")]
     MissingConfigPath,
-    /// A condition asks for the git folder, and there is none: refusal 17.
+    /// A condition asks for the git directory, and there is none: E17.
     #[error("The git directory must be provided to support `gitdir:` conditional includes")]
     MissingGitDir,
-    /// The git folder could not be resolved: refusal 18.
+    /// The git directory could not be resolved: E18.
     #[error("Could not resolve the git directory")]
     Realpath(FileFault),
-    /// A growth was refused: refusal 27.
+    /// An allocation failed: E27.
     #[error("out of memory")]
     Memory,
 }
@@ -91,11 +91,11 @@ pub struct Options<'a> {
     pub max_depth: u8,
     /// Whether files that go deeper are refused; otherwise they are left out.
     pub err_on_max_depth_exceeded: bool,
-    /// Whether a path is refused whose shorthand stands for nothing, and a condition on the git folder if there is
-    /// none; otherwise the include is left out.
+    /// Whether a path is refused whose shorthand stands for nothing. A condition on the git directory is then refused
+    /// too, if there is none. If they aren't refused, the include is left out.
     pub err_on_interpolation_failure: bool,
-    /// Whether a path that doesn't begin with `/` is refused in a file without a path; otherwise the
-    /// include is left out.
+    /// Whether a relative path is refused in a file without a path. Such a path doesn't begin with `/`. If it isn't
+    /// refused, the include is left out.
     pub err_on_missing_config_path: bool,
     /// What the shorthands of paths stand for.
     pub interpolate: interpolate::Context<'a>,
@@ -118,8 +118,8 @@ impl<'a> Options<'a> {
         }
     }
 
-    /// Follows includes ten files deep, and refuses what goes deeper, and a path relative to the folder of a file that has
-    /// no path. A shorthand that stands for nothing leaves its include out.
+    /// Follows includes ten files deep, and refuses what goes deeper. It also refuses a path relative to the directory
+    /// of a file that has no path. A shorthand that stands for nothing leaves its include out.
     pub fn follow(
         interpolate: interpolate::Context<'a>,
         conditional: conditional::Context<'a>,
@@ -136,7 +136,7 @@ impl<'a> Options<'a> {
         }
     }
 
-    /// [`Options::follow`] with these home folders, and nothing that a condition could be about.
+    /// [`Options::follow`] with these home directories, and nothing that a condition could be about.
     pub fn follow_without_conditional(
         home_dir: Option<&'a str>,
         homes: Option<&'a Homes>,
@@ -161,7 +161,7 @@ impl<'a> Options<'a> {
         self
     }
 
-    /// The same, with these folders for the shorthands of paths.
+    /// The same, with these directories for the shorthands of paths.
     pub fn interpolate_with(mut self, context: interpolate::Context<'a>) -> Options<'a>
         ensures { result ≡ record self.entry { interpolate = context.entry } }
     {

@@ -11,19 +11,19 @@ use thiserror::Error;
 /// Why a file is not made.
 #[derive(Debug, Drop, Error)]
 pub enum Error {
-    /// The parser refused the bytes: refusal 1 or 2.
+    /// The parser refused the bytes: E1 or E2.
     #[error(transparent)]
     Parse(parse::Error),
-    /// A path could not be interpolated: refusal 12 to 14.
+    /// A path could not be interpolated: E12 to E14.
     #[error(transparent)]
     Interpolate(interpolate::Error),
     /// An include was refused.
     #[error(transparent)]
     Includes(includes::Error),
-    /// The place of a part would be past 4294967295, or no section number is left: refusal 3.
+    /// The place of a part would be past 4294967295, or no section number is left: E3.
     #[error(transparent)]
     Span(span::Error),
-    /// A growth was refused: refusal 27.
+    /// An allocation failed: E27.
     #[error("out of memory")]
     Memory,
 }
@@ -98,8 +98,9 @@ impl From<NoMemory> for Error {
 pub struct Options<'a> {
     /// Which includes are followed.
     pub includes: includes::Options<'a>,
-    /// Whether blanks, comments and line endings are left out. The document is the same.
+    /// Whether whitespace, comments and line endings are left out. The document is the same.
     pub lossy: bool,
-    /// Whether a file that can't be opened is left out, and one that can't be read is empty; otherwise they are refused.
+    /// Whether a file that can't be opened or read is no error. One that can't be opened is then left out, and one that
+    /// can't be read is empty. Otherwise they are refused.
     pub ignore_io_errors: bool,
 }

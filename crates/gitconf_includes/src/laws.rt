@@ -12,20 +12,20 @@ ghost use Rattle.gitconf_state.specs.State.{document_of, AreNumbered, HasItems, 
 ghost use Rattle.gitconf_includes.specs.Expansion.{Asks, Ended, Expands, IsLoadOf, On, Reached, Resolves};
 ghost use Rattle.gitconf_includes.specs.Laws.{file_of, AreHeaded, EndAlike, IncludesHeaded, IncludesNothing, asks_with, IsAnswered, IsAsItWas, IsKept, ParentsSayTheSame, SayTheSame, StandBehind};
 
-/// Whatever the outcome, a file's own sections stay in their order, with their numbers and with where they come from, and so do its front and
-/// where it comes from itself. The items held after a section stay too, and more may follow them.
+/// Whatever the outcome, a file's own sections stay in their order, with their numbers. Where each comes from stays, and so do the
+/// file's front and where the file itself comes from. The items held after a section stay too, and more may follow them.
 pub fn own_sections_stay()
     ensures { (left : ℕ) (asks : Asks) (parent : Option State) (old : State) (r : Reached) → AreNumbered old.next old.sections
         → Expands left asks parent old r → IsKept old (file_of r) }
 {}
 
-/// Each section that was put in follows one of the file's own, whose source and trust it has, with a greater level.
+/// Each section that was put in follows one of the file's own. It has the source and trust of that one, and a greater level.
 pub fn included_sections_stand_behind()
     ensures { (left : ℕ) (asks : Asks) (parent : Option State) (old : State) (r : Reached) → AreNumbered old.next old.sections
         → Expands left asks parent old r → StandBehind old.next None (file_of r).sections }
 {}
 
-/// The expansion of a file whose items are those that a text may have has such items too, whatever the outcome.
+/// If a file's items are those a text may have, its expansion's are too. This holds whatever the outcome.
 pub fn expansions_keep_items()
     ensures { (left : ℕ) (asks : Asks) (parent : Option State) (old : State) (r : Reached) → HasItems old → Expands left asks parent old r
         → HasItems (file_of r) }
@@ -37,16 +37,17 @@ pub fn expansions_keep_numbers()
         → Expands left asks parent old r → AreNumbered (file_of r).next (file_of r).sections }
 {}
 
-/// What holds of every file that was loaded or edited also holds of it after an expansion, whatever the outcome: its items are those that a
-/// text may have, no number was given twice, and the greatest was not given.
+/// What holds of every file loaded or edited also holds of it after an expansion. Whatever the outcome, its items are those that a text may
+/// have, no number was given twice, and the greatest was not given.
 pub fn expansions_keep_states()
     ensures { (left : ℕ) (asks : Asks) (parent : Option State) (old : State) (r : Reached) → IsState old → Expands left asks parent old r
         → IsState (file_of r) }
 {}
 
-/// A clean file stays clean, whatever the outcome, if no file that a section names has an entry before its first section: so what is written of
-/// it reads back. It is asked of each file that a path of a section names, also where the condition of its include doesn't hold, and of
-/// those that these name, as deep as the expansion may go; so it holds where no text at all has such an entry.
+/// A clean file stays clean if named files have no entry before their first section. The named files are those that a section names. This
+/// holds whatever the outcome; so what is written of the file reads back. It is asked of each file that a path of a section names, also
+/// where the condition of its include doesn't hold, and of those that these name, as deep as the expansion may go; so it holds where no
+/// text at all has such an entry.
 pub fn expansions_stay_clean()
     ensures clean { (left : ℕ) (asks : Asks) (parent : Option State) (old : State) (r : Reached) → IncludesHeaded left asks old → IsClean old
         → Expands left asks parent old r → IsClean (file_of r) }
@@ -75,9 +76,9 @@ pub fn lossy_expansions_say_the_same()
         → document_of full ≡ document_of lossy }
 {}
 
-/// If the host says what is at each path, an expansion has one outcome, apart from running out of memory, and so has a call: two that are
-/// made on one file leave the same file, or are refused for one cause, which says the same of the same file, and leave the same. A text has one
-/// load.
+/// If the host says what each path has, an expansion has one outcome, memory apart. Apart from running out of memory, a call has one
+/// outcome too: two that are made on one file leave the same file, or are refused for one cause, which says the same of the same file, and
+/// leave the same. A text has one load.
 pub fn expansions_have_one_outcome()
     ensures expanded { (asks : Asks) (files : List ℕ → FileReport) (left : ℕ) (parent : Option State) (old : State) (r s : Reached)
         → asks.table ≡ Some files → IsAnswered r → IsAnswered s
@@ -89,9 +90,10 @@ pub fn expansions_have_one_outcome()
         → IfErr other (λ e. e.number ≢ 27) → IsLoadOf known lossy text place one → IsLoadOf known lossy text place other → one ≡ other }
 {}
 
-/// If the host says what is at each path, an expansion for which memory runs out leaves a beginning of what it leaves otherwise: whatever the
-/// file has by then stays, in order, in the file that the same expansion leaves with memory enough, also where that one is refused for another
-/// cause. What is put in later has greater numbers, or is held after what was held. So it is of two calls.
+/// If the host is given, want of memory leaves a beginning of the whole expansion. The host says what is at each path. An expansion for
+/// which memory runs out leaves a beginning of what it leaves otherwise: whatever the file has by then stays, in order, in the file that
+/// the same expansion leaves with memory enough, also where that one is refused for another cause. What is put in later has greater
+/// numbers, or is held after what was held. So it is of two calls.
 pub fn want_of_memory_leaves_a_beginning()
     ensures expanded { (asks : Asks) (files : List ℕ → FileReport) (left : ℕ) (parent : Option State) (old end : State) (r : Reached)
         → asks.table ≡ Some files → AreNumbered old.next old.sections → IsAnswered r

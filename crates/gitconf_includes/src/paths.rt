@@ -14,7 +14,7 @@ use gitconf_values::Path;
 use gitconf_values::path::{interpolate, join, parent};
 use std::alloc::Global;
 
-/// A path once more, for a refusal to keep.
+/// A path once more, for an error to keep.
 ///
 /// # Errors
 ///
@@ -47,12 +47,12 @@ pub(crate) fn replaced(options: &Options<'_>, path: BString) -> Result<Option<St
     }
 }
 
-/// The folder of the file that a section comes from, as a part of that file's path; `None` if the file has no path
+/// The directory of the file that a section comes from, as a part of that file's path; `None` if the file has no path
 /// and what needs one is left out. It takes no memory.
 ///
 /// # Errors
 ///
-/// E16 if the file has no path and the options ask for a refusal, and if its path is in no folder.
+/// E16 if the file has no path and the options ask for an error, and if its path is in no directory.
 pub(crate) fn folder<'a>(
     options: &Options<'_>,
     from: &'a Metadata,
@@ -84,7 +84,7 @@ pub(crate) fn begins_slash(text: &[u8]) -> bool
     }
 }
 
-/// The path that a text gives: itself if it begins with `/`, otherwise in the folder of the section's file.
+/// The path that a text gives: itself if it begins with `/`, otherwise in the directory of the section's file.
 fn placed(
     alloc: Global,
     options: &Options<'_>,
@@ -102,16 +102,16 @@ fn placed(
     }
 }
 
-/// The file that a path of a section names, by the options and by where the section comes from; `None` if the path
-/// is left out. Shorthands at the path's front are replaced, and if it then doesn't begin with `/`, it is in the
-/// folder of the section's file. It asks for memory for the path without shorthands, and for the one in a folder; a
-/// path that is left out because of a shorthand takes none.
+/// The file that a section's path names; `None` if the path is left out. It goes by the options and by where the
+/// section comes from. Shorthands at the path's front are replaced, and if it then doesn't begin with `/`, it is in the
+/// directory of the section's file. It asks for memory for the path without shorthands, and for the one in a directory;
+/// a path that is left out because of a shorthand takes none.
 ///
 /// # Errors
 ///
-/// E12 if a shorthand stands for nothing and the options ask for a refusal, E13 and E14 if the path or a user in it isn't
-/// UTF-8, each as [`Error::Interpolate`]; E16 ([`Error::MissingConfigPath`]) if the folder of a file without a path
-/// is needed and the options ask for a refusal, or if the file's path is in no folder; E27.
+/// E12 if a shorthand stands for nothing and the options ask for an error, E13 and E14 if the path or a user in it isn't
+/// UTF-8, each as [`Error::Interpolate`]; E16 ([`Error::MissingConfigPath`]) if the directory of a file without a path
+/// is needed and the options ask for an error, or if the file's path is in no directory; E27.
 pub fn file_named(
     alloc: Global,
     options: &Options<'_>,

@@ -39,7 +39,7 @@ impl Span {
     ///
     /// # Errors
     ///
-    /// Refusal 3 if the offset or the length is past 4294967295.
+    /// E3 if the offset or the length is past 4294967295.
     pub fn try_new(start: usize, len: usize) -> Result<Span, span::Error>
         ensures same { IfOk result (λ s. (s.start ≡ start) × (s.len ≡ len)) }
         ensures fits { IsOk result ↔ ((start < 2 ^ 32) × (len < 2 ^ 32)) }
@@ -58,7 +58,7 @@ impl Span {
     ///
     /// # Errors
     ///
-    /// Refusal 3 if the offset would be past 4294967295.
+    /// E3 if the offset would be past 4294967295.
     pub fn moved(self, by: usize) -> Result<Span, span::Error>
         ensures same { IfOk result (λ s. (s.start ≡ self.start + by) × (s.len ≡ self.len)) }
         ensures fits { IsOk result ↔ (self.start + by < 2 ^ 32) }
@@ -124,7 +124,7 @@ impl Copied {
 pub struct Header {
     /// The section's name, as spelled.
     pub name: Span,
-    /// The dot, or the blanks before the quote.
+    /// The dot, or the whitespace before the quote.
     pub separator: Option<Span>,
     /// What is after the dot, or between the quotes, as spelled.
     pub subsection: Option<Span>,

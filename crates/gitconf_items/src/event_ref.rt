@@ -24,7 +24,7 @@ pub enum EventRef<'a> {
     SectionHeader {
         /// The section's name, as spelled.
         name: &'a [u8],
-        /// What is between name and subsection: a dot, or blanks.
+        /// What is between name and subsection: a dot, or whitespace.
         separator: Option<&'a [u8]>,
         /// The subsection, without quotes and backslashes.
         subsection_name: Option<&'a [u8]>,
@@ -111,7 +111,7 @@ impl<'a> EventRef<'a> {
     ///
     /// # Errors
     ///
-    /// The reservation was refused.
+    /// Out of memory.
     pub fn to_bstring(&self, alloc: Global) -> Result<BString, NoMemory>
         ensures { IfOk result (λ text. bstring_bytes text ≡ written (shown self.now)) }
     {
@@ -239,7 +239,8 @@ fn subsection_len(separator: &[u8], subsection: &[u8]) -> usize
     quotes_and_separator.saturating_add(escaped_subsection_len(subsection))
 }
 
-/// How many bytes a subsection has when it is spelled in quotes, without the quotes, or `usize::MAX` if there are more.
+/// How many bytes a subsection has when it is spelled in quotes. The quotes don't count. It is `usize::MAX` if there are
+/// more.
 ///
 /// It reads the subsection once and takes no memory.
 #[tactic(auto, using(crate::proofs::Subsections::lengths))]

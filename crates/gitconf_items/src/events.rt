@@ -44,9 +44,9 @@ enum Place<'a> {
 
 /// The events of items, in order.
 ///
-/// Blanks, line endings and a comment are one event each. An entry is its name, its blanks, and then an empty value
-/// if it has no `=`, otherwise the separator, the blanks after that, and its value: one event, or several if it has
-/// more than one piece. Within an entry, empty blanks and line endings have no event.
+/// Whitespace, line endings and a comment are one event each. An entry is its name, its whitespace, and then an empty value
+/// if it has no `=`, otherwise the separator, the whitespace after that, and its value: one event, or several if it has
+/// more than one piece. Within an entry, empty whitespace and line endings have no event.
 ///
 /// It takes no memory, and a step takes constant time.
 #[derive(Clone, Copy)]

@@ -45,7 +45,7 @@ pub struct Section {
 /// A list of more items than this is returned as it is; the items of a shorter one are moved to a list of just their length.
 const MANY: usize = 64;
 
-/// The items in a list of just their length, or, if they are many, in the list that they were in. `items` is empty afterwards.
+/// The items in a list of just their length. If they are many, it is the list that they were in. `items` is empty afterwards.
 ///
 /// # Errors
 ///

@@ -51,7 +51,8 @@ fn moved_copy(copy: Option<Copied>, by: u32) -> Option<Copied>
     }
 }
 
-/// A header of a buffer, after `by` bytes were put before those of the buffer, and `copies_by` before the decoded copies.
+/// A header of a buffer, after bytes were put before those of the buffer. These are `by` bytes, and `copies_by` were put
+/// before the decoded copies.
 pub fn moved_header(header: Header, by: u32, copies_by: u32) -> Header
     requires fits { HeaderFits (2 ^ 32 - 1 - by) header }
     requires copy_fits { CopyFits (2 ^ 32 - 1 - copies_by) header.decoded }
@@ -185,7 +186,7 @@ fn moved_item(item: Item, by: u32) -> Item
     }
 }
 
-/// Moves the items of a buffer, after `by` bytes were put before those of the buffer. One pass, which takes no memory.
+/// Moves the items of a buffer, after `by` bytes were put before the buffer's. One pass, which takes no memory.
 pub fn move_items(items: &mut [Item], by: u32)
     requires { AreItemsWithin (2 ^ 32 - 1 - by) items.old }
     ensures moved { AreItemsMoved by items.old items.new }

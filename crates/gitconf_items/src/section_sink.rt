@@ -10,7 +10,7 @@ use crate::event::Header;
 use crate::items::{Item, Section, moved_out};
 use gitconf_text::NoMemory;
 
-/// What takes sections one by one, in the order of the text, so that they need not be in a list first.
+/// What takes sections one by one, in the order of the text. So they need not be in a list first.
 ///
 /// `tokens` says what it took, in the buffer that the spans of the sections are offsets of, and `keeps` what has held
 /// since it took the first of them.

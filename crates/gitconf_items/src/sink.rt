@@ -33,7 +33,7 @@ pub trait Sink {
         ensures kept { OnErr result (told self.new ≡ told self.old) };
 }
 
-/// Takes all bytes, and reports them; it doesn't count its failures. A refused growth is a failed write.
+/// Takes all bytes, and reports them; it doesn't count its failures. A failed allocation is a failed write.
 impl Sink for Vec<u8> {
     ghost use Rattle.std.specs.Prelude.{Some, None};
 

@@ -35,11 +35,11 @@ pub enum Newline {
     CrLf,
 }
 
-/// How a text is laid out.
+/// How a text is formatted.
 #[derive(Clone, Copy, Debug, PartialEq, Eq)]
 pub struct Options {
-    /// What comes before a comment on a line of its own before the first header. `None` keeps the blanks
-    /// that are there.
+    /// What comes before a comment on a line of its own before the first header. `None` keeps the whitespace
+    /// that is there.
     pub root_comment_indent: Option<Indent>,
     /// What comes before a name or a comment that begins a line after a header.
     pub key_value_indent: Indent,
@@ -49,7 +49,7 @@ pub struct Options {
     pub newline: Newline,
     /// Whether a text that isn't empty ends with one line ending.
     pub ensure_trailing_newline: bool,
-    /// How many blank lines stay before the first line that isn't blank; `None` keeps them all.
+    /// How many blank lines stay before the first other line; `None` keeps them all.
     pub max_leading_blank_lines: Option<usize>,
     /// How many blank lines stay together after that line; `None` keeps them all.
     pub max_consecutive_blank_lines: Option<usize>,
@@ -72,14 +72,14 @@ impl Default for Options {
     }
 }
 
-/// The text, laid out by the options. Its document is the same.
+/// The text, formatted by the options. Its document is the same.
 ///
 /// The events of the text are read once. It takes memory for them and for the result.
 ///
 /// # Errors
 ///
-/// Refusal 1 if the text has no document, with the line and the data from where it can't be read on; refusal 2 for
-/// more than 4294967295 bytes; refusal 27 when out of memory.
+/// E1 if the text has no document, with the line and the data from where it can't be read on; E2 for more than
+/// 4294967295 bytes; E27 when out of memory.
 pub fn normalize(alloc: Global, input: &[u8], options: Options) -> Result<BString, Error>
     ensures set { IfOk result (λ text. IsLayout options input.now (bstring_bytes text)) }
     ensures refused { IfErr result (IsRefused input.now) }
@@ -89,7 +89,7 @@ pub fn normalize(alloc: Global, input: &[u8], options: Options) -> Result<BStrin
     Ok(BString::new(text))
 }
 
-/// The text of these events, laid out.
+/// The text of these events, formatted.
 #[tactic(auto, using(crate::proofs::Staying::body_is), unfolding(crate::specs::Layout::laid_out))]
 fn laid_out(alloc: Global, events: EventIter<'_>, options: &Options) -> Result<Vec<u8>, NoMemory>
     ensures { IfOk result (λ text. text.items ≡ spec.laid_out options.now (events_left events.entry)) }

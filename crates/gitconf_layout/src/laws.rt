@@ -13,12 +13,13 @@ pub fn layouts_keep_documents()
     ensures { (options : Options) (text : List ℕ) (parts : List Part) → IsText text parts → Keeps parts (layout options parts) }
 {}
 
-/// If a line ending at the end is asked for, a text that isn't empty ends with exactly one.
+/// If it is asked for, a nonempty text ends with exactly one line ending.
 pub fn layouts_end_once()
     ensures { (options : Options) (parts : List Part) → options.ensure_trailing_newline ≡ true → EndsOnce (layout options parts) }
 {}
 
-/// Each newline of a layout is the line ending that was chosen, once or more often, if no comment of the text ends with a CR.
+/// Each newline of a layout is the chosen line ending, once or more often. This holds if no comment of the text ends with a
+/// CR.
 ///
 /// So `Detect` finds the line ending of a text in its layout too, if that has a newline.
 pub fn layouts_hold_their_line_end()
@@ -26,7 +27,7 @@ pub fn layouts_hold_their_line_end()
         → IsText (layout options parts) read → HoldLineEnd (line_end_in options parts) read }
 {}
 
-/// A layout that is laid out again by the same options stays as it is, if no comment of the text ends with a CR.
+/// A layout that is formatted again by the same options stays as it is. This holds if no comment of the text ends with a CR.
 pub fn layouts_stay()
     ensures { (options : Options) (text : List ℕ) (parts read : List Part) → IsText text parts → has_no_cr parts ≡ true
         → IsText (layout options parts) read → layout options read ≡ layout options parts }

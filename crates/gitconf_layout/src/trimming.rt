@@ -34,7 +34,7 @@ pub fn without_cr(text: &[u8]) -> &[u8]
     }
 }
 
-/// Puts one line ending in place of all CRs and LFs at the end, unless the text is empty.
+/// Puts one line ending in place of all CRs and LFs at the end. It does so unless the text is empty.
 pub fn end_with(text: &mut Vec<u8>, line_end: &[u8]) -> Result<(), NoMemory>
     ensures { OnOk result (text.new.items ≡ spec.with_one_line_end line_end.now text.old.items) }
 {

@@ -11,35 +11,35 @@ use thiserror::Error;
 /// Why the entries of variables of the environment are refused. Entries are counted from 0.
 #[derive(Debug, Drop, Error)]
 pub enum Error {
-    /// A key or a value (`kind`) is set to bytes that aren't UTF-8: refusal 22.
+    /// A key or a value (`kind`) is set to bytes that aren't UTF-8: E22.
     #[error("Configuration {kind} at index {index} contained illformed UTF-8")]
     IllformedUtf8 { index: usize, kind: &'static str },
-    /// `GIT_CONFIG_COUNT` is not a number, or one that 64 bits don't hold: refusal 23.
+    /// `GIT_CONFIG_COUNT` is not a number, or one that 64 bits don't hold: E23.
     #[error("GIT_CONFIG_COUNT was not a positive integer: {input}")]
     InvalidConfigCount { input: String },
-    /// The key of an entry is not set: refusal 24.
+    /// The key of an entry is not set: E24.
     #[error("GIT_CONFIG_KEY_{key_id} was not set")]
     InvalidKeyId { key_id: usize },
-    /// The key of an entry has no dot: refusal 25.
+    /// The key of an entry has no dot: E25.
     #[error("GIT_CONFIG_KEY_{key_id} was set to an invalid value: {key_val}")]
     InvalidKeyValue { key_id: usize, key_val: String },
-    /// The value of an entry is not set: refusal 26.
+    /// The value of an entry is not set: E26.
     #[error("GIT_CONFIG_VALUE_{value_id} was not set")]
     InvalidValueId { value_id: usize },
-    /// A path could not be interpolated: refusal 12 to 14. The Rust crate has it, and no call returns it: such a refusal of an include is
+    /// A path could not be interpolated: E12 to E14. The Rust crate has it, and no call returns it: such an error of an include is
     /// reported as [`Error::Includes`].
     #[error(transparent)]
     PathInterpolationError(interpolate::Error),
     /// An include was refused.
     #[error(transparent)]
     Includes(includes::Error),
-    /// The section of an entry could not be made: refusals 3, 4 and 5.
+    /// The section of an entry could not be made: E3, E4 and E5.
     #[error(transparent)]
     Section(header::Error),
-    /// An entry could not be put into its section: refusals 3 and 6.
+    /// An entry could not be put into its section: E3 and E6.
     #[error(transparent)]
     SectionValue(value::Error),
-    /// A growth was refused: refusal 27.
+    /// An allocation failed: E27.
     #[error("out of memory")]
     Memory,
 }

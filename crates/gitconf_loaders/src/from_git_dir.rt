@@ -22,10 +22,10 @@ pub enum Error {
     /// An include was refused.
     #[error(transparent)]
     Includes(includes::Error),
-    /// There is no room for a file after those before it: refusal 3.
+    /// There is no room for a file after those before it: E3.
     #[error(transparent)]
     Span(span::Error),
-    /// A growth was refused: refusal 27.
+    /// An allocation failed: E27.
     #[error("out of memory")]
     Memory,
 }

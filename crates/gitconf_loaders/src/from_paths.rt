@@ -9,13 +9,13 @@ use thiserror::Error;
 /// Why a file that is loaded by its path is refused.
 #[derive(Debug, Drop, Error)]
 pub enum Error {
-    /// Opening the file at that path, reading it or asking for its trust failed: refusal 21.
+    /// Opening the file at that path, reading it or asking for its trust failed: E21.
     #[error("The configuration file at \"{path}\" could not be read")]
     Io { path: String, source: FileFault },
-    /// What was read at that path could not be made a file, or could not be appended to the files before it.
+    /// What was read at that path could not be made a file, or not appended. Files are appended to those before them.
     #[error("{source}")]
     Init { path: String, source: init::Error },
-    /// A growth was refused: refusal 27.
+    /// An allocation failed: E27.
     #[error("out of memory")]
     Memory,
 }
@@ -23,7 +23,7 @@ pub enum Error {
 impl Error {
     ghost use Rattle.gitconf_loaders.specs.Errors.{paths_of_init};
 
-    /// The refusal of what was read at a path.
+    /// The error for what was read at a path.
     pub(crate) fn of(path: String, source: init::Error) -> Error
         ensures { result ≡ paths_of_init path source }
     {

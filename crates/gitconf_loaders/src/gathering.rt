@@ -15,7 +15,7 @@ use gitconf_text::parse::span;
 use gitconf_views::section::SectionRef;
 use std::marker::Model;
 
-/// A file whose sections are visited one by one, with other files put in after each. So what is put in goes after everything that is done,
+/// A file whose sections are visited one by one. Other files are put in after each. So what is put in goes after everything that is done,
 /// and the sections that were put in are not visited. Nothing goes into the middle before the end: the sections of the beginning are in a
 /// store, and after them all that were put in, and runs give their order.
 #[derive(Drop)]
@@ -80,7 +80,7 @@ fn last_place(last: usize, long: usize, count: usize) -> usize
 ///
 /// # Errors
 ///
-/// Those of [`Store::check_put`]; 27 when out of memory.
+/// Those of [`Store::check_put`]; E27 when out of memory.
 fn make_ready(
     store: &Store,
     runs: &mut Vec<Run>,
@@ -124,7 +124,7 @@ impl Gathering {
         }
     }
 
-    /// The first of the sections that are still to be visited; `None` if all are done. Takes constant time, and no memory.
+    /// The first section that is still to be visited; `None` if all are done. Takes constant time, and no memory.
     pub fn next_section(&self) -> Option<SectionRef<'_>>
         ensures { option_map shown result ≡ slice_get self.now.rest 0 }
     {
@@ -148,13 +148,13 @@ impl Gathering {
         self.ahead += 1;
     }
 
-    /// Puts another file after everything that is done, and holds its front after the last section that is done, with a line ending between
+    /// Puts another file after everything that is done. Its front is held after the last section that is done, with a line ending between
     /// if one is needed. The time is linear in the other file.
     ///
     /// # Errors
     ///
-    /// A [`span::Error`]: number 3 if and only if the buffer would be longer than 4294967295 bytes or fewer numbers are left than the other
-    /// has sections, otherwise 27 when out of memory. The other is then dropped, and the file as it was.
+    /// A [`span::Error`]: E3 if and only if the buffer would be longer than 4294967295 bytes or fewer numbers are left than the other has
+    /// sections, otherwise E27 when out of memory. The other is then dropped, and the file as it was.
     pub fn include(&mut self, other: Gathering) -> Result<(), span::Error>
         requires { 0 < length self.old.done.sections }
         ensures ok { OnOk result (self.new ≡ record { done = spliced (whole other.done other.rest) self.old.rest self.old.done; rest = self.old.rest }) }
@@ -185,8 +185,9 @@ impl Gathering {
         Ok(())
     }
 
-    /// The sections of the whole file, as it is, that have the name, without ASCII case, and any subsection, in any order; `None` if
-    /// there is none. They are found by an index: constant time except for the bytes of the names, and no memory.
+    /// The sections of the whole file that have the name; `None` if there is none. The file is taken as it is. The name is compared
+    /// without ASCII case, the subsection may be any, and the sections come in any order. They are found by an index: constant time
+    /// except for the bytes of the names, and no memory.
     pub fn sections_by_name<'a, 'n>(&'a self, name: &'n str) -> Option<SectionsByName<'a, 'n>>
         ensures none { IsNone result → (p : SectionState → Bool) → list_any p (with_name name.now (whole self.now.done self.now.rest).sections) ≡ false }
         ensures some { IfSome result (λ it. (p : SectionState → Bool) → list_any p (by_name_left it)

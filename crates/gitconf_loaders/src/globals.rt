@@ -16,7 +16,8 @@ use gitconf_store::store::Store;
 use gitconf_text::NoMemory;
 use std::alloc::Global;
 
-/// The options of these files: includes are followed with the home folders alone, and nothing is known that a condition could be about.
+/// The options of these files: includes are followed with the home directories alone, and nothing is known that a condition could be
+/// about.
 pub fn home_options(places: &Places) -> Options<'_>
     ensures rules { rules_of result ≡ home_rules places.now }
     ensures faults { result.ignore_io_errors ≡ false }
@@ -50,8 +51,8 @@ fn or_empty(alloc: Global, loaded: Option<Store>) -> Result<Store, NoMemory>
 ///
 /// # Errors
 ///
-/// 21 if a file can't be opened or read; 1, 2 and 12 to 20 if a file or its includes are refused; 3 if there is no room for one; 27 when
-/// out of memory.
+/// E21 if a file can't be opened or read; E1, E2 and E12 to E20 if a file or its includes are refused; E3 if there is no room for one;
+/// E27 when out of memory.
 pub fn from_globals<F: Files, E: Env>(
     alloc: Global,
     files: &mut F,

@@ -21,9 +21,9 @@ ghost use Rattle.gitconf_loaders.specs.Paths.{HasOneOutcome, IsLoadedFrom, IsLoa
 ghost use Rattle.gitconf_loaders.specs.Refused.{OutOfMemory};
 ghost use Rattle.gitconf_loaders.specs.Resolving.{AreMadeAlike, IsMadeOf};
 
-/// Files that are loaded by their paths or from a text are clean, those of the machine and of the user too, and have no entry before their
-/// first section, if no text that is loaded has such an entry, and no file that a section names. A file that is loaded without includes is clean
-/// in any case. So what is written of them reads back.
+/// Loaded files are clean if no text has an entry before its first section. Files that are loaded by their paths or from a text are then
+/// clean, those of the machine and of the user too, and have no entry before their first section. The texts are those that are loaded, and
+/// the files that a section names. A file that is loaded without includes is clean in any case. So what is written of them reads back.
 pub fn loaded_files_are_clean()
     ensures path { (table : Option (List ℕ → FileReport)) (path : List ℕ) (source : Source) (file : State) → IsLoadedFrom table path source (Ok file)
         → IsClean file }
@@ -41,8 +41,8 @@ pub fn loaded_files_are_clean()
         → IsMadeOf init_says asks text place (Ok file) → IsClean file × (entries_of file.front ≡ []) }
 {}
 
-/// If no text that the host tells has an entry before its first section, none that is loaded has one, nor any file that it includes: nor has
-/// a text that has no such entry itself.
+/// If the host's texts have no entry before their first section, loaded ones have none. The host's texts are those that it tells. None that
+/// is loaded then has such an entry, nor any file that it includes. So it is with a text that has none itself.
 pub fn headed_files_are_loaded_headed()
     ensures paths { (files : List ℕ → FileReport) (must_exist ignores : Bool) (asks : Asks) (metas : List Meta) → asks.table ≡ Some files
         → AreHeaded files → AreHeadedAt must_exist ignores asks metas }
@@ -50,17 +50,17 @@ pub fn headed_files_are_loaded_headed()
         → ((parts : List Part) → IsText text parts → (gathered parts).front ≡ []) → IsHeadedText asks place text }
 {}
 
-/// If the host says what is at each path, one text from one place makes one file, apart from running out of memory, or is refused for one cause, which says
-/// the same of the same file.
+/// If the host says what each path has, a text has one outcome, memory apart. One text from one place makes one file, apart from running
+/// out of memory, or is refused for one cause, which says the same of the same file.
 pub fn a_text_makes_one_file()
     ensures { (asks : Asks) (files : List ℕ → FileReport) (text : List ℕ) (place : Meta) (one other : Result State Error) → asks.table ≡ Some files
         → IfErr one (λ e. init_says e ≢ OutOfMemory) → IfErr other (λ e. init_says e ≢ OutOfMemory)
         → IsMadeOf init_says asks text place one → IsMadeOf init_says asks text place other → AreMadeAlike one other }
 {}
 
-/// If the host says what is at each path and what each variable is set to, a load has one outcome, apart from running out of memory: one
-/// file, or a refusal that says one thing. So it is with a file that is loaded by its path, with several, and with those of the machine and of
-/// the user.
+/// If the host is given, a load has one outcome, memory apart. The host says what is at each path and what each variable is set to; apart
+/// from running out of memory, the outcome is one file, or an error that says one thing. So it is with a file that is loaded by its path,
+/// with several, and with those of the machine and of the user.
 pub fn loads_have_one_outcome()
     ensures path { (files : List ℕ → FileReport) (path : List ℕ) (source : Source) → HasOneOutcome (IsLoadedFrom (Some files) path source) }
     ensures paths { (files : List ℕ → FileReport) (must_exist ignores : Bool) (asks : Asks) (metas : List Meta) → asks.table ≡ Some files

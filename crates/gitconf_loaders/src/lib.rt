@@ -1,5 +1,5 @@
 //! Files loaded by paths and expanded, the configuration of the machine and of the user, the entries that variables set; why loads are
-//! refused, and the numbers of all refusals.
+//! refused, and the numbers of all errors.
 #![tactic(auto)]
 
 mod expansion;

@@ -10,13 +10,13 @@ use thiserror::Error;
 #[derive(Debug, Drop, Error)]
 #[error_bound(E: Display)]
 pub enum Error<E> {
-    /// There is no such value: refusal 7, 8 or 9.
+    /// There is no such value: E7, E8 or E9.
     #[error(transparent)]
     ValueMissing(existing::Error),
-    /// The type refused the value: refusal 10.
+    /// The type refused the value: E10.
     #[error("{0}")]
     FailedConversion(E),
-    /// A growth was refused: refusal 27.
+    /// An allocation failed: E27.
     #[error("out of memory")]
     Memory,
 }

@@ -42,11 +42,12 @@ fn refusal(fault: FileFault, path: String) -> Error
     }
 }
 
-/// The file at a path, of that source, at level 0, with the trust that the host reports, which is asked first. No include is followed.
+/// The file at a path, of that source, at level 0. Its trust is the one that the host reports, which is asked first. No include is
+/// followed.
 ///
 /// # Errors
 ///
-/// 21 if the trust can't be asked, or the file can't be opened or read; 1 and 2 if the parser refuses it; 27 when out of memory.
+/// E21 if the trust can't be asked, or the file can't be opened or read; E1 and E2 if the parser refuses it; E27 when out of memory.
 pub fn from_path<F: Files>(
     alloc: Global,
     files: &mut F,
@@ -149,7 +150,7 @@ fn text_of<F: Files>(
 ///
 /// # Errors
 ///
-/// 3 if there is no room for it; 27 when out of memory.
+/// E3 if there is no room for it; E27 when out of memory.
 fn join(target: &mut Option<Store>, made: Store, path: String) -> Result<(), Error>
     ensures joined { (left_by paths_says result target.new ≡ Err OutOfMemory)
         ⊎ Joins (string_bytes path) target.old made (left_by paths_says result target.new) }
@@ -170,7 +171,7 @@ fn join(target: &mut Option<Store>, made: Store, path: String) -> Result<(), Err
 ///
 /// # Errors
 ///
-/// 21 if it can't be opened or read, unless that is ignored; otherwise those of `resolved_text`, and 3.
+/// E21 if it can't be opened or read, unless that is ignored; otherwise those of `resolved_text`, and E3.
 fn load_behind<F: Files>(
     alloc: Global,
     files: &mut F,
@@ -211,16 +212,17 @@ fn load_behind<F: Files>(
     }
 }
 
-/// The files of metadata that has a path, each with what it includes by the options, one after the other; `None` if no file was loaded.
-/// Of several with one path the first is taken. A file that isn't there is skipped unless it must exist; the options say whether other
-/// faults are ignored: then a file that can't be opened is skipped, and one that can't be read counts as empty.
+/// The files of metadata that has a path, one after the other, with their includes. Each comes with what it includes by the options.
+/// The result is `None` if no file was loaded. Of several with one path the first is taken. A file that isn't there is skipped unless
+/// it must exist; the options say whether other faults are ignored: then a file that can't be opened is skipped, and one that can't be
+/// read counts as empty.
 ///
 /// Each file is read and parsed once. What is appended is moved once, and the paths are kept in a tree.
 ///
 /// # Errors
 ///
-/// 21 if a file can't be opened or read, and that isn't ignored; 1, 2 and 12 to 20 if a file or its includes are refused; 3 if there is
-/// no room for one; 27 when out of memory.
+/// E21 if a file can't be opened or read, and that isn't ignored; E1, E2 and E12 to E20 if a file or its includes are refused; E3 if
+/// there is no room for one; E27 when out of memory.
 pub fn from_paths<F: Files>(
     alloc: Global,
     files: &mut F,

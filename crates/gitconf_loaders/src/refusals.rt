@@ -1,4 +1,4 @@
-//! The numbers of refusals, E1 to E28, as programs show them. Only here are they given to all errors.
+//! The numbers of errors, E1 to E28, as programs show them. Only here are they given to all errors.
 ghost use Rattle.std.specs.Prelude.{◌≡◌};
 
 use crate::{from_env, from_git_dir, from_paths, lookup};
@@ -13,7 +13,7 @@ use gitconf_text::parse::span;
 use gitconf_text::{NoMemory, value};
 use gitconf_values::path::interpolate;
 
-/// An error of a call, with the number of its refusal.
+/// An error of a call, with its number.
 pub trait Refusal {
     ghost use Rattle.std.specs.Prelude.{ℕ};
 

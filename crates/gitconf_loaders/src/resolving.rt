@@ -19,7 +19,7 @@ use gitconf_store::store::Store;
 use std::alloc::Global;
 use std::rc::Rc;
 
-/// A store whose includes were resolved, or were refused; it then has what was put in before.
+/// A store whose includes were resolved, or were refused. If they were refused, it has what was put in before.
 #[derive(Drop)]
 pub struct Resolved {
     /// The store, with everything that was put in.

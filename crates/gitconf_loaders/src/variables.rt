@@ -16,7 +16,7 @@ use std::alloc::Global;
 ///
 /// # Errors
 ///
-/// 23 for a text that is not a number below 2 to the 64th; 27 when out of memory.
+/// E23 for a text that is not a number below 2 to the 64th; E27 when out of memory.
 pub fn count<E: Env>(env: &mut E) -> Result<usize, Error>
     ensures count { IsCount (E.variables env.old) (result_map_both (λ count. count) env_says result) }
     ensures stays { E.variables env.new ≡ E.variables env.old }
@@ -47,7 +47,7 @@ fn value_variable(alloc: Global, index: usize) -> Result<String, NoMemory>
 ///
 /// # Errors
 ///
-/// 24 if its variable isn't set, 22 if it is set to bytes that aren't UTF-8; 27 when out of memory.
+/// E24 if its variable isn't set, E22 if it is set to bytes that aren't UTF-8; E27 when out of memory.
 pub fn key_at<E: Env>(alloc: Global, env: &mut E, index: usize) -> Result<String, Error>
     ensures key { IsKeyAt (E.variables env.old) index (result_map_both string_bytes env_says result) }
     ensures stays { E.variables env.new ≡ E.variables env.old }
@@ -60,11 +60,11 @@ pub fn key_at<E: Env>(alloc: Global, env: &mut E, index: usize) -> Result<String
     }
 }
 
-/// The value of an entry, counted from 0; `None` if its variable is set to bytes that aren't UTF-8.
+/// The value of an entry, counted from 0. It is `None` if its variable is set to bytes that aren't UTF-8.
 ///
 /// # Errors
 ///
-/// 26 if the variable isn't set; 27 when out of memory.
+/// E26 if the variable isn't set; E27 when out of memory.
 pub fn value_at<E: Env>(alloc: Global, env: &mut E, index: usize) -> Result<Option<String>, Error>
     ensures value { IsValueAt (E.variables env.old) index (result_map_both (option_map string_bytes) env_says result) }
     ensures stays { E.variables env.new ≡ E.variables env.old }

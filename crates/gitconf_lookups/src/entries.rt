@@ -31,7 +31,7 @@ pub fn deciding_entry<'a>(
     }
 }
 
-/// Adds the entries of a key in a section to those that were found, in order.
+/// Adds a section's entries of a key to those that were found, in order.
 pub fn push_entries<'a>(
     found: &mut Vec<Found<'a>>,
     section: &SectionRef<'a>,

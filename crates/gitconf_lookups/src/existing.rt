@@ -8,19 +8,19 @@ use thiserror::Error;
 /// Why something is missing that a lookup or an edit asks for.
 #[derive(Debug, Drop, Error)]
 pub enum Error {
-    /// No section has the name: refusal 7.
+    /// No section has the name: E7.
     #[error("The requested section does not exist")]
     SectionMissing,
-    /// No section of the name has the subsection: refusal 8.
+    /// No section of the name has the subsection: E8.
     #[error("The requested subsection does not exist")]
     SubSectionMissing,
-    /// No section of the name and subsection has such a value: refusal 9.
+    /// No section of the name and subsection has such a value: E9.
     #[error("The key does not exist in the requested section")]
     KeyMissing,
-    /// The name of a value that is to be written is invalid: refusal 6. Lookups don't return it.
+    /// The name of a value that is to be written is invalid: E6. Lookups don't return it.
     #[error(transparent)]
     ValueName(ValueNameError),
-    /// A growth was refused: refusal 27.
+    /// An allocation failed: E27.
     #[error("out of memory")]
     Memory,
 }

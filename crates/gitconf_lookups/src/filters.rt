@@ -23,7 +23,8 @@ pub fn passes<F: FnMut(&Metadata) -> bool>(filter: &mut F, meta: &Metadata) -> b
     filter(meta)
 }
 
-/// The last of the sections whose metadata passes the filter, which is called for the sections from the last one up to that one.
+/// The last of the sections whose metadata passes the filter. The filter is called for the sections from the last one up to that
+/// one.
 pub fn last_passing<'a, F: FnMut(&Metadata) -> bool>(
     sections: SectionsNamed<'a, '_, '_>,
     filter: F,

@@ -51,7 +51,8 @@ fn push_places(
     Ok(())
 }
 
-/// The places of the entries of a key in the passing sections, with `=` or without it, in file order. Takes memory for the places alone.
+/// The places of a key's entries in the passing sections, in file order. The entries are those with `=` and those without it. Takes
+/// memory for the places alone.
 pub fn all_value_places<F: FnMut(&Metadata) -> bool>(
     alloc: Global,
     sections: SectionsNamed<'_, '_, '_>,
@@ -83,7 +84,8 @@ pub fn put_in_order(places: &mut Vec<(SectionId, usize)>)
     places.sort_unstable();
 }
 
-/// The place of the last entry of a key in the last of the passing sections that has one, with `=` or without it. Takes no memory.
+/// The place of the last entry of a key in the passing sections. It is in the last of them that has one, with `=` or without it. Takes
+/// no memory.
 pub fn last_value_place<F: FnMut(&Metadata) -> bool>(
     sections: SectionsNamed<'_, '_, '_>,
     key: &[u8],

@@ -43,7 +43,7 @@ pub fn text_with_section<'a>(
     }
 }
 
-/// What the value of an entry means, if it has one, and if one was found.
+/// What an entry's value means, if an entry was found and has a value.
 pub fn implicit_text(
     alloc: Global,
     found: &Option<Found<'_>>,

@@ -29,7 +29,8 @@ pub fn bodies_line_end(sections: Sections<'_>) -> Option<LineEnd>
     None
 }
 
-/// The line ending of the first newline of a front and of the sections' bodies; LF if there is none.
+/// The line ending of the first newline; LF if there is none. The newlines are those of a front and of the sections'
+/// bodies.
 pub fn file_line_end(buffer: &[u8], front: &[Item], sections: Sections<'_>) -> LineEnd
     ensures { bytes_of_line_end result ≡ line_end_of (flat_map item_tokens
         (items_of buffer.now front.now ++ flat_map (λ s. s.items) (sections_left sections.entry))) }

@@ -212,7 +212,8 @@ impl Iterator for SectionIds<'_> {
     }
 }
 
-/// The sections of a file in order, each with the events of what is held after it: `Store::sections_and_postmatter`.
+/// The sections in order, each with the events of what is held after it. They are those of a file:
+/// `Store::sections_and_postmatter`.
 #[derive(Drop)]
 pub struct SectionsAndPostmatter<'a> {
     /// The sections that are left.

@@ -12,7 +12,7 @@ use gitconf_diff::difference::Difference;
 use gitconf_text::NoMemory;
 use std::alloc::Global;
 
-/// The lines of the last entry of a key in OURS and in THEIRS, counted from 1; `None` where a side has none.
+/// The lines of the last entry of a key in OURS and in THEIRS. They are counted from 1; `None` where a side has none.
 #[derive(Clone, Copy, Debug, PartialEq, Eq)]
 pub struct Spot {
     /// The line in OURS.

@@ -12,7 +12,7 @@ use crate::key::{KeyNames, is_key_among};
 /// Whose a key is.
 #[derive(Clone, Copy, Debug, PartialEq, Eq)]
 pub enum Verdict {
-    /// What OURS says of it holds, since THEIRS left it as it was, or says the same.
+    /// What OURS says of it holds: THEIRS left it as it was, or says the same.
     Ours,
     /// What THEIRS says of it holds, since OURS left it as it was.
     Theirs,

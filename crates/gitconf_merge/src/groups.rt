@@ -1,7 +1,7 @@
 //! What both sides have of a name, out of lists sorted by name.
 ghost use Rattle.std.specs.Prelude.{◌≤◌, ◌<◌, ◌+◌, length};
 
-/// A part of one of the sides that stands in a list sorted by names; of a name those of OURS come first.
+/// A part of one of the sides that stands in a list sorted by names. Of a name those of OURS come first.
 pub trait Grouped {
     /// Whether another one has the same name.
     fn is_alike(&self, other: &Self) -> bool;

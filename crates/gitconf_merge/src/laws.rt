@@ -6,7 +6,7 @@ ghost use Rattle.gitconf_diff.specs.Differences.{Answers, answers_at};
 ghost use Rattle.gitconf_merge.specs.Merging.{IsMerge, merged};
 ghost use Rattle.gitconf_merge.specs.declared.favor.Favor.{Favor};
 
-/// A merge with a side that changed nothing says what the other side says; and with the sides swapped it says the same of each key that is no
+/// A merge with a side that changed nothing says what the other side says. With the sides swapped it says the same of each key that is no
 /// conflict.
 pub fn merges_follow_the_changes()
     ensures ours_unchanged { (favor : Favor) (base ours theirs result : List SectionState) → IsMerge favor base ours theirs result

@@ -69,13 +69,13 @@ pub enum Input {
 /// Why texts aren't merged.
 #[derive(Debug, Drop, Error)]
 pub enum Error {
-    /// The parser refused one of the texts: refusal 1 or 2.
+    /// The parser refused one of the texts: E1 or E2.
     #[error("{1}")]
     Refused(Input, parse::Error),
     /// No text was found that says what the merge says. None is known of which this is so.
     #[error("no text was found that says what the merge says")]
     Unplaced,
-    /// A growth was refused: refusal 27.
+    /// An allocation failed: E27.
     #[error("out of memory")]
     Memory,
 }
@@ -85,7 +85,7 @@ pub enum Error {
 enum Unmade {
     /// No text was found that says what the merge says.
     Unplaced,
-    /// A growth was refused.
+    /// An allocation failed.
     Memory,
 }
 
@@ -100,7 +100,7 @@ impl From<NoMemory> for Unmade {
 pub struct Merged {
     /// The text: that of our side, with what the other side changed. At a conflict it has what the favor says, else what our side says.
     pub text: Vec<u8>,
-    /// The text with its conflicts marked, as git marks them; none if there is none that stays.
+    /// The text with its conflicts marked, as git marks them. It is `None` if no conflict stays.
     pub marked: Option<Vec<u8>>,
     /// The keys that both sides changed, each otherwise, sorted: also those that the favor settles.
     pub conflicts: Vec<Conflict>,
@@ -111,7 +111,7 @@ fn shared(alloc: Global) -> Result<Rc<Metadata>, NoMemory> {
     Ok(Rc::new(alloc, Metadata::api())?)
 }
 
-/// What a text has, without blanks and comments.
+/// What a text has, without whitespace and comments.
 fn read(alloc: Global, text: &[u8]) -> Result<Store, parse::Error>
     ensures document { IfOk result (λ store. Reads text.now (document_of store)) }
     ensures refused { IfErr result (IsRefused text.now) }

@@ -34,7 +34,7 @@ pub struct EntryPlace {
     pub place: Place,
 }
 
-/// Where the headers and the entries of a text stand, in the order of the text.
+/// Where the headers and entries of a text stand, in the order of the text.
 #[derive(Drop)]
 pub struct Outline {
     pub headings: Vec<Place>,

@@ -20,15 +20,16 @@ pub struct Home {
 /// Where the sections of OURS end, and which of them THEIRS has, too.
 #[derive(Drop)]
 pub struct Homes {
-    /// For each section of THEIRS where it belongs, if OURS has a section of its name.
+    /// For each section of THEIRS where it belongs, if OURS has one of its name.
     pub homes: Vec<Option<Home>>,
     /// For each section of OURS whether THEIRS has one of its name.
     pub is_shared: Vec<bool>,
     /// For each section of OURS where its last entry ends, or its header.
     pub ends: Vec<usize>,
-    /// For each section of OURS where the last line ends that isn't empty and belongs to it.
+    /// For each section of OURS where its last line ends that isn't empty.
     pub tails: Vec<usize>,
-    /// For each section of OURS the last one of those directly behind it that THEIRS hasn't, or itself.
+    /// For each section of OURS the last of those behind it that THEIRS hasn't. These are directly behind it; if there is none, it is
+    /// the section itself.
     pub lasts: Vec<usize>,
 }
 

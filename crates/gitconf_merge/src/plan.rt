@@ -46,7 +46,7 @@ pub enum TheirFate {
 pub enum Marks {
     /// They aren't: what OURS has of such a key stays where it stands.
     Absent,
-    /// What OURS has of the key stands together, as between marks, but without them and without what THEIRS has.
+    /// What OURS has of the key stands together, as between marks. The marks and what THEIRS has are left out.
     Left,
     /// What both sides have of the key stands between marks.
     Shown,

@@ -136,15 +136,15 @@ impl Events {
         })
     }
 
-    /// The events of a text, all of them or those that `filter` keeps; headers are always kept.
+    /// The events of a text, all of them or those that `filter` keeps. Headers are always kept.
     ///
     /// The text is read once. The filter is asked about each other event, in order, once the whole text was read.
     /// The result has a copy of the text.
     ///
     /// # Errors
     ///
-    /// Refusal 1 if the text has no document, with the line and the data from where it can't be read on; refusal 2 for
-    /// more than 4294967295 bytes; refusal 27 when out of memory.
+    /// E1 if the text has no document, with the line and the data from where it can't be read on; E2 for more than
+    /// 4294967295 bytes; E27 when out of memory.
     #[tactic(auto, using(crate::proofs::Filtering::filtering, gitconf_items::proofs::Selections::whole_selected))]
     pub fn from_bytes(
         alloc: Global,
@@ -183,7 +183,7 @@ impl Events {
         Events::whole(alloc, input.as_bytes())
     }
 
-    /// The text, and the kept items before its first header; the sections are handed over in order. All spans are
+    /// The text, and the kept items before its first header. The sections are handed over in order. All spans are
     /// offsets of the text, and the tokens of both are those that were kept.
     ///
     /// It requires that these are the tokens of some parts of a text; they are if `keeps_entries` is true, by

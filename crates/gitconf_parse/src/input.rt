@@ -12,7 +12,7 @@ use std::alloc::Global;
 ///
 /// # Errors
 ///
-/// Refusal 2, with that length.
+/// E2, with that length.
 pub fn check_len(len: usize) -> Result<(), Error>
     ensures large { IfErr result (λ e. e ≡ too_large_input len) }
     ensures fits { IsOk result ↔ (len < 2 ^ 32) }
@@ -23,7 +23,7 @@ pub fn check_len(len: usize) -> Result<(), Error>
     Ok(())
 }
 
-/// The refusal of a text that can't be read on at a fault.
+/// The error for a text that can't be read on at a fault.
 pub fn refusal(alloc: Global, input: &[u8], fault: Fault) -> Error
     requires { fault.at ≤ length input.now }
     ensures { IsRefusal input.now fault result }
@@ -50,7 +50,7 @@ pub fn copied(alloc: Global, input: &[u8]) -> Result<Vec<u8>, NoMemory>
 /// How much room, in bytes, a copy has for more: enough for some edits of the text.
 const ROOM: usize = 4096;
 
-/// A copy of a text with room after it, so that the first edits copy nothing.
+/// A copy of a text with room after it. So the first edits copy nothing.
 ///
 /// # Errors
 ///

@@ -11,8 +11,8 @@ ghost use Rattle.gitconf_items.specs.EventRef.{Shown, escaped_subsection};
 ghost use Rattle.gitconf_items.specs.EventList.{EventList, IsParsed, IsSelected, IsSelection, IsWhole, keeps_token};
 ghost use Rattle.gitconf_items.specs.TokenDocument.{SayDocument, keeps_meaning};
 
-/// A subsection without LF, spelled in quotes with a backslash before each `"` and `\`, may be in a header,
-/// and is read back as it was.
+/// A subsection without LF may be in a header, and reads back as it was. It is spelled in quotes, with a backslash
+/// before each `"` and `\`.
 pub fn escaped_subsection_reads_back()
     ensures fits { (s : List ℕ) → list_all (λ b. not (b == 10)) s ≡ true → is_spelling (escaped_subsection s) ≡ true }
     ensures same { (s : List ℕ) → list_all (λ b. not (b == 10)) s ≡ true → unquoted (escaped_subsection s) ≡ s }
@@ -30,12 +30,12 @@ pub fn stuck_at_one_place()
         → (line ≡ other) × (rest ≡ rest_too) × (kind ≡ kind_too) }
 {}
 
-/// The tokens of a text, spelled one after the other, give the text without its mark.
+/// The spelled tokens of a text, one after the other, give it without its mark.
 pub fn tokens_join()
     ensures { (text : List ℕ) (parts : List Part) → IsText text parts → flat_map spelled_token (tokens_of parts) ≡ unmarked text }
 {}
 
-/// Parts with the same tokens have the same document. The tokens that are left of a text without blanks, line endings and
+/// Parts with the same tokens have the same document. The tokens that are left of a text without whitespace, line endings and
 /// comments, all of these or some, are those of parts with the text's document.
 pub fn lossy_tokens_have_the_document()
     ensures one { (parts others : List Part) → tokens_of parts ≡ tokens_of others → gathered parts ≡ gathered others }
@@ -43,8 +43,8 @@ pub fn lossy_tokens_have_the_document()
     ensures selected { (parts : List Part) (tokens : List Token) → IsSelection true (tokens_of parts) tokens → SayDocument tokens (gathered parts) }
 {}
 
-/// Events of a text are the tokens of parts, and so make items by section, without a filter or with any that keeps each name, separator
-/// and value.
+/// Events of a text are the tokens of parts, and so make items by section. This holds without a filter, or with any that keeps each
+/// name, separator and value.
 pub fn kept_entries_make_items()
     ensures whole { (text : List ℕ) (list : EventList) → IsWhole text list → (parts : List Part) × (list.tokens ≡ tokens_of parts) }
     ensures kept { (p : Shown → Bool) (text : List ℕ) (list : EventList) → IsParsed p text list → list.keeps_entries ≡ true

@@ -83,7 +83,7 @@ fn read_items<S: SectionSink>(
     Ok(front)
 }
 
-/// The items that are kept of a text before its first header; its sections are handed over in order, each with the items that are kept of
+/// The items that are kept of a text before its first header. Its sections are handed over in order, each with the items that are kept of
 /// it, as soon as it is read. All spans are offsets of the text.
 ///
 /// The text is read once, section by section. Memory is taken for one list that holds the items of a section until they are handed
@@ -92,8 +92,8 @@ fn read_items<S: SectionSink>(
 ///
 /// # Errors
 ///
-/// Refusal 1 if the text has no document, with the line and the data from where it can't be read on; refusal 27 when
-/// out of memory. Some sections may have been handed over.
+/// E1 if the text has no document, with the line and the data from where it can't be read on; E27 when out of memory.
+/// Some sections may have been handed over.
 pub fn read_sections<S: SectionSink>(
     alloc: Global,
     input: &[u8],

@@ -83,7 +83,7 @@ fn meanings(alloc: Global, input: &[u8], key: &KeyRef<'_>) -> Result<Vec<BString
     Ok(values)
 }
 
-/// The refusal of a text for this cause.
+/// The error for a text with this cause.
 fn refused(alloc: Global, input: &[u8], cause: ReadError) -> Error
     requires fits { length input.now < 2 ^ 32 }
     requires misread { IsMisread input.now cause }
@@ -127,15 +127,15 @@ const NO_KEY: KeyRef<'static> = KeyRef {
     value_name: "",
 };
 
-/// The meaning of the last value of a key such as `remote.origin.url` in a text, or `None` if there is none or the key can't be parsed:
-/// what `File::string` returns of the file that `File::try_from_bytes` makes of the text.
+/// The meaning of the last value of a key such as `remote.origin.url` in a text. It is `None` if there is no value or the key can't be
+/// parsed. It is what `File::string` returns of the file that `File::try_from_bytes` makes of the text.
 ///
 /// One pass over the text. It takes memory for the result alone, and for the raw text of a found value of several pieces.
 ///
 /// # Errors
 ///
-/// Those of `File::try_from_bytes`: refusal 1 if the text has no document, with the line and the data from where it can't be read on;
-/// refusal 2 for more than 4294967295 bytes; refusal 27 when out of memory.
+/// Those of `File::try_from_bytes`: E1 if the text has no document, with the line and the data from where it can't be read on; E2 for
+/// more than 4294967295 bytes; E27 when out of memory.
 pub fn value_in<K: AsKey>(alloc: Global, text: &[u8], key: K) -> Result<Option<BString>, Error>
     ensures found { IfOk result (λ value. (d : Document) × Reads text.now d × (option_map bstring_bytes value ≡ value_of (K.key key) d)) }
     ensures refused { IfErr result (IsRefused text.now) }
@@ -149,8 +149,8 @@ pub fn value_in<K: AsKey>(alloc: Global, text: &[u8], key: K) -> Result<Option<B
     }
 }
 
-/// The meanings of all values of a key in a text, in order, or `None` if there are none or the key can't be parsed: what `File::strings`
-/// returns of the file that `File::try_from_bytes` makes of the text. An entry without `=` counts as empty.
+/// The meanings of all values of a key in a text, in order. The result is `None` if there are none or the key can't be parsed. It is
+/// what `File::strings` returns of the file that `File::try_from_bytes` makes of the text. An entry without `=` counts as empty.
 ///
 /// One pass over the text. It takes memory for the results alone, and for the raw text of a value of several pieces.
 ///

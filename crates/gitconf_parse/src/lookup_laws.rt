@@ -6,13 +6,14 @@ ghost use Rattle.gitconf_state.specs.Lookup.{all_values, last_value, listed};
 ghost use Rattle.gitconf_state.specs.State.{State, document_of};
 ghost use Rattle.gitconf_parse.specs.Lookup.{value_of_key, values_of_key};
 
-/// What lookups find in a file is what is found in its document, wherever its sections come from.
+/// What lookups find in a file is what is found in its document. This holds wherever its sections come from.
 pub fn a_file_is_looked_up_by_its_document()
     ensures value { (state : State) (key : Key) → last_value key.section key.subsection key.name (λ _. true) (listed state) ≡ value_of_key key (document_of state) }
     ensures values { (state : State) (key : Key) → all_values key.section key.subsection key.name (λ _. true) (listed state) ≡ values_of_key key (document_of state) }
 {}
 
-/// A file that has the document of a text, such as the one that is loaded from it, is looked up as the text itself.
+/// A file that has a text's document is looked up as the text itself. The one that is loaded from the text is such a
+/// file.
 pub fn a_text_is_looked_up_as_its_file()
     ensures value { (text : List ℕ) (d : Document) (state : State) (key : Key) → Reads text d → Reads text (document_of state)
         → value_of_key key d ≡ last_value key.section key.subsection key.name (λ _. true) (listed state) }

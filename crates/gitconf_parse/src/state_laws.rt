@@ -24,9 +24,9 @@ ghost use Rattle.gitconf_state.specs.Edit.{is_entry_of, spacing_of, new_entry, s
 ghost use Rattle.gitconf_state.specs.Edits.{Edit, is_about, IsEdit, IsCleanEdit, AreEdits, AreCleanEdits, apply, apply_all, edited_number, finds_or_makes, IsOneChanged};
 ghost use Rattle.gitconf_state.specs.Comments.{item_comments, comments_of, comments, comments_of_kept};
 
-/// A state loaded from a text has items of a text, also if a filter dropped blanks, line endings and comments. Loaded whole it is
-/// clean and has the text's document; a lossy load, or any that kept what makes entries, has the document too, and is clean if no
-/// entry comes before its first section.
+/// A state loaded from a text has items of a text. This holds also if a filter dropped blanks, line endings and comments. Loaded
+/// whole it is clean and has the text's document; a lossy load, or any that kept what makes entries, has the document too, and is
+/// clean if no entry comes before its first section.
 pub fn loads_are_clean()
     ensures full { (text : List ℕ) (parts : List Part) (state : State) → IsText text parts → IsFullLoad parts state → HasItems state × IsClean state }
     ensures full_document { (text : List ℕ) (parts : List Part) (state : State) → IsText text parts → IsFullLoad parts state
@@ -44,14 +44,15 @@ pub fn loads_are_clean()
         → document_of state ≡ gathered parts }
 {}
 
-/// Loaded whole and printed, a text keeps the bytes of all its tokens, in order; nothing is inserted but a line ending after some of them.
+/// Loaded whole and printed, a text keeps the bytes of all its tokens, in order. Nothing is inserted but a line ending after some of them.
 pub fn full_load_is_inserted()
     ensures { (text : List ℕ) (parts : List Part) (state : State) → IsText text parts → IsFullLoad parts state
         → Inserted (map spelled_token (tokens_of parts)) (printed state) }
 {}
 
-/// A text is printed byte for byte, except for its mark, if its line endings are of one kind and it ends with one, each header is at the
-/// start of a line, no key is on a header's line or on another key's, and no value is left open at the end.
+/// A text that meets these conditions is printed byte for byte, except for its mark. It is loaded whole, its line endings are of one
+/// kind and it ends with one, each header is at the start of a line, no key is on a header's line or on another key's, and no value is
+/// left open at the end.
 pub fn byte_for_byte()
     ensures { (text : List ℕ) (parts : List Part) (state : State) → IsText text parts → IsFullLoad parts state → IsByteForByte parts
         → printed state ≡ unmarked text }
@@ -63,15 +64,16 @@ pub fn printed_section_reads_back()
         → AllByRecursion (λ s. Reads (printed_section s) (record { front = []; sections = section_document s ∷ [] })) state.sections }
 {}
 
-/// The text of the front and of the sections that a filter keeps has their document, and the text of a state has that
-/// of the state.
+/// What is printed of a clean state with items of a text reads back. The text of the front and of the sections that a
+/// filter keeps has their document, and the text of a state has that of the state.
 pub fn printed_text_reads_back()
     ensures kept { (keeps : SectionState → Bool) (state : State) → HasItems state → IsClean state
         → Reads (printed_kept keeps state) (document_of_kept keeps state) }
     ensures all { (state : State) → HasItems state → IsClean state → Reads (printed state) (document_of state) }
 {}
 
-/// The comments of a printed text are those of what is printed, in order, each with its mark, except for spaces, tabs and CRs at their ends.
+/// The comments of a printed text are those of what is printed, in order. They are the same, each with its mark, except for spaces, tabs
+/// and CRs at their ends. The printed state is clean and has items of a text.
 pub fn comments_are_kept()
     ensures kept { (keeps : SectionState → Bool) (state : State) → HasItems state → IsClean state
         → (parts : List Part) → IsText (printed_kept keeps state) parts → comments_of parts ≡ comments_of_kept keeps state }
@@ -81,8 +83,9 @@ pub fn comments_are_kept()
         → AllByRecursion (λ s. (parts : List Part) → IsText (printed_section s) parts → comments_of parts ≡ flat_map item_comments s.items) state.sections }
 {}
 
-/// An edit of a state that has items of a text leaves such items, if what it writes may be in a text; and leaves a clean state clean, if
-/// its headers have a name or a subsection and what it puts in is clean. So does a list of edits. Edits give no number twice.
+/// An edit leaves items of a text, if what it writes may be in one. The state that is edited has to have such items. An edit leaves a
+/// clean state clean, if its headers have a name or a subsection and what it puts in is clean. So does a list of edits. Edits give no
+/// number twice.
 pub fn edits_keep_states()
     ensures items { (edit : Edit) (state : State) → IsEdit edit state → HasItems state → HasItems (apply edit state) }
     ensures clean { (edit : Edit) (state : State) → IsCleanEdit edit → IsClean state → IsClean (apply edit state) }
@@ -118,8 +121,8 @@ pub fn edited_text_reads_back()
         → Reads (printed (apply_all edits state)) (document_of (apply_all edits state)) }
 {}
 
-/// No edit depends on how many bytes a buffer has, and no text or document shows it. So calls that leave the state of an edit except for
-/// this number leave that of all edits, one after the other, except for it.
+/// No edit depends on how many bytes a buffer has. No text or document shows it either. So calls that leave the state of an edit except
+/// for this number leave that of all edits, one after the other, except for it.
 pub fn used_bytes_are_not_asked()
     ensures edits { (edits : List Edit) (used : ℕ) (state : State) → apply_all edits (with_used used state) ≡ with_used used (apply_all edits state) }
     ensures names { (edits : List Edit) (used : ℕ) (state : State) → AreEdits edits state → AreEdits edits (with_used used state) }
@@ -154,8 +157,8 @@ pub fn equality_is_an_equivalence()
     ensures documents { (one other : State) → map section_document one.sections ≡ map section_document other.sections → AreEqual one other }
 {}
 
-/// A value that was set is found by its name, subsection and key, if the lookup keeps the sections that the edit keeps and
-/// would keep a new one.
+/// A value that was set is found by its name, subsection and key. This holds if the lookup keeps the sections that the
+/// edit keeps and would keep a new one.
 pub fn set_value_is_found()
     ensures found { (name : List ℕ) (subsection : Option (List ℕ)) (key value : List ℕ) (state : State)
         → finds_or_makes name subsection (λ _. true) state ≡ true
@@ -165,8 +168,8 @@ pub fn set_value_is_found()
         → last_value name subsection key keeps (listed (set_raw_value name subsection key keeps value state)) ≡ Some value }
 {}
 
-/// Setting a value changes the last section of the name and subsection that passes, and only the items of it. If none passes, a
-/// new section follows all others.
+/// Setting a value changes the last section of the name and subsection that passes. It changes only the items of it. If none
+/// passes, a new section follows all others.
 pub fn set_value_changes_one_section()
     ensures file { (name : List ℕ) (subsection : Option (List ℕ)) (key : List ℕ) (keeps : Meta → Bool) (value : List ℕ) (state : State)
         → ((set_raw_value name subsection key keeps value state).front ≡ state.front)
@@ -187,8 +190,8 @@ pub fn set_value_changes_one_section()
         × ((section_with line_end key value s).meta ≡ s.meta) × ((section_with line_end key value s).held ≡ s.held) }
 {}
 
-/// Of a section's items, setting a value changes only the key's last entry, and keeps its name as spelled. Without an entry of the key,
-/// a new one follows all others.
+/// Of a section's items, setting a value changes only the key's last entry. That entry keeps its name as spelled. Without an entry of
+/// the key, a new one follows all others.
 pub fn set_value_changes_one_entry()
     ensures found { (line_end key value : List ℕ) (items before : List Item) (e : Entry) (behind : List Item) → items ≡ before ++ EntryItem e ∷ behind
         → is_same_name key e.name ≡ true → list_any (is_entry_of key) behind ≡ false
@@ -198,7 +201,7 @@ pub fn set_value_changes_one_entry()
         → set_value line_end key value items ≡ items ++ new_entry (spacing_of items) line_end key value }
 {}
 
-/// Setting a value leaves what is said of every other key, in any section, and the sections of every other name or subsection.
+/// Setting a value leaves what is said of every other key, in any section. It also leaves the sections of every other name or subsection.
 pub fn set_value_leaves_others()
     ensures keys { (name : List ℕ) (subsection : Option (List ℕ)) (key : List ℕ) (keeps : Meta → Bool) (value : List ℕ) (state : State)
         → (other_name : List ℕ) (other_subsection : Option (List ℕ)) (other : List ℕ) → is_same_name key other ≡ false

@@ -9,7 +9,7 @@ ghost use Rattle.gitconf_items.specs.Items.{tokens_in};
 ghost use Rattle.gitconf_print.specs.LineEnds.{first_newline, first_newline_of_bodies, both_end_line};
 ghost use Rattle.gitconf_print.specs.Texts.{section_text, held_text};
 
-/// What is written for a section, and for what is held after it, is what a state prints of them.
+/// What is written for a section is what a state prints of it. The same is true of what is held after it.
 pub fn sections_are_printed()
     ensures items { (items : List Item) → spelled (map ItemPart items) ≡ flat_map spelled_item items }
     ensures section { (s : SectionState) → printed_section s ≡ section_text s.header s.items }
@@ -17,8 +17,8 @@ pub fn sections_are_printed()
     ensures ended { (line_end : List ℕ) (s : SectionState) → ends_with_line line_end s ≡ both_end_line line_end s.items s.held }
 {}
 
-/// A section's line ending is that of its body's first newline; a file's is that of its front's first newline, or
-/// otherwise of the first body with one; LF if there is none.
+/// A section's line ending is that of its body's first newline. A file's is that of its front's first newline, or
+/// otherwise of the first body with one. It is LF if there is none.
 pub fn line_ends_are_told()
     ensures section { (s : SectionState) → section_line_end s ≡ unwrap_or (first_newline (tokens_in s.items)) (10 ∷ []) }
     ensures file { (state : State) → file_line_end state

@@ -144,7 +144,7 @@ pub fn write_section<W: Sink>(
     write_items(out, buffer, items, true, line_end)
 }
 
-/// Writes what is held after a section with this body, on a line of its own.
+/// Writes what is held after a section with this body. It is written on a line of its own.
 ///
 /// One pass over what is held, and a look at the body's end; no memory is taken.
 ///

@@ -147,7 +147,7 @@ impl<'e> EventSlice<'e> {
         self.split_at(front_len(self.list))
     }
 
-    /// The first event with those after it up to the next header, and the rest; `None` if there is no event.
+    /// Splits off the first event, with those after it up to the next header. Returns these, and the rest; `None` if there is no event.
     pub fn split_section(self) -> Option<(EventSlice<'e>, EventSlice<'e>)>
         ensures { MatchOption result (events_of self.entry ≡ []) (λ r. IsSectionFirst (events_of self.entry) (events_of r.0) (events_of r.1)) }
     {
@@ -242,7 +242,8 @@ impl EventVec {
         Ok(())
     }
 
-    /// The same events, each header with the place of its subsection's decoded copy, if that isn't what is spelled.
+    /// The same events, with the subsections decoded. Each header has the place of its subsection's decoded copy, if that isn't what is
+    /// spelled.
     ///
     /// # Errors
     ///

@@ -41,7 +41,7 @@ impl Model for Error {
 impl Error {
     ghost use Rattle.std.specs.Prelude.{◌==◌};
 
-    /// Refusal 1: at `remaining`, which begins in this line, no token can be read. It is for the crates above this one.
+    /// E1: at `remaining`, which begins in this line, no token can be read. It is for the crates above this one.
     pub fn unexpected(line_number: usize, expected: Expected, remaining: Vec<u8>) -> Error
         ensures { result ≡ unexpected_token line_number expected remaining.items }
     {
@@ -54,7 +54,7 @@ impl Error {
         }
     }
 
-    /// Refusal 2: the input has more than 4294967295 bytes. It is for the crates above this one.
+    /// E2: the input has more than 4294967295 bytes. It is for the crates above this one.
     pub fn too_large(actual: usize) -> Error
         ensures { result ≡ too_large_input actual }
     {
@@ -63,7 +63,7 @@ impl Error {
         }
     }
 
-    /// Refusal 27: a growth was refused. It is for the crates above this one.
+    /// E27: an allocation failed. It is for the crates above this one.
     pub fn memory() -> Error
         ensures { result ≡ want_of_memory }
     {
@@ -72,7 +72,7 @@ impl Error {
         }
     }
 
-    /// The refusal's number: 1 if no token can be read, 2 if the input is too large, and 27 when memory ran out.
+    /// The error's number: 1 if no token can be read, 2 if the input is too large, and 27 when memory ran out.
     pub fn number(&self) -> u8
         ensures { result ≡ self.now.number }
     {
@@ -90,7 +90,7 @@ impl Error {
         matches!(&self.cause, Cause::Memory)
     }
 
-    /// The line in which the remaining data begins, counted from 1. It is 1 except for refusal 1.
+    /// The line in which the remaining data begins, counted from 1. It is 1 except for E1.
     pub const fn line_number(&self) -> usize
         ensures { result ≡ self.now.line }
     {
@@ -100,7 +100,7 @@ impl Error {
         }
     }
 
-    /// The text from the token on that could not be read. It is empty except for refusal 1.
+    /// The text from the token on that could not be read. It is empty except for E1.
     pub fn remaining_data(&self) -> &[u8]
         ensures { result.now ≡ self.now.data }
     {
@@ -110,7 +110,7 @@ impl Error {
         }
     }
 
-    /// What was looked for: `section header`, `name` or `value`. It is empty except for refusal 1.
+    /// What was looked for: `section header`, `name` or `value`. It is empty except for E1.
     pub fn kind(&self) -> &str
         ensures { result.now ≡ self.now.kind }
     {
@@ -120,7 +120,7 @@ impl Error {
         }
     }
 
-    /// The length of an input that is too large; 0 except for refusal 2.
+    /// The length of an input that is too large; 0 except for E2.
     fn size(&self) -> usize
         ensures { result ≡ self.now.size }
     {

@@ -13,7 +13,7 @@ use std::alloc::{AllocError, Global};
 use std::marker::Model;
 use std::mem::size_of;
 
-/// Adds a line ending, if one is given, and others after the items, within the room that there is.
+/// Adds a line ending, if one is given, and others after the items. They go into the room that there is.
 pub fn join(items: &mut FewItems, line_end: Option<Span>, others: &mut FewItems)
     requires room { HasRoomFor items.old (small_vec_len others.old + 1) }
     ensures { items.new.items ≡ items.old.items ++ (line_end_item line_end ++ others.old.items) }
@@ -77,7 +77,7 @@ impl Held {
         reserved
     }
 
-    /// Adds a line ending, if one is given, and others after the items, within the room that there is.
+    /// Adds a line ending, if one is given, and others after the items. They go into the room that there is.
     pub fn join(&mut self, line_end: Option<Span>, others: &mut FewItems)
         requires room { small_vec_len others.old + 1 ≤ self.old.room }
         ensures { self.new.items ≡ self.old.items ++ (line_end_item line_end ++ others.old.items) }
@@ -91,7 +91,7 @@ impl Held {
         }
     }
 
-    /// Moves the items of a buffer, after `by` bytes were put before those of the buffer. One pass, which takes no memory.
+    /// Moves the items of a buffer, after `by` bytes were put before the buffer's. One pass, which takes no memory.
     pub fn move_by(&mut self, by: u32)
         requires { AreItemsWithin (2 ^ 32 - 1 - by) self.old.items }
         ensures { AreItemsMoved by self.old.items self.new.items }

@@ -4,7 +4,7 @@ ghost use Rattle.gitconf_text.specs.Sections.{no_number};
 
 use std::marker::Model;
 
-/// The number of a section, by which it is found whatever is added or removed around it. The default is the
+/// The number of a section. By it the section is found whatever is added or removed around it. The default is the
 /// greatest number, which no section gets.
 #[derive(Clone, Copy, PartialEq, Eq, PartialOrd, Ord, Hash, Debug)]
 pub struct SectionId {

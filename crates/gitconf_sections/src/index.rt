@@ -188,8 +188,8 @@ impl WordIndex {
         }
     }
 
-    /// Makes room for that many more words, and for at least as many buckets as words. So words that are added at the end one
-    /// by one take constant time and memory on average.
+    /// Makes room for that many more words, and at least as many buckets as words. So words that are added at the end one by
+    /// one take constant time and memory on average.
     ///
     /// # Errors
     ///
@@ -212,7 +212,7 @@ impl WordIndex {
         self.links.reserve(more)
     }
 
-    /// Whether one more word can be added with at least as many buckets as words, so that [`WordIndex::reserve`] has nothing to do.
+    /// Whether one more word can be added with at least as many buckets as words. Then [`WordIndex::reserve`] has nothing to do.
     #[inline(always)]
     pub fn has_room(&self) -> bool
         ensures room { result ≡ true → 0 < self.now.room }

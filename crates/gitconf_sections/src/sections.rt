@@ -90,7 +90,7 @@ impl SectionList {
         }
     }
 
-    /// A copy of the sections, with the same numbers, names and seed, and with lists of their own; metadata is shared. Each item is
+    /// A copy of the sections, with the same numbers, names and seed. It has lists of its own; metadata is shared. Each item is
     /// copied once.
     ///
     /// # Errors

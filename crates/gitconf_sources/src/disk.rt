@@ -9,11 +9,11 @@ use std::io::{ErrorKind, Read};
 use std::{fs, rt};
 
 /// How many bytes of a file are read at most: one more than the parser takes, so that a file that is too long is still
-/// refused by number 2, and so is one without an end, such as `/dev/zero`.
+/// refused with E2, and so is one without an end, such as `/dev/zero`.
 const MOST: u64 = 4294967296;
 
-/// The files of the system, by their paths; a relative path begins at the working folder. It reports neither a table nor a
-/// count, since other programs may change any file at any time.
+/// The files of the system, by their paths. A relative path begins at the working directory. It reports neither a table
+/// nor a count, since other programs may change any file at any time.
 #[derive(Drop)]
 pub struct Disk<R: rt::Files + AllocGlobal + Drop> {
     runtime: R,
@@ -35,7 +35,7 @@ impl<R: rt::Files + AllocGlobal + Drop> Files for Disk<R> {
     ghost failures = { λ _. None };
 
     /// Whether a regular file is at the path, even one that can't be opened. A symbolic link counts as what it leads
-    /// to. A folder, a pipe, a device and what the system says nothing of don't count.
+    /// to. A directory, a pipe, a device and what the system says nothing of don't count.
     fn is_file(&mut self, path: &str) -> bool {
         match fs::metadata(&self.runtime, path) {
             Ok(metadata) => metadata.is_file(),
@@ -48,8 +48,8 @@ impl<R: rt::Files + AllocGlobal + Drop> Files for Disk<R> {
     /// # Errors
     ///
     /// A fault of opening if nothing is there (only then with `not_found`), if the rights are missing, for a path with a NUL, and for a
-    /// folder: the system opens a folder and refuses to read it, and here that counts as not opened. A fault of reading if reading fails
-    /// for another cause. A fault of memory when out of memory, here or in the system.
+    /// directory: the system opens a directory and refuses to read it, and here that counts as not opened. A fault of reading if reading
+    /// fails for another cause. A fault of memory when out of memory, here or in the system.
     fn read(&mut self, path: &str) -> Result<Vec<u8>, FileFault> {
         match fs::open(&self.runtime, path) {
             Ok(file) => all_of(file, Vec::new(self.runtime.alloc())),
@@ -75,7 +75,7 @@ fn all_of<F: Read + Drop>(file: F, mut bytes: Vec<u8>) -> Result<Vec<u8>, FileFa
     }
 }
 
-/// The fault of a system error of this kind while a file was read: a folder counts as one that can't be opened.
+/// The fault of a system error of this kind while a file was read: a directory counts as one that can't be opened.
 fn unread(kind: ErrorKind) -> FileFault
     ensures { result ≡ read_fault kind }
 {

@@ -17,8 +17,8 @@ pub trait Files: Drop {
 
     ghost failures: { Self → Option ℕ };
 
-    /// Whether a file is at the path, even one that can't be opened or read. A folder, or anything else that is not a file, doesn't
-    /// count. It can't fail.
+    /// Whether a file is at the path, even one that can't be opened or read. A directory, or anything else that is not a file,
+    /// doesn't count. It can't fail.
     fn is_file(&mut self, path: &str) -> bool
         ensures told { IfSome (table self.old) (λ files. result ≡ is_there (files path.now)) }
         ensures stays { table self.new ≡ table self.old }

@@ -66,7 +66,8 @@ fn find<F: Files, E: Env>(
     Ok(())
 }
 
-/// The same for all sources whose configuration is not that of one repository, in the order in which Git reads them.
+/// The same for all sources whose configuration is not that of one repository. They are in the order in which Git reads
+/// them.
 ///
 /// # Errors
 ///

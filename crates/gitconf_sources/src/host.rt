@@ -7,13 +7,13 @@ use gitconf_values::Homes;
 /// The places of configuration that a program knows. The Rust crate finds them itself; here the program sets them.
 #[derive(Drop)]
 pub struct Places {
-    /// The path of the configuration that was installed with Git, or `None` if there is none.
+    /// The path of the configuration installed with Git, or `None` if there is none.
     pub installation_config: Option<String>,
-    /// The folder that the configuration of the whole machine is below, such as `etc/gitconfig`.
+    /// The directory that the configuration of the whole machine is below, such as `etc/gitconfig`.
     pub system_prefix: String,
-    /// The home folder of the user who runs the program, for `~/`.
+    /// The home directory of the user who runs the program, for `~/`.
     pub home: Option<String>,
-    /// The home folders of users, for `~user/`.
+    /// The home directories of users, for `~user/`.
     pub homes: Option<Homes>,
 }
 

@@ -14,7 +14,7 @@ pub fn as_key_is_the_answer<K: AsKey>()
     ensures { AnswersAgree K.key }
 {}
 
-/// Sources and their groups are ordered as they are read, lowest first, and reduced trust is less than full trust.
+/// Sources and their groups are ordered as they are read, lowest first. Reduced trust is less than full trust.
 pub fn sources_are_ordered_as_read()
     ensures sources { ascends (source_ord.ghosts).cmp sources_in_order ≡ true }
     ensures kinds { ascends (kind_ord.ghosts).cmp kinds_in_order ≡ true }

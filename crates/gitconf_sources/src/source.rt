@@ -3,17 +3,17 @@
 ghost use Rattle.std.specs.Prelude.{◌≡◌};
 ghost use Rattle.gitconf_sources.specs.Source.{kind_of, sources_of};
 
-/// Where a value of the configuration comes from, in the order in which Git reads the places: a later
-/// one overrides an earlier one.
+/// Where a value of the configuration comes from. The places are in the order in which Git reads them: a later one
+/// overrides an earlier one.
 #[derive(Clone, Copy, PartialEq, Eq, PartialOrd, Ord, Hash, Debug)]
 pub enum Source {
     /// The configuration that was installed with Git.
     GitInstallation,
     /// The configuration of the whole machine.
     System,
-    /// The user's configuration in `git/config` of the folder for configuration.
+    /// The user's configuration in `git/config` of the directory for configuration.
     Git,
-    /// The user's configuration in `.gitconfig` of the home folder.
+    /// The user's configuration in `.gitconfig` of the home directory.
     User,
     /// The repository's configuration.
     Local,

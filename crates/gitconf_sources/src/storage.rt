@@ -78,7 +78,7 @@ fn unless_empty(text: Option<String>) -> Option<String>
     }
 }
 
-/// The path of a file in a folder, if there is a folder.
+/// The path of a file in a directory, if there is a directory.
 fn in_folder(alloc: Global, file: &str, folder: Option<String>) -> Result<Option<String>, NoMemory>
     ensures { IfOk result (λ place. option_map string_bytes place ≡ spec.in_folder file.now (option_map string_bytes folder)) }
 {
@@ -139,7 +139,7 @@ fn system<E: Env>(alloc: Global, env: &mut E, places: &Places) -> Result<Option<
     machine(alloc, env, places)
 }
 
-/// The path of a file in the home folder.
+/// The path of a file in the home directory.
 fn in_home<E: Env>(alloc: Global, env: &mut E, file: &str) -> Result<Option<String>, NoMemory>
     ensures placed { IfOk result (λ place. IsPlaced (E.variables env.old)
         (λ var. spec.in_folder file.now (spec.text_of var (codes "HOME"))) (option_map string_bytes place)) }
@@ -149,7 +149,7 @@ fn in_home<E: Env>(alloc: Global, env: &mut E, file: &str) -> Result<Option<Stri
     in_folder(alloc, file, home)
 }
 
-/// The path of the user's configuration in the folder for configuration.
+/// The path of the user's configuration in the directory for configuration.
 fn in_config_folder<E: Env>(alloc: Global, env: &mut E) -> Result<Option<String>, NoMemory>
     ensures placed { IfOk result (λ place. IsPlaced (E.variables env.old)
         (λ var. folder_place (spec.text_of var (codes "XDG_CONFIG_HOME")) (spec.text_of var (codes "HOME"))) (option_map string_bytes place)) }
@@ -174,7 +174,7 @@ fn git<E: Env>(alloc: Global, env: &mut E) -> Result<Option<String>, NoMemory>
     }
 }
 
-/// The path of the user's configuration in the home folder, unless a variable names another one.
+/// The path of the user's configuration in the home directory, unless a variable names another one.
 fn user<E: Env>(alloc: Global, env: &mut E) -> Result<Option<String>, NoMemory>
     ensures placed { IfOk result (λ place. IsPlaced (E.variables env.old)
         (λ var. user_place (spec.text_of var (codes "GIT_CONFIG_GLOBAL")) (spec.text_of var (codes "HOME"))) (option_map string_bytes place)) }

@@ -20,7 +20,7 @@ use std::alloc::Global;
 ///
 /// # Errors
 ///
-/// Out of memory. The places are then as they were.
+/// E27 when out of memory. The places are then as they were.
 fn put_place(table: &SectionList, id: SectionId, places: &mut Vec<usize>) -> Result<(), NoMemory>
     ensures ok { OnOk result (IfSome (place_of id table.now) (λ at. places.new.items ≡ places.old.items ++ at ∷ [])) }
     ensures err { OnErr result (places.new.items ≡ places.old.items) }
@@ -37,7 +37,7 @@ fn put_place(table: &SectionList, id: SectionId, places: &mut Vec<usize>) -> Res
 ///
 /// # Errors
 ///
-/// Out of memory, only if a section passes.
+/// E27 when out of memory, only if a section passes.
 pub(crate) fn passing_places<F: FnMut(&Metadata) -> bool>(
     alloc: Global,
     table: &SectionList,

@@ -25,7 +25,7 @@ ghost use Rattle.gitconf_body.specs.Blanks.{given_editor};
 ghost use Rattle.gitconf_store.specs.Several.{meaning_of_place, moved_up};
 ghost use Rattle.gitconf_lookups.specs.ValuePlaces.{editor_of_numbered, meaning_at};
 
-/// Bytes that are added to a buffer change nothing of what spans within it say, and these are within the longer one.
+/// Bytes that are added to a buffer change nothing of what spans within it say. These spans are also within the longer buffer.
 pub fn appending_leaves_every_view()
     ensures items { (buffer more : List ℕ) (items : List Item) → AreItemsWithin (length buffer) items
         → items_of (buffer ++ more) items ≡ items_of buffer items }
@@ -33,19 +33,20 @@ pub fn appending_leaves_every_view()
     ensures within { (buffer more : List ℕ) (items : List Item) → AreItemsWithin (length buffer) items → AreItemsWithin (length (buffer ++ more)) items }
 {}
 
-/// What an edit adds to the buffer is no longer than the tokens that it makes.
+/// What `set_raw_value` adds to the buffer is no longer than the tokens it makes.
 pub fn edits_put_no_more_than_their_tokens()
     ensures { (name : List ℕ) (subsection : Option (List ℕ)) (key : List ℕ) (keeps : Meta → Bool) (value : List ℕ) (state : State)
         → set_raw_value_bytes name subsection key keeps value state ≤ new_bytes (SetRawValue name subsection key keeps value) state }
 {}
 
-/// What an appended file adds to the buffer is no longer than its own buffer and a line ending.
+/// Appending a file adds no more bytes than the file's buffer and a line ending. They are added to the buffer of the file that is
+/// appended to.
 pub fn appended_files_put_no_more_than_their_bytes()
     ensures { (other state : State) → appended_bytes other state ≤ new_bytes (Append other) state }
 {}
 
-/// What an editor adds to the buffer is no longer than the tokens that it makes: for a line that is pushed, for a value that is set, and
-/// for an entry that is written at a place, with blanks of the editor's own or with those that the section has.
+/// What an editor adds to the buffer is no longer than the tokens it makes. This holds for a line that is pushed, for a value that is
+/// set, and for an entry that is written at a place, with blanks of the editor's own or with those that the section has.
 pub fn editors_put_no_more_than_their_tokens()
     ensures pushed { (number : ℕ) (editor : Editor) (key : List ℕ) (value comment : Option (List ℕ)) (state : State)
         → line_put editor key value comment ≤ new_bytes (Push number (given_editor editor) key value comment) state }
@@ -58,19 +59,19 @@ pub fn editors_put_no_more_than_their_tokens()
         ≤ new_bytes (WriteAt number (editor_of_numbered number state) place instead key value) state }
 {}
 
-/// The value that was written at a place, whatever its bytes, is what the entry there then means.
+/// An entry that was written at a place then means the value that was given. This holds whatever the value's bytes.
 pub fn written_values_are_read()
     ensures { (editor : states.Editor) (place : ℕ) (instead : InsteadOf) (key value : List ℕ) (items : List parts.Item) → place ≤ length items
         → meaning_at place (written_at editor place instead key value items) ≡ Some value }
 {}
 
-/// The entries that are left when another one is deleted mean what they did, at the places where they then are.
+/// The entries that are left when another one is deleted mean what they did. Each is read at the place where it then is.
 pub fn deletions_leave_other_values()
     ensures { (gone place : ℕ × ℕ) (state : State) → place ≢ gone
         → meaning_of_place (apply (DeleteAt gone.0 gone.1) state) (moved_up gone place) ≡ meaning_of_place state place }
 {}
 
-/// What a header adds to the buffer is no longer than its tokens, for one section that is renamed and for all that pass.
+/// What a header adds to the buffer is no longer than its tokens. This holds for one section that is renamed and for all that pass.
 pub fn headers_put_no_more_than_their_tokens()
     ensures one { (number : ℕ) (name : List ℕ) (subsection : Option (List ℕ)) (state : State)
         → header_bytes name subsection ≤ new_bytes (Rename number name subsection) state }
@@ -79,8 +80,9 @@ pub fn headers_put_no_more_than_their_tokens()
         → header_bytes new_name new_subsection ≤ new_bytes (RenameAll name subsection keeps new_name new_subsection) state }
 {}
 
-/// A section that is edited while it is in no file, and then put into a file, is there as if it had been put there first, and edited by
-/// the number that it got: whatever happens to its items, its header or its trust.
+/// Editing a section before it is put into a file is like editing it there. A section that is edited while it is in no file, and then
+/// put into a file, is there as if it had been put there first, and edited by the number that it got: whatever happens to its items,
+/// its header or its trust.
 pub fn sections_are_edited_alone_as_in_a_file()
     ensures items { (change : List parts.Item → List parts.Item) (detached : Detached) (state : State) → AreNumbered state.next state.sections
         → change_items state.next change (apply (PushSection detached) state)
@@ -93,7 +95,7 @@ pub fn sections_are_edited_alone_as_in_a_file()
         ≡ apply (PushSection (record detached { section = with_trust trust detached.section })) state }
 {}
 
-/// The bytes that a section is returned with are no more than those of the text of its header and its body.
+/// A section is returned with no more bytes than its text has. The text is that of its header and its body.
 pub fn own_bytes_are_no_more_than_the_text()
     ensures { (s : SectionState) → section_size s ≤ length (spelled_header s.header) + length (flat_map spelled_item s.items) }
 {}

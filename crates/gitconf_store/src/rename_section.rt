@@ -10,13 +10,13 @@ use thiserror::Error;
 /// Why sections are not renamed.
 #[derive(Debug, Drop, Error)]
 pub enum Error {
-    /// No section has the names, or none of these passes: refusal 7, 8 or 9.
+    /// No section has the names, or none of these passes: E7, E8 or E9.
     #[error(transparent)]
     Lookup(existing::Error),
-    /// The new header can't be made: refusal 3, 4 or 5.
+    /// The new header can't be made: E3, E4 or E5.
     #[error(transparent)]
     Section(header::Error),
-    /// A growth was refused: refusal 27.
+    /// An allocation failed: E27.
     #[error("out of memory")]
     Memory,
 }

@@ -10,19 +10,19 @@ use thiserror::Error;
 /// Why a raw value is not set.
 #[derive(Debug, Drop, Error)]
 pub enum Error {
-    /// There is no such value, and none may be made: refusal 7, 8 or 9.
+    /// There is no such value, and none may be made: E7, E8 or E9.
     #[error(transparent)]
     Lookup(existing::Error),
-    /// A section has to be made, and can't be of these names: refusal 4 or 5.
+    /// A section has to be made, and can't be of these names: E4 or E5.
     #[error(transparent)]
     Header(header::Error),
-    /// The name of the value is invalid: refusal 6.
+    /// The name of the value is invalid: E6.
     #[error(transparent)]
     ValueName(ValueNameError),
-    /// There is no room for the new bytes, or no number for a section that has to be made: refusal 3.
+    /// There is no room for the new bytes, or no number for a new section: E3. It is a section that has to be made.
     #[error(transparent)]
     Span(span::Error),
-    /// A growth was refused: refusal 27.
+    /// An allocation failed: E27.
     #[error("out of memory")]
     Memory,
 }

@@ -165,15 +165,15 @@ impl Store {
         }
     }
 
-    /// The state of the events of a text, all of them or those that a filter kept: its front, and its sections numbered
-    /// from 0, each from `meta`. What the filter dropped is not in it.
+    /// The state of a text's events, all of them or those a filter kept. It has the text's front, and its sections
+    /// numbered from 0, each from `meta`. What the filter dropped is not in it.
     ///
     /// It requires that all names, separators and values were kept ([`Events::keeps_entries`]). One pass; the text becomes the
     /// buffer, and of it only the names and subsections of sections are copied.
     ///
     /// # Errors
     ///
-    /// Out of memory.
+    /// E27 when out of memory.
     pub fn from_events(alloc: Global, events: Events, meta: Rc<Metadata>) -> Result<Store, NoMemory>
         requires { events.keeps_entries ≡ true }
         ensures made { IfOk result (λ s. IsMade events.tokens meta.value events.used s) }
@@ -214,8 +214,8 @@ impl Store {
     ///
     /// # Errors
     ///
-    /// Refusal 1 if the text has no document, with the line and the data from where it can't be read on; refusal 2
-    /// for more than 4294967295 bytes; refusal 27 when out of memory.
+    /// E1 if the text has no document, with the line and the data from where it can't be read on; E2 for more than
+    /// 4294967295 bytes; E27 when out of memory.
     pub fn from_text(alloc: Global, text: Vec<u8>, meta: Rc<Metadata>) -> Result<Store, Error>
         ensures made { IfOk result (λ s. (parts : List Part) × IsText text.items parts × IsMade (tokens_of parts) meta.value (length text.items) s) }
         ensures document { IfOk result (λ s. Reads text.items (document_of s)) }
@@ -228,7 +228,7 @@ impl Store {
         Store::of_text(alloc, text, Keep::All, meta)
     }
 
-    /// The state of a text without its blanks, line endings and comments, which has the same document. The text becomes the buffer. One
+    /// The state of a text without its blanks, line endings and comments. It has the same document. The text becomes the buffer. One
     /// pass, section by section; no memory is taken for what isn't kept.
     ///
     /// # Errors
@@ -244,7 +244,7 @@ impl Store {
         Store::of_text(alloc, text, Keep::Meaning, meta)
     }
 
-    /// The state of a text as [`Store::from_text`] makes it, of a copy with some room after the text, so that the first edits
+    /// Like [`Store::from_text`], but of a copy of the text. The copy has some room after the text, so that the first edits
     /// copy nothing.
     ///
     /// # Errors
@@ -264,7 +264,7 @@ impl Store {
         Store::from_text(alloc, text, meta)
     }
 
-    /// The state of a text as [`Store::from_text_lossy`] makes it, of such a copy as [`Store::from_bytes`] makes.
+    /// Like [`Store::from_text_lossy`], but of such a copy as [`Store::from_bytes`] makes.
     ///
     /// # Errors
     ///
@@ -285,7 +285,7 @@ impl Store {
     ///
     /// # Errors
     ///
-    /// Out of memory.
+    /// E27 when out of memory.
     pub fn try_clone(&self) -> Result<Store, NoMemory>
         ensures { IfOk result (λ s. s ≡ self.now) }
     {
@@ -352,8 +352,8 @@ impl Store {
         tokens::are_void(self.sections())
     }
 
-    /// How many entries the sections have, without those of the front, or `usize::MAX` if there are more. Takes no memory, and a
-    /// walk over all.
+    /// How many entries the sections have, or `usize::MAX` if there are more. Those of the front don't count. Takes no memory,
+    /// and a walk over all.
     pub fn num_values(&self) -> usize
         ensures { result ≡ min (length (section_entries self.now.sections)) (2 ^ 64 - 1) }
     {

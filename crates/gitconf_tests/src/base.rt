@@ -1,4 +1,4 @@
-//! Sources, metadata, and home folders.
+//! Sources, metadata, and home directories.
 
 use crate::users::homes;
 use gitconf_sources::meta::Metadata;
@@ -186,10 +186,10 @@ fn metadata_is_ordered_and_copied(rt: HostRuntime) -> Result<(), Fail> {
     Ok(())
 }
 
-/// Users, each with a folder. The last folder that was put in counts.
+/// Users, each with a directory. The last directory that was put in counts.
 static USERS: [(&str, &str); 4] = [("u", "/u"), ("v", "/v"), ("", "/e"), ("u", "/w")];
 
-/// Users, and the folder that each has.
+/// Users, and the directory that each has.
 static FOLDERS: [(&str, Option<&str>); 5] = [
     ("u", Some("/w")),
     ("v", Some("/v")),
@@ -198,7 +198,7 @@ static FOLDERS: [(&str, Option<&str>); 5] = [
     ("w", None),
 ];
 
-/// Whether the users have these folders.
+/// Whether the users have these directories.
 fn have_folders(homes: &Homes) -> bool {
     FOLDERS.iter().all(|row| homes.get(row.0) == row.1)
 }

@@ -1,4 +1,4 @@
-//! Files and variables in memory, alone and in the boxes of a host; with each growth refused in turn.
+//! Files and variables in memory, alone and in the boxes of a host; with each allocation refused in turn.
 
 use crate::shim::{Outcome, begin, each_refused, was_refused};
 use gitconf_sources::source::Trust;
@@ -231,7 +231,7 @@ fn a_first_file(alloc: Global) -> Result<Outcome, Fail> {
     Ok(Outcome { refused, fits })
 }
 
-/// Whether these are the bytes of the row, or out of memory if a growth was refused.
+/// Whether these are the bytes of the row, or out of memory if an allocation was refused.
 fn is_outcome(read: &Result<Vec<u8>, FileFault>, row: &Row, refused: bool) -> bool {
     match read {
         Ok(_) => has_bytes(read, row),

@@ -1,5 +1,6 @@
-//! Tests of what is below files: sources, metadata, home folders, hosts in memory, keys, names, tables of sections, events, lookups in a text,
-//! writers that fail, the limit of spans, growths that are refused, the texts of refusals. Also what the tests of files use too.
+//! Tests of what is below files: sources, metadata, home directories, hosts in memory, keys, names, tables of sections, events, lookups
+//! in a text, writers that fail, the limit of spans, growths that are refused, the texts of errors. Also what the tests of files use
+//! too.
 #![tactic(auto)]
 
 #[cfg(test)]

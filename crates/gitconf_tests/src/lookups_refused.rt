@@ -5,7 +5,7 @@ use gitconf_read::error::Error;
 use std::alloc::Global;
 use std::test::Fail;
 
-/// A text, and its refusal: the line, what was looked for, and the data from there on.
+/// A text, and its error: the line, what was looked for, and the data from there on.
 type Row = (&'static [u8], usize, &'static str, &'static [u8]);
 
 static ROWS: [Row; 12] = [

@@ -1,4 +1,4 @@
-//! Texts of refusals of names and of paths.
+//! Texts of errors of names and of paths.
 
 use gitconf_text::NoMemory;
 use gitconf_text::parse::section::{Name, ValueName};
@@ -51,7 +51,7 @@ fn want_of_memory(rt: HostRuntime) -> Result<(), Fail> {
     Ok(())
 }
 
-/// The refusals of a path that isn't UTF-8, and of a user's name that isn't.
+/// The errors of a path that isn't UTF-8, and of a user's name that isn't.
 fn refusals(err: Utf8Error) -> [interpolate::Error; 2] {
     let what = "path to interpolate";
     [

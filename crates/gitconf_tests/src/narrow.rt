@@ -4,7 +4,7 @@ use gitconf_items::sink::{Sink, SinkFault};
 use std::alloc::Global;
 use std::test::Fail;
 
-/// A writer that takes `width` bytes at a time until it has no room, and then fails or takes nothing. It counts both.
+/// A writer that takes `width` bytes at a time until it has no room. Then it fails or takes nothing. It counts both.
 #[derive(Drop)]
 pub struct Narrow {
     taken: Vec<u8>,
@@ -80,8 +80,8 @@ fn is_cut_off<F: Fn(&mut Narrow) -> Result<(), SinkFault>>(
     answer == Err(SinkFault) && text.get(..room) == Some(out.taken.as_slice()) && out.failures == 1
 }
 
-/// A writer with enough room gets the whole text, however little it takes at a time; one with less room returns the
-/// fault once, and took what fits of the text.
+/// A writer with enough room gets the whole text. So it is however little it takes at a time. One with less room
+/// returns the fault once, and took what fits of the text.
 pub fn check<F: Fn(&mut Narrow) -> Result<(), SinkFault>>(
     alloc: Global,
     text: &[u8],

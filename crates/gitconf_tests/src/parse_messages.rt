@@ -1,4 +1,4 @@
-//! Texts and numbers of refusals, and the limit of spans.
+//! Texts and numbers of errors, and the limit of spans.
 
 use gitconf_items::event::Span;
 use gitconf_items::sink::SinkFault;
@@ -7,10 +7,10 @@ use gitconf_text::parse::span;
 use std::alloc::{AllocError, Global};
 use std::test::Fail;
 
-/// What a refusal shows: its number, the line, what was expected there, the rest of the data, and the text.
+/// What an error shows: its number, the line, what was expected there, the rest of the data, and the text.
 type Told<'a> = (u8, usize, &'a str, &'a [u8], &'a str);
 
-/// Whether the refusal shows this.
+/// Whether the error shows this.
 fn tells(alloc: Global, error: &Error, told: Told<'_>) -> Result<bool, AllocError> {
     let text = format!(in alloc; "{error}")?;
     let found = (
@@ -23,7 +23,7 @@ fn tells(alloc: Global, error: &Error, told: Told<'_>) -> Result<bool, AllocErro
     Ok(found == told)
 }
 
-/// A refusal that no text can have: on the last line of all, with no data left.
+/// An error that no text can have: on the last line of all, with no data left.
 #[test]
 fn a_refusal_on_the_last_line(rt: HostRuntime) -> Result<(), Fail> {
     let last = 18446744073709551615;
@@ -55,7 +55,7 @@ fn a_text_that_is_too_large(rt: HostRuntime) -> Result<(), Fail> {
     Ok(())
 }
 
-/// Whether the refusal for out of memory equals itself, and no other refusal.
+/// Whether the error for out of memory equals itself, and no other error.
 fn is_want_of_memory_alone() -> bool {
     Error::memory() == Error::memory() && Error::memory() != Error::too_large(4294967296)
 }
@@ -85,7 +85,7 @@ fn a_writer_that_failed(rt: HostRuntime) -> Result<(), Fail> {
     Ok(())
 }
 
-/// The number of the refusal, if there is no such span.
+/// The number of the error, if there is no such span.
 fn refusal(span: &Result<Span, span::Error>) -> Option<u8> {
     match span {
         Ok(_) => None,
@@ -93,7 +93,7 @@ fn refusal(span: &Result<Span, span::Error>) -> Option<u8> {
     }
 }
 
-/// A start, a length, and the number of the refusal if there is no such span.
+/// A start, a length, and the number of the error if there is no such span.
 #[test]
 fn spans_end_at_the_limit(rt: HostRuntime) {
     let rows = [

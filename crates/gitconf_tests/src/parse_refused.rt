@@ -1,4 +1,4 @@
-//! Calls on events that no command makes, each with one of its growths refused in turn.
+//! Calls on events that no command makes, each with one of its allocations refused in turn.
 
 use crate::events::{read, written};
 use crate::shim::{Outcome, begin, each_refused, was_refused};

@@ -1,5 +1,5 @@
-//! What paths stand for if there is a table of users, which the language of the rows doesn't have; the folders that paths are in,
-//! and joined paths.
+//! What paths stand for if there is a table of users, which the language of the rows doesn't have; the directories that paths are
+//! in, and joined paths.
 
 use crate::users::homes;
 use bstr::BString;
@@ -10,7 +10,7 @@ use gitconf_values::{Homes, Path};
 use std::alloc::{AllocError, Global};
 use std::test::Fail;
 
-/// The number of a refusal.
+/// The number of an error.
 fn number(refusal: &Error) -> u8 {
     match refusal {
         Error::Missing { .. } => 12,
@@ -20,7 +20,7 @@ fn number(refusal: &Error) -> u8 {
     }
 }
 
-/// A path, and what it stands for, or the number of its refusal.
+/// A path, and what it stands for, or the number of its error.
 type Row = (&'static [u8], Result<&'static str, u8>);
 
 /// Whether the path stands for that, or is refused with that number.
@@ -81,7 +81,7 @@ fn folders_of_users(rt: HostRuntime) -> Result<(), Fail> {
     Ok(())
 }
 
-/// Paths, and the folder that each is in.
+/// Paths, and the directory that each is in.
 static FOLDERS: [(&str, Option<&str>); 9] = [
     ("/x", Some("/")),
     ("//x", Some("/")),
@@ -101,7 +101,7 @@ fn folders_of_paths(rt: HostRuntime) {
     }
 }
 
-/// A folder, a path in it, and both joined.
+/// A directory, a path in it, and both joined.
 static JOINED: [(&str, &str, &str); 8] = [
     ("/h", "x", "/h/x"),
     ("/h/", "x", "/h/x"),

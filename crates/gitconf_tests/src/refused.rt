@@ -1,4 +1,4 @@
-//! Calls that no command makes, each with one of its growths refused in turn, and calls that take no memory.
+//! Calls that no command makes, each with one of its allocations refused in turn, and calls that take no memory.
 
 use crate::shim::{Outcome, begin, each_refused, was_refused};
 use crate::users::put;
@@ -98,12 +98,12 @@ fn homes_of(alloc: Global, users: &[&str]) -> Result<Homes, NoMemory> {
     Ok(homes)
 }
 
-/// Whether `u` has this folder, and each of the other users that home.
+/// Whether `u` has this directory, and each of the other users that home.
 fn has_folders(homes: &Homes, users: &[&str], folder: Option<&str>) -> bool {
     users.iter().all(|user| homes.get(user) == Some("/home")) && homes.get("u") == folder
 }
 
-/// The user `u`, and this folder.
+/// The user `u`, and this directory.
 fn user_and_folder(alloc: Global, folder: &str) -> Result<(String, String), AllocError> {
     let user = String::from_str(alloc, "u")?;
     Ok((user, String::from_str(alloc, folder)?))
@@ -142,7 +142,7 @@ fn users(rt: HostRuntime) -> Result<(), Fail> {
     )
 }
 
-/// Whether `u` gets another folder, and no memory is taken.
+/// Whether `u` gets another directory, and no memory is taken.
 fn is_put_without_memory(alloc: Global, homes: &mut Homes) -> Result<bool, AllocError> {
     let (user, folder) = user_and_folder(alloc, "/v")?;
     let is_begun = begin(alloc).is_ok();
@@ -156,7 +156,7 @@ fn is_put_in_place(alloc: Global) -> Result<bool, Fail> {
     Ok(is_put_without_memory(alloc, &mut homes)?)
 }
 
-/// A user that has a folder gets another, and no memory is taken.
+/// A user that has a directory gets another, and no memory is taken.
 #[test]
 fn another_home_folder(rt: HostRuntime) -> Result<(), Fail> {
     assert!(rt; is_put_in_place(rt.alloc())?);

@@ -1,8 +1,8 @@
-//! How a test talks to the shim that refuses a growth (`tools/refuse.c`): by the sizes of two blocks.
+//! How a test talks to the shim that refuses an allocation (`tools/refuse.c`): by the sizes of two blocks.
 //!
 //! The shim, if it is loaded, learns by these blocks where a call begins and ends. In a process it refuses the first
-//! growth of the first call; the next one if it refused one in the last call; and the first one again after a call
-//! in which it refused none. So each call is made until no growth of it is refused, and then gives its full result. Before that, it
+//! allocation of the first call; the next one if it refused one in the last call; and the first one again after a call
+//! in which it refused none. So each call is made until no allocation of it is refused, and then gives its full result. Before that, it
 //! reports that memory ran out, and everything is as it was. Without the shim it is made once.
 use std::alloc::{AllocError, Global};
 use std::test::Fail;
@@ -11,31 +11,31 @@ const BEGIN: usize = 999_979;
 
 const END: usize = 999_983;
 
-/// More growths than any call has.
+/// More allocations than any call has.
 pub const MOST: usize = 1000;
 
-/// From here on growths are counted, and one of them may be refused.
+/// From here on allocations are counted, and one of them may be refused.
 pub fn begin(alloc: Global) -> Result<(), AllocError> {
     let _block: Vec<u8> = Vec::with_capacity(alloc, BEGIN)?;
     Ok(())
 }
 
-/// From here on no growth is refused. Returns whether one was refused since `begin`: then the shim refuses this one too.
+/// From here on no allocation is refused. Returns whether one was refused since `begin`: then the shim refuses this one too.
 pub fn was_refused(alloc: Global) -> bool {
     let block: Result<Vec<u8>, AllocError> = Vec::with_capacity(alloc, END);
     block.is_err()
 }
 
-/// How a call went in which a growth may have been refused.
+/// How a call went in which an allocation may have been refused.
 #[derive(Clone, Copy)]
 pub struct Outcome {
-    /// Whether a growth was refused.
+    /// Whether an allocation was refused.
     pub refused: bool,
-    /// Whether the result is the full one, or else reports that memory ran out and left everything as it was.
+    /// Whether the result is the full one, or else reports that memory ran out. In the second case everything was left as it was.
     pub fits: bool,
 }
 
-/// Makes the call again and again, until no growth of it is refused. Each of its outcomes has to fit.
+/// Makes the call again and again, until no allocation of it is refused. Each of its outcomes has to fit.
 pub fn each_refused<F: Fn(Global) -> Result<Outcome, Fail>>(
     alloc: Global,
     what: &str,

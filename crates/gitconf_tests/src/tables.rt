@@ -293,7 +293,7 @@ fn is_told(table: &SectionList, numbers: &[SectionId], told: &[u8]) -> bool {
     end(table, numbers, told) == Some(told.len())
 }
 
-/// Whether the step was taken. If a growth of it was refused instead, the table is as it was.
+/// Whether the step was taken. If an allocation of it was refused instead, the table is as it was.
 fn is_taken(
     alloc: Global,
     table: &mut SectionList,
@@ -313,7 +313,7 @@ fn is_taken(
     }
 }
 
-/// Takes the step, with each of its growths refused before, and returns whether the table is then as expected.
+/// Takes the step, with each of its allocations refused before, and returns whether the table is then as expected.
 fn leads_to(
     alloc: Global,
     table: &mut SectionList,
@@ -457,7 +457,7 @@ fn is_one_told_apart(alloc: Global) -> Result<bool, span::Error> {
     Ok(stay_apart(&mut table))
 }
 
-/// Names of one word are told apart, or the growth is refused.
+/// Names of one word are told apart, or the allocation is refused.
 fn names_told_apart(alloc: Global) -> Result<Outcome, Fail> {
     begin(alloc)?;
     let answer = is_one_told_apart(alloc);
@@ -546,7 +546,7 @@ fn tables_are_walked_from_both_ends(rt: HostRuntime) -> Result<(), Fail> {
     Ok(())
 }
 
-/// A copy of a table has the same sections under the same numbers, or is refused with each growth.
+/// A copy of a table has the same sections under the same numbers, or is refused with each allocation.
 fn a_table_copied(
     alloc: Global,
     table: &SectionList,

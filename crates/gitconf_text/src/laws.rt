@@ -30,7 +30,7 @@ pub fn escaped_means_itself()
     ensures { (bytes : List ℕ) → plain (escaped bytes) ≡ bytes }
 {}
 
-/// A value as it is written is one value of one piece, if a line ending or the end of the input follows it.
+/// A value as it is written is one value of one piece. This holds if a line ending or the end of the input follows it.
 ///
 /// So its raw text is the written bytes, and its meaning is by `escaped_means_itself` what was to be written.
 pub fn escaped_is_one_value()

@@ -20,7 +20,7 @@ impl<T: Drop> From<AllocFailed<T>> for NoMemory {
     }
 }
 
-/// What caused an error that has one refusal of its own: that refusal, or running out of memory.
+/// What caused an error that has one number of its own: its own cause, or running out of memory.
 #[derive(Clone, Copy, Debug, PartialEq, Eq, PartialOrd, Ord)]
 pub(crate) enum Cause {
     Refused,
@@ -31,7 +31,7 @@ impl Cause {
     ghost use Rattle.std.specs.Prelude.{◌≡◌, codes};
     ghost use Rattle.gitconf_text.specs.Cause.{number_of, text_of};
 
-    /// The number to show, where the refusal's own is `own`.
+    /// The number to show, where the error's own is `own`.
     pub(crate) fn number(self, own: u8) -> u8
         ensures { result ≡ number_of own self }
     {
@@ -41,7 +41,7 @@ impl Cause {
         }
     }
 
-    /// The text to show, where the refusal's own is `own`.
+    /// The text to show, where the error's own is `own`.
     pub(crate) fn text(self, own: &str) -> &str
         ensures { result.now ≡ text_of own.now self }
     {

@@ -26,7 +26,7 @@ impl TryFrom<BString> for Boolean {
     ///
     /// # Errors
     ///
-    /// Refusal 11, `not a boolean`, with the bytes that were given.
+    /// E11, `not a boolean`, with the bytes that were given.
     fn try_from(bytes: BString) -> Result<Boolean, Error> {
         match parse(bytes.as_bytes()) {
             Some(value) => Ok(Boolean(value)),

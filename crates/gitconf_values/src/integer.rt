@@ -32,7 +32,7 @@ pub struct Integer {
 }
 
 impl Integer {
-    /// The number times the factor of its suffix, or `None` if that doesn't fit in 64 bits.
+    /// The number times its suffix's factor; `None` if that doesn't fit in 64 bits.
     pub fn to_decimal(&self) -> Option<i64>
         ensures { result ≡ decimal_of (integer_read self.now) }
     {
@@ -50,7 +50,7 @@ impl TryFrom<BString> for Integer {
     ///
     /// # Errors
     ///
-    /// Refusal 11, `not an integer`, with the bytes that were given.
+    /// E11, `not an integer`, with the bytes that were given.
     fn try_from(bytes: BString) -> Result<Integer, Error> {
         match parse(bytes.as_bytes()) {
             Some(integer) => Ok(integer),
@@ -63,7 +63,7 @@ impl TryFrom<BString> for Integer {
 ///
 /// # Errors
 ///
-/// Refusal 11 with the bytes that were given: `not an integer`, or `Integer overflow` if the product doesn't fit in 64 bits.
+/// E11 with the bytes that were given: `not an integer`, or `Integer overflow` if the product doesn't fit in 64 bits.
 pub fn decimal(bytes: BString) -> Result<i64, Error>
     ensures { result ≡ integer_or_refusal (bstring_bytes bytes) }
 {

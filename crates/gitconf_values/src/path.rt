@@ -1,4 +1,4 @@
-//! Paths as configuration writes them: the folder that one is in, joined paths, and what their shorthands stand for.
+//! Paths as configuration writes them: the directory that one is in, joined paths, and what their shorthands stand for.
 ghost use Rattle.std.specs.Prelude.{◌≡◌, ◌<◌, ◌≤◌, ◌&&◌, IfOk, IfSome, length, string_bytes};
 ghost use Rattle.std.specs.Option.{option_copied};
 ghost use Rattle.gitconf_values.specs.Paths as spec;
@@ -42,7 +42,7 @@ fn last_slash(path: &[u8], end: usize) -> Option<usize>
     None
 }
 
-/// How many bytes of a path are the folder that it is in.
+/// How many bytes of a path are the directory that it is in.
 fn parent_length(path: &[u8]) -> Option<usize>
     ensures { result ≡ spec.parent_length path.now }
 {
@@ -57,8 +57,8 @@ fn parent_length(path: &[u8]) -> Option<usize>
     Some(if left == 0 { 1 } else { left })
 }
 
-/// The folder that a path is in, as a part of the path. There is none for an empty path and for slashes alone; it
-/// is empty for a name alone. Slashes at the end of either are ignored. It takes no memory.
+/// The directory that a path is in, as a part of the path. There is none for an empty path and for slashes alone; it is
+/// empty for a name alone. Slashes at the end of either are ignored. It takes no memory.
 pub fn parent(path: &str) -> Option<&str>
     ensures { option_copied result ≡ spec.parent path.now }
 {
@@ -85,8 +85,8 @@ fn ends_slash(path: &str) -> bool
     trimmed_length(bytes, bytes.len()) < bytes.len()
 }
 
-/// A path in a folder: `rest` itself if it begins with `/` or the folder is empty, otherwise the two with a `/` between,
-/// unless the folder ends with one. It asks for memory once.
+/// A path in a directory: `rest` itself if it begins with `/` or the directory is empty, otherwise the two with a `/`
+/// between, unless the directory ends with one. It asks for memory once.
 ///
 /// # Errors
 ///
@@ -144,14 +144,14 @@ impl Path {
         self.value.as_slice()
     }
 
-    /// The path with its shorthand replaced: `%(prefix)/` by the folder where git is installed,
-    /// `~/` by the home folder, `~user/` by that of the user. Any other path stands for itself. It reads the path
-    /// once, and asks for memory for the result alone.
+    /// The path with its shorthand replaced: `%(prefix)/` by the directory where git is installed, `~/` by the home
+    /// directory, `~user/` by that of the user. Any other path stands for itself. It reads the path once, and asks for
+    /// memory for the result alone.
     ///
     /// # Errors
     ///
-    /// E12 if the path is empty or what the shorthand needs is not known, E14 before that if the name of the
-    /// user isn't UTF-8, E13 last, if the rest of the path isn't UTF-8, and E27.
+    /// E12 if the path is empty or what the shorthand needs is not known, E14 before that if the name of the user isn't
+    /// UTF-8, E13 last, if the rest of the path isn't UTF-8, and E27.
     pub fn interpolate(&self, context: Context<'_>) -> Result<String, Error>
         ensures { Gives result (interpolated (option_copied context.entry.git_install_dir) (option_copied context.entry.home_dir)
             (option_copied context.entry.home_for_user) self.now) }

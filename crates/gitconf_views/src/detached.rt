@@ -100,7 +100,7 @@ pub struct Section {
     pub buffer: Vec<u8>,
     /// The decoded subsection of its header, if it needs one.
     pub copies: Vec<u8>,
-    /// The number that it had in a file; the greatest for one that was in none.
+    /// The number that it had in a file. If it was in none, the greatest number.
     pub id: SectionId,
     /// Its header, where it comes from, and its items.
     pub section: section::Section,
@@ -159,8 +159,9 @@ impl Section {
     ///
     /// # Errors
     ///
-    /// `InvalidName` if a byte of the name is not a letter, digit or dash, otherwise `InvalidSubSection` if the subsection holds LF or
-    /// NUL; otherwise `Span`, number 3, if and only if their text is longer than 4294967295 bytes, and `Memory` when out of memory.
+    /// `InvalidName` (E4) if a byte of the name is not a letter, digit or dash, otherwise `InvalidSubSection` (E5) if the subsection
+    /// holds LF or NUL; otherwise `Span` (E3) if and only if their text is longer than 4294967295 bytes, and `Memory` (E27) when out
+    /// of memory.
     pub fn new(
         alloc: Global,
         name: &str,

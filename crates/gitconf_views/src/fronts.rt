@@ -80,8 +80,8 @@ fn put_behind_front(
 ///
 /// # Errors
 ///
-/// A [`span::Error`]: number 3 if fewer numbers are left than the other table has sections, otherwise 27 when out of memory. All sections
-/// are then as they were.
+/// A [`span::Error`]: E3 if fewer numbers are left than the other table has sections, otherwise E27 when out of memory. All sections are
+/// then as they were.
 fn put_behind_section(
     sections: &mut SectionList,
     at: usize,
@@ -99,8 +99,9 @@ fn put_behind_section(
     sections.append_held(at, line_end, &mut others, other)
 }
 
-/// Adds a line ending, if one is given, and others after what is held after the section at a place, or after the front if there is no
-/// section; and the sections of another table after all others. Takes memory for the items, the places and the indexes.
+/// Adds items after what is held after a section, and another table's sections last. The items are a line ending, if one is given,
+/// and others. They go after what is held after the section at a place, or after the front if there is no section; the sections of
+/// the other table go after all others. Takes memory for the items, the places and the indexes.
 ///
 /// # Errors
 ///

@@ -17,7 +17,7 @@ use gitconf_text::NoMemory;
 use std::alloc::Global;
 use std::rc::Rc;
 
-/// The sections of a text that is being loaded, as far as they were read, all from the same place.
+/// The sections of a text that is being loaded, as far as they were read. All come from the same place.
 #[derive(Drop)]
 pub struct Loading {
     /// Where each of the sections comes from.
@@ -60,8 +60,8 @@ impl Loading {
         }
     }
 
-    /// No sections yet, with room for as many as the text may be expected to have and an eighth more, so that a section put
-    /// after them copies no table.
+    /// No sections yet, with room for those that the text may be expected to have. There is room for an eighth more, so
+    /// that a section put after them copies no table.
     ///
     /// # Errors
     ///

@@ -132,8 +132,8 @@ impl<'a> SectionRef<'a> {
         Blanks::of_items(self.alloc, self.buffer, self.items)
     }
 
-    /// What the entry at a place among the items of the body means, counted in items from 0; without `=` it is
-    /// empty. `None` if no entry is there.
+    /// What the entry at a place among the items of the body means. The place is counted in items from 0. Without `=`
+    /// the meaning is empty. `None` if no entry is there.
     ///
     /// # Errors
     ///

@@ -63,11 +63,11 @@ pub fn move_sections(sections: &mut SectionList, by: u32, copies_by: u32)
     }
 }
 
-/// Adds a section of the buffer after the others, under the next number, and returns that number.
+/// Adds a section of the buffer after the others. It gets the next number, which is returned.
 ///
 /// # Errors
 ///
-/// A [`span::Error`]: number 3 if no number is left, otherwise 27 when out of memory. The table is then as it was.
+/// A [`span::Error`]: E3 if no number is left, otherwise E27 when out of memory. The table is then as it was.
 pub fn put_last(
     buffer: &[u8],
     copies: &[u8],

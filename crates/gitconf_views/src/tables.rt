@@ -9,7 +9,8 @@ use crate::section::SectionRef;
 use gitconf_sections::id::SectionId;
 use gitconf_sections::row;
 
-/// A view of a section that a table has under a number, over the buffer and the copies that its spans are offsets of.
+/// A view of a section that a table has under a number. It is over the buffer and the copies that its spans are offsets
+/// of.
 pub fn view_of<'a>(
     buffer: &'a [u8],
     copies: &'a [u8],

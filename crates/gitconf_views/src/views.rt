@@ -100,8 +100,8 @@ impl<'a> BodyRef<'a> {
     ghost use Rattle.gitconf_sources.specs.Found.{IsFound};
     ghost use Rattle.gitconf_views.specs.Views.{names_left, shown_body};
 
-    /// The meaning of the last entry of the name, without ASCII case; `None` if there is no such entry, or if it has
-    /// no `=`. It walks from the end up to that entry. A miss takes no memory.
+    /// The meaning of the last entry of the name, without ASCII case. It is `None` if there is no such entry, or if it
+    /// has no `=`. It walks from the end up to that entry. A miss takes no memory.
     ///
     /// # Errors
     ///
@@ -115,8 +115,8 @@ impl<'a> BodyRef<'a> {
         }
     }
 
-    /// As [`BodyRef::value`], but it distinguishes an entry without `=`: `None` if there is no entry of the name, `Some(None)` if
-    /// the last one has no `=`. A miss takes no memory.
+    /// Like [`BodyRef::value`], but it distinguishes an entry without `=`: `None` if there is no entry of the name, `Some(None)`
+    /// if the last one has no `=`. A miss takes no memory.
     ///
     /// # Errors
     ///
@@ -131,7 +131,7 @@ impl<'a> BodyRef<'a> {
         Ok(Some(value))
     }
 
-    /// The meanings of all entries of the name, without ASCII case, in order; one without `=` is empty. One pass. If
+    /// The meanings of all entries of the name, without ASCII case, in order. One without `=` is empty. One pass. If
     /// there is none it takes no memory.
     ///
     /// # Errors
@@ -143,7 +143,7 @@ impl<'a> BodyRef<'a> {
         meanings(self.alloc, self.buffer, self.items, value_name.as_bytes())
     }
 
-    /// The names of the entries in order, as they are spelled, each as often as it occurs. Takes no memory.
+    /// The names of the entries in order, as they are spelled. Each comes as often as it occurs. Takes no memory.
     pub fn value_names(&self) -> ValueNames<'a>
         ensures { names_left result ≡ map (λ e. e.name) (entries_of (shown_body self.now)) }
     {
@@ -167,7 +167,7 @@ impl<'a> BodyRef<'a> {
         entry_count(self.items)
     }
 
-    /// Whether the body is empty, without even a blank.
+    /// Whether the body is empty, without even whitespace.
     pub fn is_void(&self) -> bool
         ensures { result ≡ is_empty_body (shown_body self.now) }
     {
@@ -195,7 +195,7 @@ impl<'a> IntoIterator for BodyRef<'a> {
     }
 }
 
-/// The entries of a body in order, each as its name and what it means; one without `=` is empty.
+/// The entries of a body in order, each as its name and what it means. One without `=` is empty.
 ///
 /// A step takes memory for a value alone. If that is refused, the item is an `Err`, and the entry is skipped. After the
 /// last entry it ends for good.
@@ -304,7 +304,7 @@ impl<'a> SectionRef<'a> {
         }
     }
 
-    /// As [`BodyRef::value`] of its body.
+    /// Like [`BodyRef::value`] of its body.
     ///
     /// # Errors
     ///
@@ -315,7 +315,7 @@ impl<'a> SectionRef<'a> {
         self.body().value(value_name)
     }
 
-    /// As [`BodyRef::value_implicit`] of its body.
+    /// Like [`BodyRef::value_implicit`] of its body.
     ///
     /// # Errors
     ///
@@ -326,7 +326,7 @@ impl<'a> SectionRef<'a> {
         self.body().value_implicit(value_name)
     }
 
-    /// As [`BodyRef::values`] of its body.
+    /// Like [`BodyRef::values`] of its body.
     ///
     /// # Errors
     ///
@@ -337,14 +337,14 @@ impl<'a> SectionRef<'a> {
         self.body().values(value_name)
     }
 
-    /// As [`BodyRef::value_names`] of its body.
+    /// Like [`BodyRef::value_names`] of its body.
     pub fn value_names(&self) -> ValueNames<'a>
         ensures { names_left result ≡ map (λ e. e.name) (entries_of (shown self.now).items) }
     {
         self.body().value_names()
     }
 
-    /// As [`BodyRef::contains_value_name`] of its body.
+    /// Like [`BodyRef::contains_value_name`] of its body.
     pub fn contains_value_name(&self, value_name: &str) -> bool
         ensures { result ≡ has_key value_name.now (entries_of (shown self.now).items) }
     {

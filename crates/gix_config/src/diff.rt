@@ -24,7 +24,7 @@ use std::alloc::Global;
 ///
 /// # Errors
 ///
-/// Out of memory.
+/// E27 when out of memory.
 pub fn differences(alloc: Global, one: &File, other: &File) -> Result<Vec<Difference>, NoMemory>
     ensures { IfOk result (λ differences. AreDifferences one.now.sections other.now.sections (map different_of differences.items)) }
 {

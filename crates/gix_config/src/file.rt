@@ -117,7 +117,7 @@ impl File {
     ///
     /// # Errors
     ///
-    /// Out of memory.
+    /// E27 when out of memory.
     pub fn try_clone(&self) -> Result<File, NoMemory>
         ensures { IfOk result (λ f. f ≡ self.now) }
     {
@@ -130,8 +130,8 @@ impl File {
     ///
     /// # Errors
     ///
-    /// Refusal 1 if the text has no document, with the line and the data from where it can't be read on; refusal 2
-    /// for more than 4294967295 bytes; refusal 27 when out of memory.
+    /// E1 if the text has no document, with the line and the data from where it can't be read on; E2 for more than 4294967295 bytes; E27
+    /// when out of memory.
     pub fn try_from_bytes(alloc: Global, input: &[u8]) -> Result<File, Error>
         ensures made { IfOk result (λ f. (parts : List Part) × IsText input.now parts × IsMade (tokens_of parts) api_meta (length input.now) f) }
         ensures document { IfOk result (λ f. Reads input.now (document_of f)) }
@@ -146,7 +146,7 @@ impl File {
         Ok(File { store })
     }
 
-    /// The same file as [`File::try_from_bytes`] makes, of the text itself: the text becomes the buffer, and no byte of it is copied
+    /// The same file as [`File::try_from_bytes`] makes, of the text itself. The text becomes the buffer, and no byte of it is copied
     /// except the names and subsections of sections. An edit that finds no room after the text makes the buffer larger.
     ///
     /// # Errors
@@ -166,9 +166,8 @@ impl File {
         Ok(File { store })
     }
 
-    /// A file for lookups: the text becomes the buffer, as in [`File::try_from_bytes_owned`], and its blanks, line endings and
-    /// comments are left out, so that they take no memory. It has the document of the text, and returns for each lookup what the whole
-    /// file does.
+    /// A file for lookups. The text becomes the buffer, as in [`File::try_from_bytes_owned`], and its whitespace, line endings and comments
+    /// are left out, so that they take no memory. It has the document of the text, and returns for each lookup what the whole file does.
     ///
     /// # Errors
     ///
@@ -185,8 +184,8 @@ impl File {
         Ok(File { store })
     }
 
-    /// The file of the events of a text, all of them or those that a filter kept; it and its sections come from `meta`,
-    /// and no include is followed. What the filter dropped is not in it.
+    /// The file of the events of a text, all or those that a filter kept. It and its sections come from `meta`, and no include is
+    /// followed. What the filter dropped is not in it.
     ///
     /// It requires that all names, separators and values were kept ([`Events::keeps_entries`]); so the file has the text's
     /// document, whatever else was dropped. One pass; the text becomes the buffer, and of it only the
@@ -194,7 +193,7 @@ impl File {
     ///
     /// # Errors
     ///
-    /// Out of memory.
+    /// E27 when out of memory.
     pub fn from_parse_events_no_includes(
         alloc: Global,
         events: Events,
@@ -265,8 +264,8 @@ impl File {
         self.store.sections()
     }
 
-    /// The line ending that the file uses, LF or CR LF: that of the first newline of its front, otherwise of its
-    /// sections' bodies in order; LF if there is none. Takes no memory.
+    /// The line ending that the file uses, LF or CR LF. It is that of the first newline of its front, otherwise of its sections' bodies in
+    /// order; LF if there is none. Takes no memory.
     pub fn detect_newline_style(&self) -> &'static [u8]
         ensures { result.now ≡ file_line_end self.now }
     {
@@ -280,18 +279,17 @@ impl File {
         self.store.is_void()
     }
 
-    /// How many entries the sections have, without those of the front, or `usize::MAX` if there are more. Takes no memory, and a
-    /// walk over all.
+    /// How many entries the sections have, without those of the front. It is `usize::MAX` if there are more. Takes no memory, and a walk
+    /// over all.
     pub fn num_values(&self) -> usize
         ensures { result ≡ min (length (section_entries self.now.sections)) (2 ^ 64 - 1) }
     {
         self.store.num_values()
     }
 
-    /// Gives a key such as `remote.origin.url` a value: in the last section of the key's name and subsection, whose last entry of the
-    /// name gets it, as a file spells it; `=` is added if the entry has none. A section without such an entry gets a new one after
-    /// all others, with the blanks that it uses; if there is no section, one is made after all others, with the file's line ending and
-    /// metadata.
+    /// Gives a key such as `remote.origin.url` a value. In the last section of the key's name and subsection, the last entry of the name
+    /// gets it, as a file spells it; `=` is added if the entry has none. A section without such an entry gets a new one after all others,
+    /// with the whitespace that it uses; if there is no section, one is made after all others, with the file's line ending and metadata.
     ///
     /// Returns the raw text of the value that was there: its pieces joined, not decoded; no bytes for an entry without `=`; `None` if
     /// there was no entry. All else stays as it is. The section is found by its names: it takes a walk over the sections of the key's name
@@ -300,9 +298,9 @@ impl File {
     ///
     /// # Errors
     ///
-    /// Refusal 6 for an invalid value name, before anything else; 4 and 5 if a section has to be made of a name or a
-    /// subsection that can't be one; 3 if the file would take more than 4294967295 bytes, or there is no number for a section; 27 when
-    /// out of memory. The file is then as it was.
+    /// E6 for an invalid value name, before anything else; E4 and E5 if a section has to be made of a name or a subsection that can't be
+    /// one; E3 if the file would take more than 4294967295 bytes, or there is no number for a section; E27 when out of memory. The file is
+    /// then as it was.
     pub fn set_raw_value<K: AsKey>(
         &mut self,
         key: K,
@@ -322,7 +320,7 @@ impl File {
         )
     }
 
-    /// As [`File::set_raw_value`], by the names of the section, the subsection and the value.
+    /// Like [`File::set_raw_value`], but by the names of the section, the subsection and the value.
     ///
     /// # Errors
     ///
@@ -344,7 +342,7 @@ impl File {
             .set_raw_value_by(section_name, subsection_name, value_name, new_value)
     }
 
-    /// As [`File::set_raw_value`], in the last section whose metadata passes the filter.
+    /// Like [`File::set_raw_value`], but in the last section whose metadata passes the filter.
     ///
     /// # Errors
     ///
@@ -375,7 +373,7 @@ impl File {
         )
     }
 
-    /// As [`File::set_raw_value_filter`], by the names of the section, the subsection and the value.
+    /// Like [`File::set_raw_value_filter`], but by the names of the section, the subsection and the value.
     ///
     /// # Errors
     ///
@@ -408,8 +406,8 @@ impl File {
         )
     }
 
-    /// Writes the front and the sections that `filter` keeps, with line endings inserted where parts would otherwise run
-    /// together. One pass, which takes no memory of its own.
+    /// Writes the front and the sections that `filter` keeps. Line endings are inserted where parts would otherwise run together. One
+    /// pass, which takes no memory of its own.
     ///
     /// # Errors
     ///
@@ -452,7 +450,7 @@ impl File {
     ///
     /// # Errors
     ///
-    /// Out of memory.
+    /// E27 when out of memory.
     pub fn to_bstring(&self) -> Result<BString, NoMemory>
         ensures text { IfOk result (λ text. bstring_bytes text ≡ printed self.now) }
         ensures reads { IsClean self.now → IfOk result (λ text. Reads (bstring_bytes text) (document_of self.now)) }

@@ -1,2 +1,2 @@
-//! The layout of texts.
+//! The formatter of texts.
 pub use gitconf_layout::format::{Indent, Newline, Options, normalize};

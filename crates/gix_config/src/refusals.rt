@@ -1,4 +1,4 @@
-//! The numbers of refusals, E1 to E28, as programs show them.
+//! The numbers of errors, E1 to E28, as programs show them.
 ghost use Rattle.std.specs.Prelude.{◌≡◌};
 
 use crate::file::section_mut;

@@ -13,7 +13,7 @@ use gix_config::File;
 use gix_config::refusals::Refusal as _;
 use std::alloc::Global;
 
-/// Appends a copy of another file: its sections come after those of the file, and what is before its first section after the file's last.
+/// Appends a copy of another file. Its sections come after those of the file, and what is before its first section after the file's last.
 /// The other file stays as it is.
 ///
 /// 3 if the file would be too long. 102 if a handle has no file, 27 when out of memory. The file is then as it was.

@@ -1,4 +1,4 @@
-//! Bytes that a call hands out.
+//! Bytes that a call returns.
 ghost use Rattle.gix_config_c.specs.Blocks.{Holds, IsFreed, LieAt};
 
 use crate::object::Object;
@@ -17,7 +17,7 @@ pub struct Block {
 }
 
 impl Block {
-    /// Puts bytes into the block, in the place of those that it had, which are freed. Takes no memory: the room was made before.
+    /// Puts bytes into the block, in place of those that it had, which are freed. Takes no memory: the room was made before.
     pub fn put(&mut self, mut room: Box<Object>, bytes: Vec<u8>)
         ensures { Holds bytes.items self.new }
     {
@@ -56,7 +56,7 @@ impl Span {
     }
 }
 
-/// The room for an object that is yet to come, or `None` when out of memory.
+/// Room for an object that is yet to come, or `None` when out of memory.
 pub fn room(alloc: Global) -> Option<Box<Object>> {
     Box::new(alloc, Object::Bytes(Vec::new(alloc))).ok()
 }

@@ -16,7 +16,7 @@ use gix_config::{File, NoMemory};
 use std::alloc::Global;
 
 /// Tells whether two files are equal: the same sections in order, with the same keys that mean the same. Names are compared without ASCII
-/// case. Comments, blanks, what comes before the first section and where sections come from aren't compared.
+/// case. Comments, whitespace, what comes before the first section and where sections come from aren't compared.
 ///
 /// 102 if a handle has no file; the boolean is then as it was.
 #[unsafe(no_mangle)]
@@ -51,9 +51,9 @@ fn tell_if_same(file: &File, other: &File, equal: &mut bool) -> u32
     DONE
 }
 
-/// Hands out what two files say differently, sorted by key: of each key of which they say different things the entries of the file, in
-/// order, and then those of the other file. What was in the list's handle is closed. The list is empty if and only if both say the same of
-/// every key: their entries of it mean the same in order, and look-ups of it find the same value.
+/// Returns what two files say differently, sorted by key. Of each key of which they say different things it is the entries of the file,
+/// in order, and then those of the other file. What was in the list's handle is closed. The list is empty if and only if both say the same
+/// of every key: their entries of it mean the same in order, and look-ups of it find the same value.
 ///
 /// 102 if a handle of a file has none, 27 when out of memory; the list's handle is then as it was.
 #[unsafe(no_mangle)]

@@ -1,10 +1,10 @@
-//! What two files mean differently, as a call hands it out.
+//! What two files mean differently, as a call returns it.
 ghost use Rattle.gix_config_c.specs.Differences.{DifferenceLiesAt};
 
 use crate::entry::{Entry, EntryPlace};
 use gitconf_diff::setting::Side;
 
-/// An entry of one of two files, at a key of which they say different things.
+/// An entry of one of two files, of whose key they say different things.
 #[derive(Drop)]
 pub struct Difference {
     /// The file that has it.

@@ -24,8 +24,8 @@ use gix_config::file::section::value;
 use gix_config::refusals::Refusal as _;
 use std::alloc::Global;
 
-/// Adds an entry to the last section of the key's names, after all others that it has: also one of a name that is there already. Without a
-/// value it is the name alone, which is true as a boolean.
+/// Adds an entry to the last section of the key's names. It comes after all others that the section has, also if one of them has its name.
+/// Without a value it is the name alone, which is true as a boolean.
 ///
 /// 7 or 8 if there is no such section, 6 for a name that can't be a value's, 3 if the file would be too long. 101 if the section's or the
 /// value's name is not UTF-8, 102 if the handle has no file, 27 when out of memory. The file is then as it was.
@@ -77,7 +77,7 @@ fn push_entry(section: &mut SectionMut<'_>, name: &str, value: Option<&[u8]>) ->
     answered(section.push(name, value))
 }
 
-/// The number of an answer: 0, or that of the refusal.
+/// The number of an answer: 0, or that of the error.
 pub(crate) fn answered(pushed: Result<(), value::Error>) -> u32
     ensures { result ≡ entries.answered pushed }
 {
@@ -87,8 +87,8 @@ pub(crate) fn answered(pushed: Result<(), value::Error>) -> u32
     }
 }
 
-/// Removes the last entry of the key's name from the last section of the key's names, with the blanks before it and the line endings after
-/// it, and hands out the raw text of its value. What the block had is freed.
+/// Removes the last entry of the key's name from the key's last section. That is the last section of the key's names. The whitespace before
+/// the entry and the line endings after it are removed, too. Returns the raw text of its value. What the block had is freed.
 ///
 /// 7 or 8 if there is no such section, 100 if it has no such entry, so that there is none to remove. 101 if the section's or the value's
 /// name is not UTF-8, 102 if the handle has no file, 27 when out of memory; the file is then as it was. The block is so after any number
@@ -123,7 +123,7 @@ fn remove(alloc: Global, file: &mut File, key: &Key<'_>, old: &mut Block) -> u32
     }
 }
 
-/// Removes the last entry of the name. The room for what it hands out comes first.
+/// Removes the last entry of the name. The room for what it returns comes first.
 pub(crate) fn remove_entry(
     alloc: Global,
     section: &mut SectionMut<'_>,

@@ -17,7 +17,7 @@ use gitconf_diff::settings::add_settings;
 use gix_config::{File, NoMemory};
 use std::alloc::Global;
 
-/// Hands out all entries of a file, in order, in one pass. What was in the list's handle is closed. Entries before the first section are
+/// Returns all entries of a file, in order, in one pass. What was in the list's handle is closed. Entries before the first section are
 /// not among them: no key names them.
 ///
 /// 102 if the handle has no file, 27 when out of memory; the list's handle is then as it was.

@@ -1,4 +1,4 @@
-//! The entries of a file, as a call hands them out.
+//! The entries of a file, as a call returns them.
 ghost use Rattle.gix_config_c.specs.EntryPlaces.{LieAtIf, LiesAt};
 
 use crate::block::Span;

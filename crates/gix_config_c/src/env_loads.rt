@@ -32,8 +32,9 @@ use gix_config::refusals::Refusal as _;
 use gix_config::{File, NoMemory};
 use std::alloc::Global;
 
-/// Loads the file of the entries that variables of the environment set (`GIT_CONFIG_COUNT`, `GIT_CONFIG_KEY_0`, `GIT_CONFIG_VALUE_0` and so
-/// on), with what it includes, from what a program told of variables and of files. What was in the file's handle before is closed.
+/// Loads the file of the entries that variables of the environment set. These are `GIT_CONFIG_COUNT`, `GIT_CONFIG_KEY_0`,
+/// `GIT_CONFIG_VALUE_0` and so on. The file is loaded with what it includes, from what a program told of variables and of files. What was
+/// in the file's handle before is closed.
 ///
 /// 100 if they set none. 105 if nothing was told of a variable that is needed, 103 if nothing was told of a file that is included: its name
 /// or path is then in the block, whose bytes from before are freed; tell it, and call again. 23 for a count that is no number; of an entry
@@ -144,7 +145,7 @@ fn value_variable(alloc: Global, index: usize) -> Result<String, NoMemory>
     Ok(format!(in alloc; "GIT_CONFIG_VALUE_{index}")?)
 }
 
-/// Hands out the name of a variable. The number is that of the refusal if something was told of the variable, else 105; or 27 when out of
+/// Returns the name of a variable. The number is that of the error if something was told of the variable, else 105; or 27 when out of
 /// memory.
 fn ask_about(alloc: Global, told: &Told, name: String, refusal: u32, asked: &mut Block) -> u32
     ensures answer { IsAskedAbout told.now (string_bytes name) refusal result asked.new }
@@ -191,7 +192,7 @@ fn ask_about_count(alloc: Global, told: &Told, refusal: u32, asked: &mut Block) 
     }
 }
 
-/// The number of refused variables. Hands out the name of the variable or the path of the file that it is about.
+/// The number of refused variables. Returns the name of the variable or the path of the file that it is about.
 pub(crate) fn refused_env(
     alloc: Global,
     told: &Told,

@@ -14,7 +14,7 @@ use gix_config::File;
 use gix_config::refusals::Refusal as _;
 use std::alloc::Global;
 
-/// Gives the last entry of a key another value: in the last section of the key's names that has one. No entry is made.
+/// Gives the last entry of a key another value. It is that of the last section of the key's names that has one. No entry is made.
 ///
 /// 7 or 8 if there is no such section, 6 for a name that can't be a value's, 9 if none of the sections has such an entry, 3 if the file would
 /// be too long. 101 if the section's or the value's name is not UTF-8, 102 if the handle has no file, 27 when out of memory. The file is then
@@ -51,8 +51,8 @@ fn set_value(file: &mut File, key: &Key<'_>, value: &[u8]) -> u32
     }
 }
 
-/// Gives the entries of a key other values: the first entry the first value, and so on, up to the end of the shorter list; in all sections of
-/// the key's names, in the order in which these were made. No entry is made.
+/// Gives the entries of a key other values, one after the other. The first entry gets the first value, and so on, up to the end of the
+/// shorter list. The entries are those in all sections of the key's names, in the order in which these were made. No entry is made.
 ///
 /// 7 or 8 if there is no such section, 6 for a name that can't be a value's, 9 if none of the sections has such an entry: the file is then as
 /// it was. 3 if the file would be too long, 27 when out of memory: the entries before the one that was refused then have their values. 101

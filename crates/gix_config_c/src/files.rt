@@ -1,4 +1,4 @@
-//! The text of a file, and what is handed out.
+//! The text of a file, and what is returned.
 ghost use Rattle.std.specs.Prelude.{◌≡◌, ◌⊎◌, Some};
 ghost use Rattle.gix_config_c.specs.Blocks.{Holds, IsFreed, IsKept};
 ghost use Rattle.gitconf_state.specs.Printing.{printed};
@@ -12,7 +12,7 @@ use crate::{DONE, OUT_OF_MEMORY};
 use gix_config::File;
 use std::alloc::Global;
 
-/// Hands out the text of a file. What the block had is freed.
+/// Returns the text of a file. What the block had is freed.
 ///
 /// 102 if the handle has no file, 27 when out of memory; the block is then as it was.
 #[unsafe(no_mangle)]
@@ -48,7 +48,7 @@ pub extern "C" fn gix_config_bytes_free(alloc: Global, bytes: &mut Block)
     bytes.free(alloc);
 }
 
-/// Tells in words what the number of a refusal says. The text stays for good; it is empty for a number that no call answers.
+/// Tells in words what the number of an error says. The text stays for good; it is empty for a number that no call answers.
 #[unsafe(no_mangle)]
 pub extern "C" fn gix_config_refusal_text(number: u32, text: &mut &'static [u8])
     ensures { text.new.now ≡ message_of number }

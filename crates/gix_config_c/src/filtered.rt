@@ -19,8 +19,8 @@ use gitconf_items::sink::SinkFault;
 use gix_config::{File, NoMemory};
 use std::alloc::Global;
 
-/// As gix_config_value, in the sections that the filter keeps: the numbers 7 and 8 are those of gix_config_value, and 9 is also that none
-/// of the sections that are kept has such a value.
+/// Like gix_config_value, but in the sections that the filter keeps. The numbers 7 and 8 are those of gix_config_value, and 9 is also
+/// that none of the sections that are kept has such a value.
 #[unsafe(no_mangle)]
 pub extern "C" fn gix_config_value_filter(
     alloc: Global,
@@ -36,7 +36,7 @@ pub extern "C" fn gix_config_value_filter(
     in_handle!(alloc, &file, Object::File(f) => put_value(alloc, f, key, Some(filter), value))
 }
 
-/// As gix_config_values, in the sections that the filter keeps. The numbers are those of gix_config_value_filter.
+/// Like gix_config_values, but in the sections that the filter keeps. The numbers are those of gix_config_value_filter.
 #[unsafe(no_mangle)]
 pub extern "C" fn gix_config_values_filter(
     alloc: Global,
@@ -52,7 +52,7 @@ pub extern "C" fn gix_config_values_filter(
     in_handle!(alloc, &file, Object::File(f) => put_values(alloc, f, key, Some(filter), list))
 }
 
-/// As gix_config_boolean, in the sections that the filter keeps. The numbers are the same.
+/// Like gix_config_boolean, but in the sections that the filter keeps. The numbers are the same.
 #[unsafe(no_mangle)]
 pub extern "C" fn gix_config_boolean_filter(
     alloc: Global,
@@ -68,7 +68,7 @@ pub extern "C" fn gix_config_boolean_filter(
     in_handle!(alloc, &file, Object::File(f) => put_boolean(f, key, Some(filter), value))
 }
 
-/// As gix_config_integer, in the sections that the filter keeps. The numbers are the same.
+/// Like gix_config_integer, but in the sections that the filter keeps. The numbers are the same.
 #[unsafe(no_mangle)]
 pub extern "C" fn gix_config_integer_filter(
     alloc: Global,
@@ -84,7 +84,8 @@ pub extern "C" fn gix_config_integer_filter(
     in_handle!(alloc, &file, Object::File(f) => put_integer(f, key, Some(filter), value))
 }
 
-/// Hands out the text of what comes before the first section, and of the sections that the filter keeps. What the block had is freed.
+/// Returns the text of the front and the sections that the filter keeps. The front is what comes before the first section. What the
+/// block had is freed.
 ///
 /// 102 if the handle has no file, 27 when out of memory; the block is then as it was.
 #[unsafe(no_mangle)]

@@ -24,7 +24,7 @@ use gix_config::File;
 use gix_config::host::{Host, Places};
 use std::alloc::Global;
 
-/// Hands out the name of a variable of which nothing was told.
+/// Returns the name of a variable of which nothing was told.
 pub(crate) fn ask_for_variable(alloc: Global, name: &str, asked: &mut Block) -> u32
     ensures answer { (result ≡ 27) ⊎ ((result ≡ 105) × Holds name.now asked.new) }
     ensures kept { result ≡ 27 → IsKept asked.old asked.new }
@@ -39,9 +39,9 @@ pub(crate) fn ask_for_variable(alloc: Global, name: &str, asked: &mut Block) -> 
     VARIABLE_NOT_TOLD
 }
 
-/// Loads the configuration of the machine and of the user, from what a program told of files and of variables: the files that were installed
-/// with git, of the machine, and the user's two, in this order, each with what it includes; an empty file if there is none. What was in the
-/// file's handle before is closed.
+/// Loads the configuration of the machine and of the user. It is loaded from what a program told of files and of variables: the files that
+/// were installed with git, of the machine, and the user's two, in this order, each with what it includes; an empty file if there is none.
+/// What was in the file's handle before is closed.
 ///
 /// 105 if nothing was told of a variable that says where these files are, 103 if nothing was told of a file that is needed: its name or path
 /// is then in the block, whose bytes from before are freed; tell it, and call again. 21 if one of these files, and 19 or 20 if one that is

@@ -9,21 +9,22 @@ use crate::key::text;
 use gitconf_includes::includes;
 use gitconf_includes::includes::conditional::{Context, GitDir};
 
-/// How includes are followed: ten files deep; deeper ones are refused, and so is a path relative to the folder of a file that has no path.
+/// How includes are followed: ten files deep; deeper ones are refused, and so is a path relative to the directory of a file that has no
+/// path.
 #[repr(C)]
 pub struct Includes<'a> {
-    /// Whether a path is refused whose shorthand stands for nothing, and a condition on the repository's folder if there is no repository;
-    /// else such an include is left out.
+    /// Whether an include that lacks something is refused; else it is left out. That is a path whose shorthand stands for nothing, or a
+    /// condition on the repository's directory if there is no repository.
     pub strict: bool,
-    /// Whether blanks, line endings and comments of the files that are read are left out.
+    /// Whether whitespace, line endings and comments of the files that are read are left out.
     pub lossy: bool,
-    /// The folders that the shorthands of paths stand for.
+    /// The directories that the shorthands of paths stand for.
     pub folders: Folders<'a>,
     /// Whether there is a repository.
     pub has_git_folder: bool,
-    /// The folder of the repository, for the conditions `gitdir:` and `gitdir/i:`.
+    /// The directory of the repository, for the conditions `gitdir:` and `gitdir/i:`.
     pub git_folder: &'a [u8],
-    /// The same folder, with its symbolic links resolved.
+    /// The same directory, with its symbolic links resolved.
     pub real_git_folder: &'a [u8],
     /// Whether there is a branch.
     pub has_branch: bool,
@@ -31,7 +32,7 @@ pub struct Includes<'a> {
     pub branch: &'a [u8],
 }
 
-/// The folder of the repository, if there is one; `None` for one that is not UTF-8.
+/// The directory of the repository, if there is one; `None` for one that is not UTF-8.
 fn git_dir<'a>(includes: &'a Includes<'_>) -> Option<Option<GitDir<'a>>>
     ensures { option_map (λ dir. option_map git_folder dir) result ≡ git_folder_of includes.now }
 {
@@ -46,7 +47,7 @@ fn git_dir<'a>(includes: &'a Includes<'_>) -> Option<Option<GitDir<'a>>>
     }))
 }
 
-/// The same for the library, but for `lossy`; or `None` if a text that is known is not UTF-8.
+/// The same for the library, but for `lossy`. `None` if a text that is known is not UTF-8.
 pub fn followed<'a>(includes: &'a Includes<'_>) -> Option<includes::Options<'a>>
     ensures { option_map (λ o. record (rules_of_includes o) { lossy = includes.now.lossy }) result ≡ rules_of includes.now }
 {

@@ -1,21 +1,21 @@
-//! How a text is laid out, as a program in C says it.
+//! How a text is formatted, as a program in C says it.
 ghost use Rattle.std.specs.Prelude.{◌≡◌};
 ghost use Rattle.gitconf_layout.specs.Layout.{default_options};
 ghost use Rattle.gix_config_c.specs.Layouts.{indent_of, limit_of, newline_of, options_of};
 
 use gitconf_layout::format::{Indent, Newline, Options};
 
-/// How a text is laid out. gix_config_layout_default fills it.
+/// How a text is formatted. gix_config_layout_default fills it.
 #[derive(Drop)]
 #[repr(C)]
 pub struct Layout {
-    /// Whether the blanks stay that are before a comment on a line of its own before the first header.
+    /// Whether whitespace stays before comments on lines of their own before the first header.
     pub keeps_root_blanks: bool,
     /// If they don't stay: whether tabs come in their place, else spaces.
     pub has_root_tabs: bool,
     /// And how many.
     pub root_indent: usize,
-    /// Whether tabs come before a name or a comment that begins a line after a header, else spaces.
+    /// Whether tabs come before what begins a line after a header, else spaces. That is a name or a comment.
     pub has_tabs: bool,
     /// And how many.
     pub indent: usize,

@@ -1,4 +1,4 @@
-//! Texts, laid out, and path patterns: calls that need no handle.
+//! Formatted texts, and path patterns: calls that need no handle.
 ghost use Rattle.std.specs.Prelude.{◌≡◌, ◌⊎◌};
 ghost use Rattle.gitconf_glob.specs.Pattern.{matches};
 ghost use Rattle.gix_config_c.specs.Blocks.{IsKept};
@@ -25,9 +25,9 @@ pub extern "C" fn gix_config_layout_default(layout: &mut Layout)
     *layout = Layout::usual();
 }
 
-/// Hands out a text laid out: its lines written again, with the same sections, entries and comments. What the block had is freed.
+/// Returns a formatted text: its lines written again, with the same sections, entries and comments. What the block had is freed.
 ///
-/// Refusal 1 for a text that can't be read on at some place, 2 for one of more than 4294967295 bytes; then the place says where, else it
+/// 1 for a text that can't be read on at some place, 2 for one of more than 4294967295 bytes; then the place says where, else it
 /// is as it was. 27 when out of memory. The block is as it was after any number but 0.
 #[unsafe(no_mangle)]
 pub extern "C" fn gix_config_normalize(

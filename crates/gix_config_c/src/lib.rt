@@ -1,6 +1,6 @@
 //! Git's configuration files for programs in C.
 //!
-//! Each call answers a number: 0 when it is done, that of a refusal (docs/refusals.md), or another of those below. What a call does is said
+//! Each call answers a number: 0 when it is done, that of an error (docs/refusals.md), or another of those below. What a call does is said
 //! by its contract for every content of every handle, also an empty one or one that holds something else.
 #![tactic(auto)]
 
@@ -87,10 +87,10 @@ pub const SUBSECTION_MISSING: u32 = 8;
 /// The sections have no such value.
 pub const KEY_MISSING: u32 = 9;
 
-/// The value is not of the type that is asked for, or 64 bits don't hold it.
+/// The value is not of the type asked for, or 64 bits don't hold it.
 pub const BAD_VALUE: u32 = 11;
 
-/// A path needs a folder that is not known, or is empty.
+/// A path needs a directory that is not known, or is empty.
 pub const MISSING_FOLDER: u32 = 12;
 
 /// A path is not UTF-8.
@@ -108,7 +108,7 @@ pub const MISSING_CONFIG_PATH: u32 = 16;
 /// The condition of an include is about a repository, and there is none.
 pub const MISSING_GIT_DIR: u32 = 17;
 
-/// The repository's folder can't be resolved.
+/// The repository's directory can't be resolved.
 pub const REALPATH: u32 = 18;
 
 /// A file that is included can't be opened.

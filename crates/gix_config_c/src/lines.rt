@@ -20,8 +20,9 @@ use gix_config::file::{SectionId, SectionMut};
 use gix_config::refusals::Refusal as _;
 use std::alloc::Global;
 
-/// Adds an entry to the section at a place, counted from 0, below its last entry, or below its header if it has none: comments and blank
-/// lines behind it stay behind the new one. It is where `git config` puts a new entry.
+/// Adds an entry to the section at a place, below its last entry. The place is counted from 0. If the section has no entry, the new one
+/// comes below the header. Comments and blank lines behind the last entry, or behind the header, stay behind the new one. It is where `git
+/// config` puts a new entry.
 ///
 /// 100 if there is no such section, 6 for a name that can't be a value's, 3 if the file would be too long. 101 if the name is not UTF-8, 102
 /// if the handle has no file, 27 when out of memory. The file is then as it was.
@@ -74,7 +75,8 @@ fn put_below(section: &mut SectionMut<'_>, name: &str, value: &[u8]) -> u32
     }
 }
 
-/// Adds a line ending, the file's, to the section at a place, counted from 0, after all that it has: a blank line.
+/// Adds a line ending to the section at a place, after all that it has. The place is counted from 0, and the line ending is the file's: a
+/// blank line.
 ///
 /// 100 if there is no such section, 3 if the file would be too long. 102 if the handle has no file, 27 when out of memory. The file is then
 /// as it was.
@@ -120,9 +122,9 @@ fn push_end(section: &mut SectionMut<'_>) -> u32
     }
 }
 
-/// Removes the marked entries of a name from the section at a place, counted from 0: the first of its entries of the name goes if the first
-/// mark is true, and so on; those behind the last mark stay. Each goes with the blanks before it and the line endings after it. Tells how
-/// many went.
+/// Removes the marked entries of a name from the section at a place. The place is counted from 0. The first of the section's entries of the
+/// name goes if the first mark is true, and so on; those behind the last mark stay. Each goes with the whitespace before it and the line
+/// endings after it. Tells how many went.
 ///
 /// 100 if there is no such section. 101 if the name is not UTF-8, 102 if the handle has no file, 27 when out of memory; the file is then as it
 /// was, and so is the count.

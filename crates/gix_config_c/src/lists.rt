@@ -1,4 +1,4 @@
-//! Lists that calls hand out.
+//! Lists that calls return.
 ghost use Rattle.std.specs.Prelude.{◌≡◌, ◌⊎◌, None, Some};
 ghost use Rattle.gix_config_c.specs.Lists.{IsAt, IsLength, IsTextAt};
 

@@ -33,7 +33,7 @@ pub struct Wanted<'a> {
     pub trust: Trust,
     /// How includes are followed.
     pub includes: includes::Options<'a>,
-    /// Whether blanks, line endings and comments are left out.
+    /// Whether whitespace, line endings and comments are left out.
     pub lossy: bool,
 }
 

@@ -145,7 +145,7 @@ fn loaded(
     File::from_paths_metadata_of(alloc, metas, options, &mut files)
 }
 
-/// The number of a refused load. Hands out the path of a file that can't be opened or read, or whose text is refused.
+/// The number of a refused load. Returns the path of a file that can't be opened or read, or whose text is refused.
 pub(crate) fn refused_load(
     alloc: Global,
     told: &ToldFiles,
@@ -170,7 +170,7 @@ pub(crate) fn refused_load(
     }
 }
 
-/// The number of a refused include. Hands out the path of a file that can't be opened or read, or whose text is refused.
+/// The number of a refused include. Returns the path of a file that can't be opened or read, or whose text is refused.
 pub(crate) fn refused_include(
     alloc: Global,
     told: &ToldFiles,
@@ -194,7 +194,7 @@ pub(crate) fn refused_include(
     }
 }
 
-/// The number of the parser's refusal of the file at a path, which is handed out.
+/// The number of the parser's error for the file at a path, which is returned.
 fn refused_text(
     alloc: Global,
     told: &ToldFiles,
@@ -212,7 +212,7 @@ fn refused_text(
     }
 }
 
-/// Hands out the path of a file. The number is that of the refusal if something was told of the file, else 103; or 27 when out of memory.
+/// Returns the path of a file. The number is that of the error if something was told of the file, else 103; or 27 when out of memory.
 fn ask(alloc: Global, told: &ToldFiles, at: &str, refusal: u32, path: &mut Block) -> u32
     ensures answer { (result ≡ 27) ⊎ ((result ≡ (if is_told told.now at.now then refusal else 103)) × Holds at.now path.new) }
     ensures kept { result ≡ 27 → (refusal ≡ 27 → ⊥) → IsKept path.old path.new }
@@ -227,7 +227,7 @@ fn ask(alloc: Global, told: &ToldFiles, at: &str, refusal: u32, path: &mut Block
     if told.knows(at) { refusal } else { NOT_TOLD }
 }
 
-/// Reads the files that a file's sections include, from what a program told, and puts each after the section that includes it.
+/// Reads the files that a file's sections include, from what a program told. Each is put after the section that includes it.
 ///
 /// 103 if a file is needed of which nothing was told: its path is then in the block, whose bytes from before are freed; tell it, and call
 /// again. 19 or 20 if one was told to have a fault, 1 or 2 if the text of one is refused: its path is then in the block, too. 3 and 12 to 18

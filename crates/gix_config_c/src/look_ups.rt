@@ -21,7 +21,7 @@ use gix_config::refusals::Refusal as _;
 use gix_config::{File, NoMemory};
 use std::alloc::Global;
 
-/// Hands out what the last value of a key means. What the block had is freed.
+/// Returns what the last value of a key means. What the block had is freed.
 ///
 /// 7, 8 or 9 if there is none: no section has the name, none of these has the subsection, or these have no such value. 101 if the
 /// section's or the value's name is not UTF-8, 102 if the handle has no file, 27 when out of memory. The block is then as it was.
@@ -65,7 +65,7 @@ pub(crate) fn put_value(
     }
 }
 
-/// Hands out what all values of a key mean, one or more, in file order. What was in the list's handle is closed.
+/// Returns what all values of a key mean, one or more, in file order. What was in the list's handle is closed.
 ///
 /// The numbers of gix_config_value; the list's handle is then as it was.
 #[unsafe(no_mangle)]
@@ -125,7 +125,7 @@ fn vectors(alloc: Global, found: Vec<BString>) -> Result<Vec<Vec<u8>>, NoMemory>
     Ok(texts)
 }
 
-/// Tells what the last value of a key means as a boolean; an entry without `=` is true.
+/// Tells what the last value of a key means as a boolean. An entry without `=` is true.
 ///
 /// 100 if there is no entry, 11 for a value that is no boolean. 101 if the section's or the value's name is not UTF-8, 102 if the handle
 /// has no file, 27 when out of memory. The boolean is then as it was.

@@ -12,8 +12,8 @@ use crate::{DONE, OUT_OF_MEMORY};
 use gitconf_sources::meta::Metadata;
 use std::alloc::Global;
 
-/// Tells where a file comes from, and hands out its path, if it has one: that of the file itself, also where its sections come from others.
-/// What the block had is freed then.
+/// Tells where a file comes from, and returns its path, if it has one. The path is that of the file itself, also where its sections come
+/// from others. What the block had is freed then.
 ///
 /// 102 if the handle has no file, 27 when out of memory. Origin and block are then as they were.
 #[unsafe(no_mangle)]
@@ -42,7 +42,7 @@ fn tell_meta(alloc: Global, meta: &Metadata, origin: &mut Origin, path: &mut Blo
     number
 }
 
-/// Hands out the path, if there is one.
+/// Returns the path, if there is one.
 fn hand_out(alloc: Global, meta: &Metadata, path: &mut Block) -> u32
     ensures number { (result ≡ 0) ⊎ (result ≡ 27) }
     ensures done { result ≡ 0 → IsPathHeld meta.now.path path.old path.new }

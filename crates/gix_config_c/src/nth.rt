@@ -18,8 +18,9 @@ use gix_config::file::MultiValueMut;
 use gix_config::refusals::Refusal as _;
 use std::alloc::Global;
 
-/// Gives one of the entries of a key another value: that at an index, counted from 0, among those of all sections of the key's names, in the
-/// order in which these were made. It is rewritten, with the name as the key has it; nothing of its old value stays. No entry is made.
+/// Gives one of the entries of a key another value. It is that at an index, counted from 0, among those of all sections of the key's names,
+/// in the order in which these were made. It is rewritten, with the name as the key has it; nothing of its old value stays. No entry is
+/// made.
 ///
 /// 100 for an index past the last one. 7 or 8 if there is no such section, 6 for a name that can't be a value's, 9 if none of the sections has
 /// such an entry, 3 if the file would be too long. 101 if the section's or the value's name is not UTF-8, 102 if the handle has no file, 27
@@ -73,8 +74,9 @@ fn set_one(entries: &mut MultiValueMut<'_>, index: usize, value: &[u8]) -> u32
     }
 }
 
-/// Deletes one of the entries of a key: that at an index, counted from 0, among those of all sections of the key's names, in the order in which
-/// these were made. Its name, `=` and value go, with the blanks between them; the blanks before and the line ending after them stay.
+/// Deletes one of the entries of a key. It is that at an index, counted from 0, among those of all sections of the key's names, in the
+/// order in which these were made. Its name, `=` and value go, with the whitespace between them; the whitespace before and the line ending
+/// after them stay.
 ///
 /// 100 for an index past the last one. 7 or 8 if there is no such section, 6 for a name that can't be a value's, 9 if none of the sections has
 /// such an entry. 101 if the section's or the value's name is not UTF-8, 102 if the handle has no file, 27 when out of memory. The file is then

@@ -44,8 +44,8 @@ pub(crate) fn id_at(file: &File, place: usize) -> Option<SectionId>
     }
 }
 
-/// Adds a line to the section at a place, counted from 0, after all others that it has: also one of a name that is there already, with the
-/// blanks that the section uses. A comment comes after ` #`.
+/// Adds a line to the section at a place, after all others that it has. The place is counted from 0. The line may be one of a name that is
+/// there already, and has the whitespace that the section uses. A comment comes after ` #`.
 ///
 /// 100 if there is no such section, 6 for a name that can't be a value's, 3 if the file would be too long. 101 if the name is not UTF-8, 102
 /// if the handle has no file, 27 when out of memory. The file is then as it was.
@@ -104,8 +104,8 @@ fn push_line(section: &mut SectionMut<'_>, name: &str, line: &Line<'_>) -> u32
     }
 }
 
-/// Gives the last entry of a name in the section at a place, counted from 0, another value; a section without such an entry gets a new one.
-/// Tells whether there was an entry, and hands out the raw text of its value; what the block had is freed then.
+/// Gives the last entry of a name in a section another value. The section is the one at a place, counted from 0; without such an entry it
+/// gets a new one. Tells whether there was an entry, and returns the raw text of its value; what the block had is freed then.
 ///
 /// 100 if there is no such section, 6 for a name that can't be a value's, 3 if the file would be too long. 101 if the name is not UTF-8, 102
 /// if the handle has no file, 27 when out of memory. File, block and boolean are then as they were.
@@ -169,7 +169,7 @@ fn set_numbered(
     }
 }
 
-/// Gives an entry of a section a value. The room for what it hands out comes first.
+/// Gives an entry of a section a value. The room for what it returns comes first.
 fn set_entry(
     alloc: Global,
     section: &mut SectionMut<'_>,
@@ -201,8 +201,8 @@ fn set_entry(
     }
 }
 
-/// Removes the last entry of a name from the section at a place, counted from 0, with the blanks before it and the line endings after it,
-/// and hands out the raw text of its value. What the block had is freed.
+/// Removes the last entry of a name from the section at a place. The place is counted from 0. The whitespace before the entry and the line
+/// endings after it are removed, too. Returns the raw text of its value. What the block had is freed.
 ///
 /// 100 if there is no such section, or it has no such entry. 101 if the name is not UTF-8, 102 if the handle has no file, 27 when out of
 /// memory; the file is then as it was. The block is so after any number but 0.
@@ -255,8 +255,9 @@ fn remove_numbered(
     }
 }
 
-/// Removes the last entry from the section at a place, counted from 0, whatever its name, with the blanks before it and all that is after
-/// it; hands out its name as it is spelled, and what its value means: nothing for an entry without `=`. What the blocks had is freed.
+/// Removes the last entry from the section at a place, whatever its name. The place is counted from 0. The whitespace before the entry and
+/// all that is after it are removed, too. Returns its name as it is spelled, and what its value means: nothing for an entry without `=`.
+/// What the blocks had is freed.
 ///
 /// 100 if there is no such section, or it has no entry: then all that it has goes. 102 if the handle has no file, 27 when out of memory; the
 /// file is then as it was. The blocks are so after any number but 0.
@@ -306,7 +307,7 @@ fn pop_numbered(
     }
 }
 
-/// Removes the last entry of a section. The room for what it hands out comes first.
+/// Removes the last entry of a section. The room for what it returns comes first.
 fn pop_entry(
     alloc: Global,
     section: &mut SectionMut<'_>,

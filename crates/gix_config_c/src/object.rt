@@ -12,15 +12,15 @@ use gix_config::File;
 pub enum Object {
     /// A file of configuration.
     File(File),
-    /// Bytes that a call handed out.
+    /// Bytes that a call returned.
     Bytes(Vec<u8>),
-    /// Texts that a call handed out.
+    /// Texts that a call returned.
     Texts(Vec<Vec<u8>>),
-    /// The entries of a file, as a call handed them out.
+    /// The entries of a file, as a call returned them.
     Entries(Vec<Entry>),
-    /// The sections of a file, as a call handed them out.
+    /// The sections of a file, as a call returned them.
     Sections(Vec<Section>),
-    /// What two files mean differently, as a call handed it out.
+    /// What two files mean differently, as a call returned it.
     Differences(Vec<Difference>),
     /// What a program told of files.
     Told(Told),

@@ -54,7 +54,7 @@ fn tell(text: &[u8], refusal: &parse::Error, place: &mut Fault)
     place.column = column(&text[..offset]);
 }
 
-/// The number of the refusal of a text. Tells where the text can't be read on, unless memory ran out.
+/// The number of the error of a text. Tells where the text can't be read on, unless memory ran out.
 pub(crate) fn refused(text: &[u8], refusal: &parse::Error, place: &mut Fault) -> u32
     ensures number { result ≡ refusal.now.number }
     ensures place { (result ≡ 27 → ⊥) → IsPlace text.now refusal.now place.new }
@@ -68,10 +68,10 @@ pub(crate) fn refused(text: &[u8], refusal: &parse::Error, place: &mut Fault) ->
     number
 }
 
-/// Opens the file of a text. With `lossy` its blanks, line endings and comments are left out: it is for look-ups then. What was in the
+/// Opens the file of a text. With `lossy` its whitespace, line endings and comments are left out: it is for look-ups then. What was in the
 /// handle before is closed.
 ///
-/// Refusal 1 for a text that can't be read on at some place, 2 for one of more than 4294967295 bytes, 27 when out of memory; the handle
+/// 1 for a text that can't be read on at some place, 2 for one of more than 4294967295 bytes, 27 when out of memory; the handle
 /// is then as it was. For 1 and 2 the place says where; else it is as it was.
 #[unsafe(no_mangle)]
 pub extern "C" fn gix_config_file_parse(
@@ -108,7 +108,7 @@ fn put_opened(
     }
 }
 
-/// As gix_config_file_parse, of a text that comes from somewhere else than the calling program. Its includes are not followed:
+/// Like gix_config_file_parse, but of a text that comes from somewhere else than the calling program. Its includes are not followed:
 /// gix_config_resolve_includes_told reads them.
 ///
 /// The numbers of gix_config_file_parse; 101 if it has a path that is not UTF-8, else 104 if no source or trust has the number. The handle is

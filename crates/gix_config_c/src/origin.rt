@@ -11,10 +11,10 @@ pub const SOURCE_GIT_INSTALLATION: u32 = 1;
 /// The configuration of the whole machine.
 pub const SOURCE_SYSTEM: u32 = 2;
 
-/// The user's configuration in `git/config` of the folder for configuration.
+/// The user's configuration in `git/config` of the directory for configuration.
 pub const SOURCE_GIT: u32 = 4;
 
-/// The user's configuration in `.gitconfig` of the home folder.
+/// The user's configuration in `.gitconfig` of the home directory.
 pub const SOURCE_USER: u32 = 8;
 
 /// The repository's configuration.

@@ -17,12 +17,12 @@ use gix_config::refusals::Refusal as _;
 use gix_config::{File, Path};
 use std::alloc::Global;
 
-/// Hands out the last value of a key as a path, with the shorthand at its front replaced: `%(prefix)/` by the folder where git is
-/// installed, `~/` by the user's home folder. What the block had is freed.
+/// Returns the last value of a key as a path, its shorthand replaced. At the front of the path `%(prefix)/` is replaced by the directory
+/// where git is installed, `~/` by the user's home directory. What the block had is freed.
 ///
-/// 100 if there is none. 12 for an empty value, or one that needs a folder that is not known, as those of other users; 13 for a path that
-/// is not UTF-8, 14 for the name of a user that is not. 101 if the section's or the value's name, or a folder that is known, is not UTF-8,
-/// 102 if the handle has no file, 27 when out of memory. The block is then as it was.
+/// 100 if there is none. 12 for an empty value, or one that needs a directory that is not known, as those of other users; 13 for a path
+/// that is not UTF-8, 14 for the name of a user that is not. 101 if the section's or the value's name, or a directory that is known, is not
+/// UTF-8, 102 if the handle has no file, 27 when out of memory. The block is then as it was.
 #[unsafe(no_mangle)]
 pub extern "C" fn gix_config_path(
     alloc: Global,

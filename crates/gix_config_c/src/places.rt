@@ -16,20 +16,20 @@ pub struct KnownPlaces<'a> {
     pub has_installation: bool,
     /// Its path, if there is some.
     pub installation: &'a [u8],
-    /// The folder that `etc/gitconfig` is in, the configuration of the whole machine: `/` for most.
+    /// The directory that `etc/gitconfig` is in, the configuration of the whole machine: `/` for most.
     pub system_prefix: &'a [u8],
-    /// Whether the user's home folder is known.
+    /// Whether the user's home directory is known.
     pub has_home: bool,
-    /// The user's home folder, for `~/` in the paths of includes.
+    /// The user's home directory, for `~/` in the paths of includes.
     pub home: &'a [u8],
 }
 
-/// A repository: its folders, and the places of configuration besides.
+/// A repository: its directories, and the places of configuration besides.
 #[repr(C)]
 pub struct Repository<'a> {
-    /// The folder of the repository, such as `/home/ada/project/.git`: its configuration is in the file `config` there.
+    /// The directory of the repository, such as `/home/ada/project/.git`: its configuration is in the file `config` there.
     pub git_folder: &'a [u8],
-    /// The same folder, with its symbolic links resolved.
+    /// The same directory, with its symbolic links resolved.
     pub real_git_folder: &'a [u8],
     /// The places of configuration.
     pub places: KnownPlaces<'a>,
@@ -40,18 +40,18 @@ pub struct Repository<'a> {
 pub struct PlaceTexts<'a> {
     /// The path of the configuration that was installed with git.
     pub installation: Option<&'a str>,
-    /// The folder that `etc/gitconfig` is in.
+    /// The directory that `etc/gitconfig` is in.
     pub system_prefix: &'a str,
-    /// The user's home folder.
+    /// The user's home directory.
     pub home: Option<&'a str>,
 }
 
 /// A repository as text.
 #[derive(Clone, Copy)]
 pub struct RepositoryTexts<'a> {
-    /// The folder of the repository.
+    /// The directory of the repository.
     pub folder: &'a str,
-    /// The same folder, with its symbolic links resolved.
+    /// The same directory, with its symbolic links resolved.
     pub real: &'a str,
     /// The places of configuration.
     pub places: PlaceTexts<'a>,
@@ -71,7 +71,7 @@ pub fn texts<'a>(places: &'a KnownPlaces<'_>) -> Option<PlaceTexts<'a>>
     })
 }
 
-/// The repository as text, or `None` if a folder or a place that is known is not UTF-8.
+/// The repository as text. `None` if a directory or a place that is known is not UTF-8.
 pub fn repository_text<'a>(repository: &'a Repository<'_>) -> Option<RepositoryTexts<'a>>
     ensures { option_map repository_texts result ≡ repository_of repository.now }
 {

@@ -15,7 +15,7 @@ use gitconf_sources::key::KeyRef;
 use gitconf_values::{Boolean, integer};
 use std::alloc::Global;
 
-/// Tells the names of a key that is written in one text, such as `remote.origin.url`: the section's is before the first dot, the value's
+/// Tells the names of a key that is written in one text, such as `remote.origin.url`. The section's is before the first dot, the value's
 /// behind the last one, and the subsection's between them, if these are two. They lie in the text, and are not checked further.
 ///
 /// 100 for a text without a dot, 101 if the section's or the value's name is not UTF-8. The key is then as it was.
@@ -59,7 +59,7 @@ fn fill<'a>(text: &'a [u8], names: KeyRef<'a>, key: &mut Key<'a>)
     key.name = names.value_name.as_bytes();
 }
 
-/// Tells what a text means as a boolean, as gix_config_boolean does of the value of a key.
+/// Tells what a text means as a boolean. gix_config_boolean does the same for the value of a key.
 ///
 /// 11 for a text that is no boolean, 27 when out of memory. The boolean is then as it was.
 #[unsafe(no_mangle)]
@@ -79,7 +79,7 @@ pub extern "C" fn gix_config_boolean_parse(alloc: Global, text: &[u8], value: &m
     }
 }
 
-/// Tells what a text means as an integer, times its suffix, as gix_config_integer does of the value of a key.
+/// Tells what a text means as an integer, times its suffix. gix_config_integer does the same for the value of a key.
 ///
 /// 11 for a text that is no integer, or one that 64 bits don't hold, 27 when out of memory. The integer is then as it was.
 #[unsafe(no_mangle)]

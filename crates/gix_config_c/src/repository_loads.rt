@@ -26,8 +26,8 @@ use gix_config::host::{Host, Places};
 use gix_config::refusals::Refusal as _;
 use std::alloc::Global;
 
-/// Loads the configuration of a repository, from what a program told of files and of variables: that of the machine and of the user
-/// (gix_config_load_globals_told), of the repository (`config` in its folder), of its worktree (`config.worktree`, if
+/// Loads the configuration of a repository. It is loaded from what a program told of files and of variables: that of the machine and of the
+/// user (gix_config_load_globals_told), of the repository (`config` in its directory), of its worktree (`config.worktree`, if
 /// `extensions.worktreeConfig` is true), and the entries that variables set (gix_config_load_env_told), one after the other, each with what
 /// it includes. What was in the file's handle before is closed.
 ///
@@ -72,7 +72,7 @@ fn load_repository(
     }
 }
 
-/// The same, with its folders and the places as text, once all is told of the variables that it always needs.
+/// The same, with its directories and the places as text, once all is told of the variables that it always needs.
 fn load_repository_at(
     alloc: Global,
     told: &Told,
@@ -128,7 +128,7 @@ fn untold_for_repository(told: &Told) -> Option<&'static str>
     )
 }
 
-/// The configuration of a repository, or the number of the refusal, with what that is about in the block.
+/// The configuration of a repository, or the number of the error, with what that is about in the block.
 fn loaded_repository(
     alloc: Global,
     told: &Told,
@@ -164,7 +164,7 @@ fn repository_file(
     File::from_git_dir(alloc, texts.folder, Ok(texts.real), &mut host)
 }
 
-/// The number of a refused repository. Hands out the name of the variable or the path of the file that it is about.
+/// The number of a refused repository. Returns the name of the variable or the path of the file that it is about.
 fn refused_repository(
     alloc: Global,
     told: &Told,

@@ -1,4 +1,4 @@
-//! The sections of a file, as a call hands them out.
+//! The sections of a file, as a call returns them.
 ghost use Rattle.gix_config_c.specs.SectionPlaces.{SectionLiesAt};
 
 use crate::block::Span;

@@ -19,7 +19,8 @@ use gitconf_views::section::{SectionRef, Sections};
 use gix_config::{File, NoMemory};
 use std::alloc::Global;
 
-/// Hands out the sections of a file, in order: their names, where they come from, and how many entries each has. What was in the list's handle is closed.
+/// Returns the sections of a file, in order: their names, where they come from, and how many entries each has. What was in the list's
+/// handle is closed.
 ///
 /// 102 if the handle has no file, 27 when out of memory; the list's handle is then as it was.
 #[unsafe(no_mangle)]
@@ -97,7 +98,8 @@ fn path_of(alloc: Global, meta: &Metadata) -> Result<Option<Vec<u8>>, NoMemory>
     }
 }
 
-/// Tells where the names of a section of a list lie, counted from 0, where it comes from, and how many entries it has. They lie there until the list is closed.
+/// Tells where the names of a section of a list lie. Sections are counted from 0. Tells also where the section comes from, and how many
+/// entries it has. The names lie there until the list is closed.
 ///
 /// 100 for a number past the end, 102 if the handle has no list of sections; the place is then as it was.
 #[unsafe(no_mangle)]
@@ -128,8 +130,8 @@ fn tell_section(sections: &[Section], index: usize, section: &mut SectionPlace) 
     }
 }
 
-/// Hands out the entries of a section, counted from 0 as in the list of gix_config_sections, in order. What was in the list's handle is
-/// closed.
+/// Returns the entries of a section, in order. Sections are counted from 0 as in the list of gix_config_sections. What was in the list's
+/// handle is closed.
 ///
 /// 100 for a number past the end, 102 if the handle has no file, 27 when out of memory; the list's handle is then as it was.
 #[unsafe(no_mangle)]

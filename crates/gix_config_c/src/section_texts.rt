@@ -14,8 +14,8 @@ use gitconf_views::section::SectionRef;
 use gix_config::File;
 use std::alloc::Global;
 
-/// Hands out the text of the section at a place, counted from 0: its header, and all that stands between it and the next one, with a line
-/// ending put in where two of its parts would otherwise run together. What the block had is freed.
+/// Returns the text of the section at a place, counted from 0. It is its header, and all that stands between it and the next one, with
+/// a line ending put in where two of its parts would otherwise run together. What the block had is freed.
 ///
 /// 100 if there is no such section, 102 if the handle has no file, 27 when out of memory. The block is then as it was.
 #[unsafe(no_mangle)]

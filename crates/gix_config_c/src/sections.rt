@@ -111,7 +111,8 @@ fn new_section(
     }
 }
 
-/// Gives all sections that have the name, without ASCII case, and exactly the subsection, another name and subsection.
+/// Gives all sections of a name and subsection another name and subsection. These are the sections that have the name, without ASCII case,
+/// and exactly the subsection.
 ///
 /// 7 or 8 if there is none: no section has the name, or none of these has the subsection. 4 for a name and 5 for a subsection that a section
 /// can't be made of, 3 if the file would be too long. 101 if a name is not UTF-8, 102 if the handle has no file, 27 when out of memory. The

@@ -16,8 +16,8 @@ use gix_config::File;
 use gix_config::refusals::Refusal as _;
 use std::alloc::Global;
 
-/// Gives a key a value: in the last section of its names, whose last entry of the name gets it. A section without such an entry gets a
-/// new one; if there is no section, one is made. Tells whether there was an entry, and hands out the raw text of its value; what the
+/// Gives a key a value. In the last section of its names the last entry of the name gets it. A section without such an entry gets a
+/// new one; if there is no section, one is made. Tells whether there was an entry, and returns the raw text of its value; what the
 /// block had is freed then.
 ///
 /// 6 for a name that can't be a value's, 4 or 5 if a section has to be made of names that can't be one's, 3 if the file would be too

@@ -33,7 +33,7 @@ pub extern "C" fn gix_config_told_new(alloc: Global, told: &mut Slot) -> u32
     put_list(alloc, Object::Told(nothing), told)
 }
 
-/// Tells the text of the file at a path, in place of what was told of the path before. The text is copied.
+/// Tells the text of the file at a path. It replaces what was told of the path before. The text is copied.
 ///
 /// 101 if the path is not UTF-8, 102 if the handle is not one for what is told, 27 when out of memory; what was told is then as it was.
 #[unsafe(no_mangle)]
@@ -62,7 +62,7 @@ fn tell_text(alloc: Global, told: &mut ToldFiles, path: &[u8], text: &[u8]) -> u
     tell(alloc, told, path, Report::Text(copy))
 }
 
-/// Tells that no file is at a path, in place of what was told of the path before: an include of it is left out.
+/// Tells that no file is at a path. This replaces what was told of the path before. An include of it is left out.
 ///
 /// 101 if the path is not UTF-8, 102 if the handle is not one for what is told, 27 when out of memory; what was told is then as it was.
 #[unsafe(no_mangle)]
@@ -83,8 +83,8 @@ fn tell_missing(alloc: Global, told: &mut ToldFiles, path: &[u8]) -> u32
     tell(alloc, told, path, Report::Missing)
 }
 
-/// Tells that the file at a path can't be opened, or, if it opens, that it can't be read; in place of what was told of the path before. A
-/// load that needs it is refused.
+/// Tells that the file at a path can't be opened, or can't be read. If it opens, it can't be read. This replaces what was told of the path
+/// before. A load that needs the file is refused.
 ///
 /// 101 if the path is not UTF-8, 102 if the handle is not one for what is told, 27 when out of memory; what was told is then as it was.
 #[unsafe(no_mangle)]
@@ -136,8 +136,8 @@ fn tell(alloc: Global, told: &mut ToldFiles, path: &str, report: Report) -> u32
     }
 }
 
-/// Tells what a variable of the environment is set to, in place of what was told of it before. The bytes are copied. Of bytes that are not
-/// UTF-8 a key or a value can't be made, and a variable that says where a file is counts as not set then.
+/// Tells what a variable of the environment is set to. This replaces what was told of it before. The bytes are copied. Of bytes that are
+/// not UTF-8 a key or a value can't be made, and a variable that says where a file is counts as not set then.
 ///
 /// 101 if the name is not UTF-8, 102 if the handle is not one for what is told, 27 when out of memory; what was told is then as it was.
 #[unsafe(no_mangle)]
@@ -166,7 +166,7 @@ fn tell_value(alloc: Global, told: &mut ToldVariables, name: &[u8], value: &[u8]
     }
 }
 
-/// Tells that a variable of the environment isn't set, in place of what was told of it before.
+/// Tells that a variable of the environment isn't set. This replaces what was told of it before.
 ///
 /// 101 if the name is not UTF-8, 102 if the handle is not one for what is told, 27 when out of memory; what was told is then as it was.
 #[unsafe(no_mangle)]

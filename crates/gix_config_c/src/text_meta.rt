@@ -19,7 +19,7 @@ use std::rc::Rc;
 pub struct TextMeta<'a> {
     /// Whether it is that of a file with a path.
     pub has_path: bool,
-    /// The path of its file, if there is one: that of an include is relative to its folder.
+    /// The path of its file, if there is one: that of an include is relative to its directory.
     pub path: &'a [u8],
     /// The place that it stands for: one of the sources' numbers.
     pub source: u32,

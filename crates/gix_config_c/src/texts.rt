@@ -16,10 +16,10 @@ use crate::{DONE, NOT_UTF8, NOTHING_THERE, OUT_OF_MEMORY};
 use gitconf_parse::lookup::{value_in, values_in};
 use std::alloc::Global;
 
-/// Hands out what the last value of a key means in a text: what gix_config_value hands out of its file, which isn't made. The text is
-/// read once. What the block had is freed.
+/// Returns what the last value of a key means in a text. It is what gix_config_value returns for the text's file, which isn't made.
+/// The text is read once. What the block had is freed.
 ///
-/// 100 if there is none. Refusal 1 for a text that can't be read on at some place, 2 for one of more than 4294967295 bytes; then the
+/// 100 if there is none. 1 for a text that can't be read on at some place, 2 for one of more than 4294967295 bytes; then the
 /// place says where, else it is as it was. 101 if the section's or the value's name is not UTF-8, 27 when out of memory. The block is as
 /// it was after any number but 0.
 #[unsafe(no_mangle)]
@@ -51,8 +51,8 @@ pub extern "C" fn gix_config_text_value(
     }
 }
 
-/// Hands out what all values of a key mean in a text, in order: what gix_config_values hands out of its file, which isn't made. The text
-/// is read once. What was in the list's handle is closed.
+/// Returns what all values of a key mean in a text, in order. It is what gix_config_values returns for the text's file, which isn't
+/// made. The text is read once. What was in the list's handle is closed.
 ///
 /// The numbers of gix_config_text_value; the list's handle is as it was after any but 0.
 #[unsafe(no_mangle)]

@@ -15,10 +15,10 @@ use crate::told::ToldFiles;
 use crate::{DONE, NOT_UTF8, NOTHING_THERE, key};
 use std::alloc::Global;
 
-/// Tells where the text that was told of a path can't be read on: a load that needs that file is refused. The text is read once more. A load
-/// that is answered with 1 or 2 leaves in its block the path of the refused file.
+/// Tells where the text that was told of a path can't be read on. A load that needs that file is refused. The text is read once more. A
+/// load that is answered with 1 or 2 leaves in its block the path of the refused file.
 ///
-/// Refusal 1 for a text that can't be read on at some place, 2 for one of more than 4294967295 bytes; then the place says where, else it is
+/// 1 for a text that can't be read on at some place, 2 for one of more than 4294967295 bytes; then the place says where, else it is
 /// as it was. 0 for a text that can be read, 100 if no text was told of the path. 101 if the path is not UTF-8, 102 if the handle is not one
 /// for what is told, 27 when out of memory.
 #[unsafe(no_mangle)]

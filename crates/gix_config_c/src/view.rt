@@ -59,11 +59,11 @@ pub struct SectionRow {
     pub entries_at: usize,
     /// How many entries it has: they stand one after the other.
     pub entries_len: usize,
-    /// Its number in its file, which stays whatever is added or removed around it, and which no other section gets.
+    /// Its number in its file. It stays whatever is added or removed around the section, and no other section gets it.
     pub number: usize,
 }
 
-/// The arrays of a view, and the text in which the bytes of their rows lie.
+/// The arrays of a view, and the text that has the bytes of their rows.
 #[derive(Drop)]
 pub struct Arrays {
     /// The bytes.
@@ -100,7 +100,7 @@ pub struct View {
 }
 
 impl View {
-    /// Puts arrays into the view, in the place of those that it had, which are freed. Takes no memory: the room was made before.
+    /// Puts arrays into the view, in place of those that it had, which are freed. Takes no memory: the room was made before.
     pub fn put(&mut self, mut room: Box<Object>, arrays: Arrays)
         ensures { PointsTo arrays self.new }
     {

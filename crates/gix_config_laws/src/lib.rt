@@ -63,9 +63,9 @@ pub use gitconf_includes::laws as includes;
 /// Those of files that are loaded by their paths.
 pub use gitconf_loaders::laws as loaders;
 
-/// A new editor writes what edits ask of an editor: for a section that is found by its names, whatever a filter answers, or by its number, for one
-/// that is made, and for a value in the section of a number. It stays so with other blanks before names, and with line endings switched on or off. What it asks of
-/// the state holds of every file (`state` of [`File::sections`](gix_config::File::sections)).
+/// A new editor writes what edits ask of an editor: for a section that is found by its names, whatever a filter answers, or by its number,
+/// for one that is made, and for a value in the section of a number. It stays so with other whitespace before names, and with line endings
+/// switched on or off. What it asks of the state holds of every file (`state` of [`File::sections`](gix_config::File::sections)).
 pub fn new_editors_are_editors()
     ensures found { (name : List ℕ) (subsection : Option (List ℕ)) (keeps : Meta → Bool) (state : State) (s : SectionState) → HasItems state
         → picked name subsection keeps state ≡ Some s → IsEditor (editor_of state s) }
@@ -79,7 +79,7 @@ pub fn new_editors_are_editors()
     ensures ends { (on : Bool) (editor : Editor) → IsEditor editor → IsEditor (record editor { ends = on }) }
 {}
 
-/// A new editor of a section of a clean file puts only spaces and tabs before names, so its edits leave the file clean.
+/// A new editor of a clean file's section puts only spaces and tabs before names. So its edits leave the file clean.
 pub fn new_editors_of_clean_files_put_blanks()
     ensures found { (name : List ℕ) (subsection : Option (List ℕ)) (keeps : Meta → Bool) (state : State) (s : SectionState) → IsClean state
         → picked name subsection keeps state ≡ Some s → has_blank_leading (editor_of state s) ≡ true }
@@ -93,13 +93,13 @@ pub fn new_editors_of_clean_files_put_blanks()
         → has_blank_leading (editor_of state (new_section name subsection state)) ≡ true }
 {}
 
-/// What an editor's edit, or a new section, adds to the buffer is no longer than the tokens that it makes.
+/// An editor's edit adds no more to the buffer than the tokens that it makes. The same holds for a new section.
 pub fn edits_put_no_more_than_their_tokens()
     ensures { (edit : Edit) (state : State) → put_bytes edit state ≤ new_bytes edit state }
 {}
 
-/// The file that variables set is clean, and that of the overrides, if no key names a section with an empty name and no subsection, and no
-/// file that is included has an entry before its first section.
+/// Under two conditions the file that variables set and that of the overrides are clean. No key names a section with an empty name and no
+/// subsection, and no file that is included has an entry before its first section.
 pub fn files_of_variables_are_clean()
     ensures made { (variables : List ℕ → VariableReport) (asks : Asks) (file : State) → HaveSectionNames variables → IncludeHeaded variables asks
         → IsFromEnv (Some variables) asks (Ok (Some file)) → IsClean file × (entries_of file.front ≡ []) }
@@ -108,8 +108,9 @@ pub fn files_of_variables_are_clean()
         → IsOverrides (Some variables) places table (Ok file) → IsClean file × (entries_of file.front ≡ []) }
 {}
 
-/// If the host says what is at each path and what each variable is set to, the file that variables set has one outcome, apart from running out
-/// of memory, and so have the overrides and the configuration of a repository: one file, or a refusal of one number.
+/// With a given host, configurations have one outcome, apart from running out of memory. If the host says what is at each path and what
+/// each variable is set to, the file that variables set has this one outcome, and so have the overrides and the configuration of a
+/// repository: one file, or an error of one number.
 pub fn configurations_have_one_outcome()
     ensures made { (variables : List ℕ → VariableReport) (asks : Asks) (files : List ℕ → FileReport) → asks.table ≡ Some files
         → HasOneOutcome (IsFromEnv (Some variables) asks) }
@@ -119,16 +120,17 @@ pub fn configurations_have_one_outcome()
         (real : Result (List ℕ) FileFault) → HasOneOutcome (IsRepository (Some variables) places (Some files) dir real) }
 {}
 
-/// The file that variables set says the same where what it includes is loaded lossy, if neither load is refused.
+/// A lossy load of variables says the same as a full one, if both succeed. It is the file that variables set, where what it includes is
+/// loaded lossy.
 pub fn lossy_loads_of_variables_say_the_same()
     ensures { (variables : List ℕ → VariableReport) (rules : Rules) (files : List ℕ → FileReport) (full lossy : State)
         → IsFromEnv (Some variables) (asks_with false rules files) (Ok (Some full)) → IsFromEnv (Some variables) (asks_with true rules files) (Ok (Some lossy))
         → SayTheSame full lossy }
 {}
 
-/// The configuration of a repository is clean, and has no entry before its first section, if no key of variables names a section with an empty
-/// name and no subsection, and no file that is read, or that a section names, has an entry before its first section: so what is written of it reads back. No
-/// file has such an entry if no text that the host tells has one.
+/// Under two conditions the configuration of a repository is clean. It also has no entry before its first section, so what is written of it
+/// reads back. The conditions are that no key of variables names a section with an empty name and no subsection, and that no file that is
+/// read, or that a section names, has an entry before its first section. No file has such an entry if no text that the host tells has one.
 pub fn repositories_are_clean()
     ensures clean { (variables : List ℕ → VariableReport) (places : Places) (table : Option (List ℕ → FileReport)) (dir : List ℕ)
         (real : Result (List ℕ) FileFault) (file : State) → HaveSectionNames variables → IsHeadedRepository variables places table dir real
@@ -137,8 +139,8 @@ pub fn repositories_are_clean()
         → AreHeaded files → IsHeadedRepository variables places (Some files) dir real }
 {}
 
-/// What the contract of an edit says is what [`headline`] asks of one, for each kind of result: it ends with its answer, which the result shows, or
-/// refused for the cause that its refusal tells.
+/// What an edit's contract says is what [`headline`] asks of one. This is so for each kind of result: the edit ends with its answer, which
+/// the result shows, or refused for the cause that its error tells.
 pub fn calls_end_as_their_contracts_say()
     ensures pushes { (edit : Edit) (result : Result (Unit {0}) ValueError) (old new : State) → IfOk result (λ _. Done ≡ answer edit old)
         → IsEdited value_refusal edit result old new → (ending : Ending) × Ends edit old ending new × IsOneEnding (λ _. Done) value_refusal ending result }
@@ -195,14 +197,16 @@ pub fn calls_end_as_their_contracts_say()
         × Ends (NewSection name subsection) old ending new × IsOneEnding (λ e. Number (number_of e)) header_refusal ending result) }
 {}
 
-/// After every list of calls that change a file, done or refused, each as its contract says, what is written of the file reads back.
+/// After calls that change a file, what is written of it reads back. It does after every list of them, done or refused, each as its
+/// contract says.
 ///
-/// The calls are all edits, values set and sections renamed whatever a filter answers, values of existing entries set, one or several, entries
-/// deleted, and includes resolved. The file was loaded,
-/// whole or lossy, or has items such as a text may have and is clean: so is one that a loader made ([`beginnings`]). Of the calls it is asked that edits are handed what the library makes ([`new_editors_are_editors`]); that no header has an empty
-/// name and no subsection; that blanks before names that were set are spaces and tabs; and that no file that is appended, or that a section names, has an
-/// entry before its first section. Then the file after them is such a one again, the text that is written of it has exactly its
-/// document, and a file that is loaded from this text has the same document and is equal to it.
+/// The calls are all edits, values set and sections renamed whatever a filter answers, values of existing entries set, one or several,
+/// entries deleted, and includes resolved. The file was loaded,
+/// whole or lossy, or has items such as a text may have and is clean: so is one that a loader made ([`beginnings`]). Of the calls it is
+/// asked that edits are handed what the library makes ([`new_editors_are_editors`]); that no header has an empty name and no subsection;
+/// that whitespace before names that was set is spaces and tabs; and that no file that is appended, or that a section names, has an entry
+/// before its first section. Then the file after them is such a one again, the text that is written of it has exactly its document, and a
+/// file that is loaded from this text has the same document and is equal to it.
 pub fn headline()
     ensures kept { (calls : List Call) (old new : State) (runs : Runs calls old new) → AreCleanCalls calls old new runs → HasItems old → IsClean old
         → HasItems new × IsClean new }

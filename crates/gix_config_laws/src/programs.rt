@@ -10,7 +10,7 @@ use bstr::BString;
 use gix_config::File;
 use std::alloc::Global;
 
-/// A text in which a value is set, a section renamed and one removed, as far as that isn't refused.
+/// A text after three edits, as far as these aren't refused. A value is set, a section renamed and one removed.
 pub fn three_edits(alloc: Global, text: &[u8]) -> Option<BString>
     ensures { IfSome result (λ written. (set : Ending) × (renamed : Ending) × (removed : Ending)
         × ReadsAfter text.now (three_edits set renamed removed) (bstring_bytes written)) }

@@ -1,4 +1,4 @@
-//! The file that calls are made on, and how a call is made with one of its growths refused.
+//! The file that calls are made on, and how a call is made with one of its allocations refused.
 
 use bstr::BString;
 use gitconf_tests::shim::{Outcome, begin, each_refused, was_refused};
@@ -9,7 +9,7 @@ use std::alloc::Global;
 use std::rc::Rc;
 use std::test::Fail;
 
-/// Whether a call's result is the expected one; `None` if it reports that memory ran out.
+/// Whether a call's result is the expected one. `None` if it reports that memory ran out.
 pub type Told = Option<bool>;
 
 /// The key whose values the file has.
@@ -66,7 +66,7 @@ pub fn all(told: &[Told]) -> Told {
     Some(are_wanted)
 }
 
-/// Whether the refusal has this number; `None` when out of memory.
+/// Whether the error has this number; `None` when out of memory.
 pub fn is_refused<E: Refusal>(refusal: &E, number: u8) -> Told {
     match refusal.number() {
         27 => None,
@@ -105,7 +105,7 @@ fn looked<F: Fn(&File) -> Told>(alloc: Global, file: &File, look: &F) -> Result<
     })
 }
 
-/// A lookup of the file, with each of its growths refused before.
+/// A lookup of the file, with each of its allocations refused before.
 pub fn look_up<F: Fn(&File) -> Told>(alloc: Global, what: &str, look: F) -> Result<(), Fail>
     requires { F.IsAlwaysCallable look }
 {
@@ -144,7 +144,7 @@ fn edited<F: Fn(&mut File) -> Told>(alloc: Global, edit: &F, text: &[u8]) -> Res
     is_made(alloc, &mut file, edit, text)
 }
 
-/// An edit of the file, after which this is printed, with each of its growths refused before.
+/// An edit of the file, after which this is printed. Each of its allocations is refused before.
 pub fn change<F: Fn(&mut File) -> Told>(
     alloc: Global,
     what: &str,

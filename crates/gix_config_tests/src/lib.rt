@@ -1,6 +1,6 @@
-//! What no script reaches of files: texts of errors, filters that are called, options, writers that fail, and growths that are refused in
-//! calls that no command makes; and each form of a call that no script asks for, run once with memory and once with each of its growths refused,
-//! since a proof can't exclude that a body always reports that memory ran out. What is below is in `gitconf_tests`.
+//! What no script reaches of files: texts of errors, filters that are called, options, writers that fail, and allocations that are refused
+//! in calls that no command makes; and each form of a call that no script asks for, run once with memory and once with each of its
+//! allocations refused, since a proof can't exclude that a body always reports that memory ran out. What is below is in `gitconf_tests`.
 #![tactic(auto)]
 
 #[cfg(test)]

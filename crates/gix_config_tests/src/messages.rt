@@ -1,4 +1,4 @@
-//! Texts and numbers of refusals of includes and of loads.
+//! Texts and numbers of errors of includes and of loads.
 
 use gitconf_sources::{FileFault, Stage};
 use gix_config::file::{includes, init};
@@ -8,7 +8,7 @@ use std::alloc::{AllocError, Global};
 use std::fmt::Display;
 use std::test::Fail;
 
-/// Whether the refusal has this number and this text.
+/// Whether the error has this number and this text.
 fn tells<E: Refusal + Display>(
     alloc: Global,
     error: &E,
@@ -18,7 +18,7 @@ fn tells<E: Refusal + Display>(
     Ok(error.number() == number && format!(in alloc; "{error}")?.as_str() == text)
 }
 
-/// Whether the refusal has this number and this text, and the refusal of a load that holds it has the same.
+/// Whether the error has this number and this text, and the error of a load that holds it has the same.
 fn is_told(
     alloc: Global,
     error: includes::Error,

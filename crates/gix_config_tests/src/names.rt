@@ -1,4 +1,4 @@
-//! Names and their bytes, keys of sections, and refusals of values and texts that are made by hand.
+//! Names and their bytes, keys of sections, and errors of values and texts that are made by hand.
 
 use bstr::BString;
 use gitconf_tests::shim::{begin, was_refused};
@@ -112,12 +112,12 @@ fn keys_of_sections(rt: HostRuntime) {
     }
 }
 
-/// Whether the refusal has this number, this message, and these bytes.
+/// Whether the error has this number, this message, and these bytes.
 fn tells(refusal: &value::Error, message: &str, input: &[u8]) -> bool {
     refusal.number() == 11 && refusal.message() == message && refusal.input() == input
 }
 
-/// Bytes that a refusal keeps.
+/// Bytes that an error keeps.
 fn input(alloc: Global) -> Result<BString, AllocError> {
     BString::from_slice(alloc, b"9z")
 }

@@ -8,7 +8,7 @@ use gix_config::path::interpolate;
 use std::test::Fail;
 
 /// How deep the options go, and what they refuse: what goes deeper, a shorthand that stands for nothing, and a path
-/// relative to the folder of a file that has none.
+/// relative to the directory of a file that has none.
 fn told(options: &includes::Options<'_>) -> (u8, bool, bool, bool) {
     (
         options.max_depth,
@@ -18,8 +18,8 @@ fn told(options: &includes::Options<'_>) -> (u8, bool, bool, bool) {
     )
 }
 
-/// Whether there are a folder of the installation, one of the calling user, and a table of users; then whether there
-/// are a folder of the repository, and a branch.
+/// Whether there are a directory of the installation, one of the calling user, and a table of users; then whether there
+/// are a directory of the repository, and a branch.
 fn known(options: &includes::Options<'_>) -> (bool, bool, bool, bool, bool) {
     (
         options.interpolate.git_install_dir.is_some(),

@@ -1,4 +1,4 @@
-//! Calls on files that no command makes, each with one of its growths refused in turn.
+//! Calls on files that no command makes, each with one of its allocations refused in turn.
 
 use crate::loads::{loaded, section_at};
 use gitconf_items::sink::SinkFault;
@@ -37,7 +37,7 @@ fn a_file_written(alloc: Global, file: &File) -> Result<Outcome, Fail> {
     Ok(Outcome { refused, fits })
 }
 
-/// A vector is a writer that fails when its growth is refused.
+/// A vector is a writer that fails when its allocation is refused.
 #[test]
 fn files(rt: HostRuntime) -> Result<(), Fail> {
     each_refused(rt.alloc(), "a text that is loaded", a_text_loaded)?;

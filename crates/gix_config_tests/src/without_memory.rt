@@ -1,4 +1,4 @@
-//! Calls that take no memory: the shim refuses their first growth, and there is none.
+//! Calls that take no memory: the shim refuses their first allocation, and there is none.
 
 use crate::loads::{loaded, section_count};
 use gitconf_tests::shim::{begin, was_refused};

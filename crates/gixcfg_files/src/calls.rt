@@ -14,7 +14,7 @@ use std::io::{ErrorKind, Read, Write};
 use std::os::unix::fs::{OpenOptionsExt, PermissionsExt};
 use std::{fs, io};
 
-/// How many bytes of names a folder is asked for at a time.
+/// How many bytes of names a directory is asked for at a time.
 const PART: usize = 4096;
 
 /// The bits of a mode that give nobody the rights of the file's owner or group.
@@ -101,11 +101,11 @@ pub trait EditCalls: Drop {
     fn draw(&mut self) -> Result<Option<String>, Fault>
         ensures { told self.new ≡ told self.old };
 
-    /// The names in a folder, each with a zero byte behind it.
+    /// The names in a directory, each with a zero byte behind it.
     ///
     /// # Errors
     ///
-    /// The folder can't be opened or read; out of memory.
+    /// The directory can't be opened or read; out of memory.
     fn names_in(&mut self, folder: &str) -> io::Result<Vec<u8>>
         ensures { told self.new ≡ told self.old };
 
@@ -233,12 +233,12 @@ pub trait EditCalls: Drop {
         requires { IfSome (told self.old) (MayRemove path.now) }
         ensures { told self.new ≡ told_after (told self.old) (Removed path.now) };
 
-    /// Writes down to the disk which files a folder has. If that fails for want of memory it is tried again, since the file has its new text
-    /// already.
+    /// Writes down to the disk which files a directory has. If that fails for want of memory it is tried again, since the file has its new
+    /// text already.
     ///
     /// # Errors
     ///
-    /// The folder can't be opened, or not be written down.
+    /// The directory can't be opened, or not be written down.
     fn sync_folder(&mut self, folder: &str) -> io::Result<()>
         ensures { told self.new ≡ told_done (told self.old) result (WroteDownNames folder.now) };
 }

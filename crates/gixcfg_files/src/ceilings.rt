@@ -1,4 +1,4 @@
-//! How far a repository is looked for: up to the root, or to a folder of `GIT_CEILING_DIRECTORIES`.
+//! How far a repository is looked for: up to the root, or to a directory of `GIT_CEILING_DIRECTORIES`.
 ghost use Rattle.std.specs.Prelude.{◌≡◌};
 ghost use Rattle.gixcfg_files.specs.Paths.{folders_below as folders_below_lem, goes_on as goes_on_lem};
 
@@ -10,11 +10,11 @@ use std::fs;
 use std::io::ErrorKind;
 use std::rt::{Env, Files};
 
-/// How many bytes the path of a folder has at most.
+/// How many bytes the path of a directory has at most.
 const LONGEST: usize = 4096;
 
-/// How many folders are looked at: the working folder, and those that hold it and lie below each folder of `GIT_CEILING_DIRECTORIES` that holds
-/// it, as git has it. The working folder alone, where it isn't known which it is.
+/// How many directories are looked at: the working directory, and those that hold it and lie below each directory of
+/// `GIT_CEILING_DIRECTORIES` that holds it, as git has it. The working directory alone, where it isn't known which it is.
 ///
 /// # Errors
 ///
@@ -32,7 +32,7 @@ pub fn searched_folders<R: Env + Files + AllocGlobal>(rt: &R) -> Result<usize, F
     }
 }
 
-/// How many of these folders, from the one at a path up, lie below each ceiling that holds it.
+/// How many of these directories, from the one at a path up, lie below each ceiling that holds it.
 fn below_all<R: Files + AllocGlobal>(
     rt: &R,
     path: &[u8],
@@ -51,7 +51,7 @@ fn below_all<R: Files + AllocGlobal>(
     Ok(least)
 }
 
-/// How many folders lie below a ceiling, whose symbolic links are resolved or aren't.
+/// How many directories lie below a ceiling, whose symbolic links are resolved or aren't.
 fn below<R: Files + AllocGlobal>(
     rt: &R,
     path: &[u8],
@@ -73,7 +73,7 @@ fn without_slash(path: &str) -> &[u8] {
     path.strip_suffix('/').unwrap_or(path).as_bytes()
 }
 
-/// How many folders there are from the one at a path up, below one that holds it; none if that doesn't hold it.
+/// How many directories there are from the one at a path up, below one that holds it; none if that doesn't hold it.
 fn folders_below(path: &[u8], folder: &[u8]) -> Option<usize>
     ensures { result ≡ folders_below_lem path.now folder.now }
 {

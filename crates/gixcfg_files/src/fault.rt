@@ -19,9 +19,9 @@ pub enum Fault {
     NoFile,
     /// Its path leads through too many symbolic links.
     Links,
-    /// The working folder is in no repository.
+    /// The working directory is in no repository.
     NoRepository,
-    /// The user's home folder isn't known.
+    /// The user's home directory isn't known.
     NoHome,
     /// It can't be opened or read.
     Unread(io::Error),

@@ -1,4 +1,4 @@
-//! The folder of a file that is edited, on the disk.
+//! The directory of a file that is edited, on the disk.
 ghost use Rattle.std.specs.Prelude.{◌≡◌, ℕ, List, [], Option, None, Some, IfSome, IfOk, OnOk, true, option_map, string_bytes};
 ghost use Rattle.gixcfg_files.specs.Acts.{Grows, Has, WasPut, IsAgain, IsOurs, IsPut, IsHeld, IsDraft, IsReady, Renames};
 ghost use Rattle.gixcfg_files.specs.Replacing.{HasMade, known};
@@ -12,7 +12,7 @@ use std::io;
 use std::io::ErrorKind;
 use std::marker::Model;
 
-/// The rights of a lock, and of a draft in which nobody else may read before it has those of its file.
+/// The rights of a lock, and of a temporary file in which nobody else may read before it has those of the file that it is for.
 const HIDDEN: u32 = 0o600;
 
 /// The rights of a new file, of which the process's mask takes some.
@@ -21,7 +21,7 @@ const NEW: u32 = 0o666;
 /// Where a file is that is edited.
 #[derive(Clone, Copy)]
 pub struct Spot<'a> {
-    /// The path of its folder.
+    /// The path of its directory.
     pub folder: &'a str,
     /// Its path.
     pub path: &'a str,
@@ -34,12 +34,12 @@ pub struct Spot<'a> {
 pub struct Manner<'a> {
     /// Whether texts and names are written down to the disk.
     pub is_synced: bool,
-    /// The process, which holds what it makes, so that others can tell when that was left; none where it doesn't.
+    /// The process, which holds what it makes; none where it doesn't. So others can tell when what it made was left.
     pub process: Option<&'a Process>,
 }
 
-/// The folder of a file that is edited, on the disk, as one edit works in it. Names in it are paths. The only calls of an edit that change
-/// something on the disk are these.
+/// The directory of a file that is edited, as one edit works in it. It is on the disk. Names in it are paths. The only calls of an edit
+/// that change something on the disk are these.
 #[derive(Drop)]
 pub struct DiskFolder<'a, D: EditCalls> {
     calls: D,
@@ -47,15 +47,15 @@ pub struct DiskFolder<'a, D: EditCalls> {
     /// The file, as it was found, if it was there.
     found: Option<&'a Found>,
     manner: Manner<'a>,
-    /// The draft, from when it is made until it is renamed.
+    /// The temporary file, from when it is made until it is renamed.
     draft: Option<Made<D::File>>,
     /// The lock, from when it is made until it is removed.
     lock: Option<Made<D::File>>,
     /// Whether the file was, at the last look under the lock, as it was found.
     is_same: bool,
-    /// Whether the draft has been renamed, and is the file.
+    /// Whether the temporary file has been renamed, and is the file.
     is_renamed: bool,
-    /// Whether the draft has the owner of the file.
+    /// Whether the temporary file has the owner of the file.
     owner: Owner,
 }
 
@@ -83,7 +83,7 @@ impl<'a, D: EditCalls> Model for DiskFolder<'a, D> {
 }
 
 impl<'a, D: EditCalls> DiskFolder<'a, D> {
-    /// The folder of a file, which was found so, or wasn't there.
+    /// The directory of a file, which was found so, or wasn't there.
     pub fn new(
         mut calls: D,
         spot: Spot<'a>,
@@ -126,7 +126,7 @@ impl<'a, D: EditCalls> DiskFolder<'a, D> {
         calls
     }
 
-    /// Whether the draft has the owner and the group of the file.
+    /// Whether the temporary file has the owner and the group of the file.
     pub fn owner(&self) -> Owner {
         self.owner
     }
@@ -233,7 +233,7 @@ fn make_held<D: EditCalls>(
     Ok(None)
 }
 
-/// Makes a draft, which is held where the edit holds; none if something is at the path, or it isn't kept.
+/// Makes a temporary file, which is held where the edit holds; none if something is at the path, or it isn't kept.
 fn make_draft<D: EditCalls>(
     calls: &mut D,
     path: &str,
@@ -266,8 +266,8 @@ fn make_lock<D: EditCalls>(
     }
 }
 
-/// Makes a lock that says whose it is: beside the draft, under a name that nobody else has, and then it gets its own. Where a disk doesn't
-/// give a file a second name, or doesn't let it be held, the lock is made without that.
+/// Makes a lock that says whose it is: beside the temporary file, under a name that nobody else has, and then it gets its own. Where a disk
+/// doesn't give a file a second name, or doesn't let it be held, the lock is made without that.
 fn make_signed<D: EditCalls>(
     calls: &mut D,
     path: &str,
@@ -330,7 +330,7 @@ fn sign<D: EditCalls>(
     }
 }
 
-/// Renames a draft over its file, if it is where it was put.
+/// Renames a temporary file over the file that it is for, if it is where it was put.
 fn rename_made<D: EditCalls>(calls: &mut D, draft: &Made<D::File>, to: &str) -> io::Result<()>
     requires { IfSome (D.told calls.old) (IsReady to.now draft.now) }
     ensures grows { Grows (D.told calls.old) (D.told calls.new) }
@@ -354,7 +354,7 @@ fn remove_if_made<D: EditCalls>(calls: &mut D, made: Option<Made<D::File>>) -> i
     }
 }
 
-/// The error of a draft that isn't there, or of a file that isn't as it was found.
+/// The error of a temporary file that isn't there, or of a file that isn't as it was found.
 fn not_there() -> io::Error {
     io::Error::from(ErrorKind::NotFound)
 }

@@ -1,4 +1,4 @@
-//! What edits that were stopped left beside a file.
+//! What edits that were killed left beside a file.
 
 ghost use Rattle.std.specs.Prelude.{IfSome};
 ghost use Rattle.gixcfg_files.specs.Acts.{Grows, Has};
@@ -14,8 +14,8 @@ use crate::sight::{Sight, sight_of};
 use gixcfg_replacing::draft_of;
 use std::io::{ErrorKind, Write};
 
-/// The paths of the drafts of the file at a path that edits have made since the system was started. Reads the names of all that is in the folder;
-/// none where they can't be read.
+/// The paths of the temporary files that edits of a file have made. The file is the one at a path, and the edits are those since the system
+/// was started. Reads the names of all that is in the directory; none where they can't be read.
 ///
 /// # Errors
 ///
@@ -41,7 +41,7 @@ pub fn drafts_beside<D: EditCalls>(
     Ok(drafts)
 }
 
-/// The names in the folder of a file, each with a zero byte behind it.
+/// The names in the directory of a file, each with a zero byte behind it.
 fn names_beside<D: EditCalls>(calls: &mut D, path: &str) -> Result<Vec<u8>, Fault> {
     let folder = folder_of(calls.alloc(), path)?;
     match calls.names_in(folder.as_str()) {
@@ -51,7 +51,7 @@ fn names_beside<D: EditCalls>(calls: &mut D, path: &str) -> Result<Vec<u8>, Faul
     }
 }
 
-/// Removes of these drafts each that was left.
+/// Removes of these temporary files each that was left.
 pub fn remove_left_drafts<D: EditCalls, E: Write>(calls: &mut D, drafts: &[String], err: &mut E)
     ensures { Grows (D.told calls.old) (D.told calls.new) }
 {
@@ -60,8 +60,8 @@ pub fn remove_left_drafts<D: EditCalls, E: Write>(calls: &mut D, drafts: &[Strin
     }
 }
 
-/// Removes the draft at a path if it was left, and tells that. Who makes a draft holds it while he is there, so it was left if this process can
-/// hold it.
+/// Removes the temporary file at a path if it was left, and tells that. Who makes a temporary file holds it while he is there, so it was
+/// left if this process can hold it.
 fn remove_left_draft<D: EditCalls, E: Write>(calls: &mut D, path: &str, err: &mut E)
     ensures { Grows (D.told calls.old) (D.told calls.new) }
 {

@@ -1,4 +1,4 @@
-//! A file that an edit makes: the draft of a file's new text, or its lock.
+//! A file that an edit makes: the temporary file with a file's new text, or its lock.
 
 ghost use Rattle.std.specs.Prelude.{◌≡◌, IfSome, IfOk, true};
 ghost use Rattle.gixcfg_files.specs.Acts.{LooksFor, Grows, Has, IsOurs, MayGive, MayRemove};
@@ -17,7 +17,7 @@ pub struct Made<F: Drop> {
     pub path: String,
 }
 
-/// Whether a draft has the owner and the group of its file.
+/// Whether a temporary file has the owner and the group of the edited file.
 #[derive(Clone, Copy, PartialEq, Eq)]
 pub enum Owner {
     /// It has both.
@@ -40,7 +40,7 @@ pub fn is_at<D: EditCalls>(calls: &mut D, file: &Open<D::File>, path: &str) -> i
     }
 }
 
-/// Removes a file that was made, if it is there still, or if that can't be found out.
+/// Removes a file that was made, if it is there still. It is also removed if that can't be found out.
 ///
 /// # Errors
 ///
@@ -67,7 +67,7 @@ fn remove_there<D: EditCalls>(calls: &mut D, path: &str) -> io::Result<()>
     }
 }
 
-/// Holds a file that was made, so that nobody takes it for one that was left. Tells whether it is held, and where it was made: before it was
+/// Holds a file that was made, so nobody takes it for one that was left. Tells whether it is held, and where it was made: before it was
 /// held, another edit may have begun to remove it.
 pub fn is_kept<D: EditCalls>(calls: &mut D, made: &Made<D::File>) -> bool
     ensures held { result ≡ true → IfSome (D.told calls.new) (Has (Held made.now.file.original.identity)) }
@@ -79,8 +79,8 @@ pub fn is_kept<D: EditCalls>(calls: &mut D, made: &Made<D::File>) -> bool
     }
 }
 
-/// Gives a draft what its file has, before there is any text in it: the owner and the group, as far as the process may, and the mode. Of the
-/// mode it gets only who may read, write and run it where it is somebody else's.
+/// Gives an empty temporary file what the edited file has: the owner and the group, as far as the process may, and the mode. Of the mode it
+/// gets only who may read, write and run it where it is somebody else's.
 ///
 /// # Errors
 ///
@@ -98,7 +98,7 @@ pub fn share<D: EditCalls>(
     Ok(owner)
 }
 
-/// Gives a draft a group, and then an owner, if it has others.
+/// Gives a temporary file a group, and then an owner, if it has others.
 fn share_owner<D: EditCalls>(calls: &mut D, draft: &Open<D::File>, rights: Rights) -> Owner
     requires { IfSome (D.told calls.old) (MayGive draft.now.original.identity rights) }
     ensures { Grows (D.told calls.old) (D.told calls.new) }
@@ -112,7 +112,7 @@ fn share_owner<D: EditCalls>(calls: &mut D, draft: &Open<D::File>, rights: Right
     }
 }
 
-/// Gives a draft a group, if it has another, and tells whether it has it.
+/// Gives a temporary file a group, if it has another, and tells whether it has it.
 fn shares_group<D: EditCalls>(calls: &mut D, draft: &Open<D::File>, rights: Rights) -> bool
     requires { IfSome (D.told calls.old) (MayGive draft.now.original.identity rights) }
     ensures { Grows (D.told calls.old) (D.told calls.new) }
@@ -120,7 +120,7 @@ fn shares_group<D: EditCalls>(calls: &mut D, draft: &Open<D::File>, rights: Righ
     draft.original().rights.group == rights.group || calls.give_group(draft, rights).is_ok()
 }
 
-/// Gives a draft an owner, if it has another, and tells whether it has it.
+/// Gives a temporary file an owner, if it has another, and tells whether it has it.
 fn shares_owner<D: EditCalls>(calls: &mut D, draft: &Open<D::File>, rights: Rights) -> bool
     requires { IfSome (D.told calls.old) (MayGive draft.now.original.identity rights) }
     ensures { Grows (D.told calls.old) (D.told calls.new) }

@@ -5,7 +5,7 @@ ghost use Rattle.gixcfg_files.specs.Paths.{after_start, IsNameOf, is_number as i
 
 use std::alloc::{AllocError, Global};
 
-/// The path of the user's own file in the home folder.
+/// The path of the user's own file in the home directory.
 ///
 /// # Errors
 ///
@@ -16,7 +16,7 @@ pub fn home_file(alloc: Global, home: &str) -> Result<String, AllocError>
     format!(in alloc; "{home}/.gitconfig")
 }
 
-/// The path of the user's other file: in the folder that is set, else in the home folder.
+/// The path of the user's other file: in the directory that is set, else in the home directory.
 ///
 /// # Errors
 ///
@@ -30,7 +30,7 @@ pub fn other_file(alloc: Global, home: &str, folder: Option<&str>) -> Result<Str
     }
 }
 
-/// The path of the folder that a file is in, with a slash at its end; `./` for the working folder.
+/// The path of a file's directory, with a slash at its end. It is `./` for the working directory.
 ///
 /// # Errors
 ///
@@ -44,7 +44,7 @@ pub fn folder_of(alloc: Global, path: &str) -> Result<String, AllocError>
     }
 }
 
-/// The path of what has this name in a folder, whose path ends with a slash or is empty.
+/// The path of what has this name in a directory. The directory's path ends with a slash or is empty.
 ///
 /// # Errors
 ///
@@ -55,7 +55,7 @@ pub fn within(alloc: Global, folder: &str, name: &str) -> Result<String, AllocEr
     format!(in alloc; "{folder}{name}")
 }
 
-/// A path with a slash at its end, as of a folder.
+/// A path with a slash at its end, as of a directory.
 ///
 /// # Errors
 ///
@@ -66,7 +66,7 @@ pub fn as_folder(alloc: Global, path: &str) -> Result<String, AllocError>
     format!(in alloc; "{path}/")
 }
 
-/// The path of a folder that the file at a path names. A relative one begins in the file's folder.
+/// The path of a directory that the file at a path names. A relative one begins in the file's directory.
 ///
 /// # Errors
 ///
@@ -124,7 +124,7 @@ pub fn line_of<'a>(text: &'a [u8], before: &str) -> Option<&'a str>
     after(without_ends(text), before)
 }
 
-/// What a line has after its beginning; none if it begins otherwise, or what comes is no UTF-8.
+/// What a line has after its beginning. None if it begins otherwise, or what comes is no UTF-8.
 pub fn after<'a>(line: &'a [u8], before: &str) -> Option<&'a str>
     ensures { option_map (λ s. s.now) result ≡ after_start line.entry.now before.now }
 {
@@ -156,7 +156,7 @@ fn is_line_end(byte: u8) -> bool
     byte == b'\n' || byte == b'\r'
 }
 
-/// How many folders hold the one at a path from the root on.
+/// How many directories hold the one at a path from the root on.
 pub fn depth_of(path: &[u8]) -> usize
     ensures { result ≡ count_by (λ b. b == 47) path.now }
 {

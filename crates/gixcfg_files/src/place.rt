@@ -26,10 +26,10 @@ use std::rt::Files;
 /// How often a path is followed at most where others change what is there meanwhile.
 const LOOKS: usize = 16;
 
-/// How many drafts are drawn at most that can be held.
+/// How many temporary files are drawn at most that can be held.
 const DRAWS: usize = 3;
 
-/// What a draft is called by where the system draws nothing.
+/// What a temporary file is called by where the system draws nothing.
 const UNKNOWN: &str = "0";
 
 /// What the symbolic links at a path end at: a regular file, as it was when it was opened and read, or nothing, of which an edit may make a
@@ -39,7 +39,7 @@ pub struct Place<D: EditCalls> {
     /// The system on which that was found.
     pub calls: D,
     pub path: String,
-    /// The path of its folder.
+    /// The path of its directory.
     pub folder: String,
     /// The path of its lock.
     pub lock: String,
@@ -53,7 +53,7 @@ pub struct Place<D: EditCalls> {
 pub struct Replacement<'a> {
     /// The text that it gets.
     pub text: &'a [u8],
-    /// Whether that is written down to the disk, so that a loss of power doesn't undo it, or tear it.
+    /// Whether that is written down to the disk. Then a loss of power doesn't undo it, or tear it.
     pub is_synced: bool,
 }
 
@@ -132,14 +132,15 @@ impl<D: EditCalls> Place<D> {
         }
     }
 
-    /// Gives the file a text in place of its own, or of none. The text is written down to the disk as a draft beside the file. Then the lock is
-    /// taken, and if the file is still the one that was found, with that text, the draft is renamed. A lock that was left by a process which has
-    /// ended is removed before, and drafts that were are then. What the user has to know of is told, a line each.
+    /// Gives the file a text in place of its own, or of none. The text is written down to the disk as a temporary file beside the file.
+    /// Then the lock is taken, and if the file is still the one that was found, with that text, the temporary file is renamed. A lock that
+    /// was left by a process which has ended is removed before, and temporary files that were are then. What the user has to know of is
+    /// told, a line each.
     ///
     /// # Errors
     ///
-    /// The draft can't be written or renamed; the lock exists or can't be made; out of memory. The file is as it was, and neither a
-    /// draft nor a lock is left. Or the file has the new text: [`Fault::Unsynced`], that isn't written down to the disk; or
+    /// The temporary file can't be written or renamed; the lock exists or can't be made; out of memory. The file is as it was, and neither
+    /// a temporary file nor a lock is left. Or the file has the new text: [`Fault::Unsynced`], that isn't written down to the disk; or
     /// [`Fault::Unremoved`], its lock is left.
     pub fn replace<E: Write>(
         self,
@@ -178,7 +179,7 @@ struct Edit<'a> {
 }
 
 impl Edit<'_> {
-    /// Removes a lock that was left, replaces the text, and removes drafts that were left.
+    /// Removes a lock that was left, replaces the text, and removes temporary files that were left.
     fn carry_out<D: EditCalls, E: Write>(
         &self,
         mut calls: D,
@@ -201,7 +202,7 @@ impl Edit<'_> {
         }
     }
 
-    /// Replaces the text by a draft that the process holds; where that can't be, by one that it doesn't.
+    /// Replaces the text by a temporary file that the process holds; where that can't be, by one that it doesn't.
     fn write<D: EditCalls, E: Write>(
         &self,
         mut calls: D,
@@ -228,7 +229,7 @@ impl Edit<'_> {
         self.write_unheld(calls, err)
     }
 
-    /// Replaces the text by a draft that nobody can tell to be left.
+    /// Replaces the text by a temporary file that nobody can tell to be left.
     fn write_unheld<D: EditCalls, E: Write>(
         &self,
         mut calls: D,
@@ -245,7 +246,7 @@ impl Edit<'_> {
         Ok((calls, outcome(alloc, ended, self.spot.lock, &draft)?))
     }
 
-    /// Replaces the text by a draft that isn't there yet.
+    /// Replaces the text by a temporary file that isn't there yet.
     fn write_once<D: EditCalls, E: Write>(
         &self,
         calls: D,
@@ -306,7 +307,7 @@ fn unremoved<E: Write>(
     Ok(ended)
 }
 
-/// What is told of an end. Where the draft has gone, somebody else took it away, and it is as if he had changed the file.
+/// What is told of an end. Where the temporary file has gone, somebody else took it away, and it is as if he had changed the file.
 ///
 /// # Errors
 ///

@@ -20,12 +20,12 @@ pub fn system_file<R: Env + AllocGlobal>(rt: &R) -> Result<String, Fault> {
     }
 }
 
-/// The path of the user's file: `GIT_CONFIG_GLOBAL`, else `.gitconfig` in the home folder. Where that can't be opened and
-/// `git/config` in the folder `XDG_CONFIG_HOME` can, which is `.config` in the home folder if it isn't set, it is that one.
+/// The path of the user's file: `GIT_CONFIG_GLOBAL`, else `.gitconfig` in the home directory. Where that can't be opened and
+/// `git/config` in the directory `XDG_CONFIG_HOME` can, which is `.config` in the home directory if it isn't set, it is that one.
 ///
 /// # Errors
 ///
-/// There is no home folder; out of memory.
+/// There is no home directory; out of memory.
 pub fn user_file<R: Env + Files + AllocGlobal>(rt: &R) -> Result<String, Fault> {
     if let Some(path) = variable(rt, "GIT_CONFIG_GLOBAL")? {
         return Ok(path);

@@ -40,7 +40,7 @@ impl Process {
         }
     }
 
-    /// What its drafts are called by, which nobody else's are, with what was drawn for one.
+    /// What its temporary files are called by, with what was drawn for one. Nobody else's are called by it.
     ///
     /// # Errors
     ///

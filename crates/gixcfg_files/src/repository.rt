@@ -1,4 +1,4 @@
-//! The file of the repository that the working folder is in, as git finds it.
+//! The file of the repository that the working directory is in, as git finds it.
 ghost use Rattle.std.specs.Prelude.{◌≡◌, ◌≤◌, ◌++◌, IfOk, codes, string_bytes};
 
 use crate::ceilings::searched_folders;
@@ -11,12 +11,12 @@ use std::fs;
 use std::io::ErrorKind;
 use std::rt::{Env, Files};
 
-/// A repository: its folders, each with a slash at its end, or empty for the working folder.
+/// A repository: its directories, each with a slash at its end, or empty for the working directory.
 #[derive(Drop)]
 pub struct Repository {
-    /// The folder that is its own.
+    /// The directory that is its own.
     pub folder: String,
-    /// The folder that it has in common with its further working trees.
+    /// The directory that it has in common with its further working trees.
     pub common: String,
 }
 
@@ -43,8 +43,8 @@ impl Repository {
         within(alloc, self.folder.as_str(), "config.worktree")
     }
 
-    /// The path of its folder from the root, as the user came to it: what `GIT_DIR` names, or `.git` of the working folder, by `PWD` if that leads
-    /// there. None if it was found otherwise, or the working folder isn't known so.
+    /// The path of its directory from the root, as the user came to it: what `GIT_DIR` names, or `.git` of the working directory, by `PWD`
+    /// if that leads there. None if it was found otherwise, or the working directory isn't known so.
     ///
     /// # Errors
     ///
@@ -70,7 +70,7 @@ impl Repository {
         }
     }
 
-    /// The path of its folder from the root, without symbolic links.
+    /// The path of its directory from the root, without symbolic links.
     ///
     /// # Errors
     ///
@@ -100,8 +100,8 @@ impl Repository {
     }
 }
 
-/// The repository that `GIT_DIR` names; else the first one that is found in the working folder, the folder that holds it, and so
-/// on.
+/// The repository that `GIT_DIR` names, else the first one that is found. It is looked for in the working directory, the directory that
+/// holds it, and so on.
 ///
 /// # Errors
 ///
@@ -125,7 +125,7 @@ pub fn repository_file<R: Env + Files + AllocGlobal>(rt: &R) -> Result<String, F
     }
 }
 
-/// Whether a file is a repository's own: `config` or `config.worktree` in the repository's folder.
+/// Whether a file is a repository's own: `config` or `config.worktree` in the repository's directory.
 ///
 /// # Errors
 ///
@@ -138,7 +138,7 @@ pub fn is_own_file<R: Env + Files + AllocGlobal>(rt: &R, path: &str) -> Result<b
     Ok(found.is_some())
 }
 
-/// The first repository from the working folder upwards, as far as one is looked for.
+/// The first repository from the working directory upwards, as far as one is looked for.
 fn repository_above<R: Env + Files + AllocGlobal>(rt: &R) -> Result<Option<Repository>, Fault> {
     let mut folder = String::new(rt.alloc());
     for _ in 0..searched_folders(rt)? {
@@ -150,7 +150,7 @@ fn repository_above<R: Env + Files + AllocGlobal>(rt: &R) -> Result<Option<Repos
     Ok(None)
 }
 
-/// Whether a path from the root on leads to the working folder.
+/// Whether a path from the root on leads to the working directory.
 fn is_working_folder<R: Files + AllocGlobal>(rt: &R, path: &str) -> Result<bool, Fault> {
     if !is_absolute(path) {
         return Ok(false);
@@ -170,7 +170,7 @@ fn resolved<R: Files + AllocGlobal>(rt: &R, path: &str) -> Result<Option<String>
     }
 }
 
-/// The repository that a folder has as `.git`, or that it is itself.
+/// The repository that a directory has as `.git`, or that it is itself.
 fn repository_of<R: Env + Files + AllocGlobal>(
     rt: &R,
     folder: &str,
@@ -182,7 +182,7 @@ fn repository_of<R: Env + Files + AllocGlobal>(
     }
 }
 
-/// The repository at a path: a folder, or one that a file there leads to.
+/// The repository at a path: a directory, or one that a file there leads to.
 fn repository_at<R: Env + Files + AllocGlobal>(
     rt: &R,
     path: &str,
@@ -199,7 +199,7 @@ fn repository_at<R: Env + Files + AllocGlobal>(
     repository_in(rt, as_folder(rt.alloc(), path)?)
 }
 
-/// The repository that a folder is. It has `HEAD`, and `objects` and `refs` beside its file; these are in another folder if
+/// The repository that a directory is. It has `HEAD`, and `objects` and `refs` beside its file; these are in another directory if
 /// `GIT_COMMON_DIR` is set, or `commondir` says so, as for a further working tree.
 fn repository_in<R: Env + Files + AllocGlobal>(
     rt: &R,
@@ -216,7 +216,7 @@ fn repository_in<R: Env + Files + AllocGlobal>(
     }
 }
 
-/// The folder that working trees of a repository have in common: `GIT_COMMON_DIR`, else what its `commondir` leads to, else its own.
+/// The directory that working trees of a repository have in common: `GIT_COMMON_DIR`, else what its `commondir` leads to, else its own.
 fn common_folder<R: Env + Files + AllocGlobal>(rt: &R, folder: &str) -> Result<String, Fault> {
     if let Some(path) = variable(rt, "GIT_COMMON_DIR")? {
         return Ok(as_folder(rt.alloc(), path.as_str())?);
@@ -228,7 +228,7 @@ fn common_folder<R: Env + Files + AllocGlobal>(rt: &R, folder: &str) -> Result<S
     }
 }
 
-/// The folder that the file at a path leads to, after the text that it begins with; a relative one begins where the file is. None
+/// The directory that the file at a path leads to, after the text that it begins with; a relative one begins where the file is. None
 /// if there is no such file, or it doesn't begin so.
 fn folder_behind<R: Files + AllocGlobal>(
     rt: &R,
@@ -244,7 +244,7 @@ fn folder_behind<R: Files + AllocGlobal>(
     }
 }
 
-/// Whether a folder has something of this name.
+/// Whether a directory has something of this name.
 fn has<R: Files + AllocGlobal>(rt: &R, folder: &str, name: &str) -> Result<bool, Fault> {
     let path = within(rt.alloc(), folder, name)?;
     match fs::symlink_metadata(rt, path.as_str()) {

@@ -41,7 +41,7 @@ pub fn sight_of<D: EditCalls>(calls: &mut D, path: &str) -> io::Result<Sight<D::
     }
 }
 
-/// The file at a path, as it was when it was opened and read; none if nothing is there.
+/// The file at a path, as it was when it was opened and read. None if nothing is there.
 ///
 /// # Errors
 ///

@@ -6,7 +6,7 @@ use std::env;
 use std::env::VarError;
 use std::rt::Env;
 
-/// What a variable is set to; none if it isn't set, or to what is no UTF-8.
+/// What a variable is set to. None if it isn't set, or to what is no UTF-8.
 ///
 /// # Errors
 ///

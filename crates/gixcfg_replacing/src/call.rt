@@ -1,9 +1,9 @@
-//! The calls that were made on a folder, the last one first, and what they come to.
+//! The calls that were made on a directory, the last one first, and what they come to.
 ghost use Rattle.std.specs.Prelude.{◌≡◌, Option, option_map};
 ghost use Rattle.gixcfg_replacing.specs.Disk.{last_found};
 ghost use Rattle.gixcfg_replacing.specs.Calls.{past, is_ours as is_ours_lem};
 
-/// A call that changed a folder.
+/// A call that changed a directory.
 #[derive(Drop)]
 pub enum Call {
     /// An empty file was made at a name.

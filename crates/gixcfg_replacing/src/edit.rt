@@ -12,7 +12,7 @@ use crate::names::{draft_of, lock_of as lock_beside};
 use std::alloc::{AllocError, Global};
 use std::io;
 
-/// Gives an empty draft the rights of its file and a text, down to the disk.
+/// Gives an empty temporary file the rights of the file that it is for, and a text, down to the disk.
 fn fill<F: Folder>(folder: &mut F, file: &str, draft: &str, text: &[u8]) -> io::Result<()>
     requires ours { F.disk.ours folder.old draft.now }
     requires empty { seen F.disk folder.old draft.now ≡ Some [] }
@@ -43,11 +43,11 @@ fn has<F: Folder>(folder: &mut F, file: &str, before: Option<&[u8]>) -> io::Resu
     Ok(found.as_deref() == before)
 }
 
-/// Renames a draft over its file, whose lock is ours, if that has what it is to have before.
+/// Renames a temporary file over the file that it is for, whose lock is ours, if that has what it is to have before.
 ///
 /// # Errors
 ///
-/// How the edit ended, without the draft in place of the file, or where the rename failed.
+/// How the edit ended, without the temporary file in place of the file, or where the rename failed.
 fn swap<F: Folder>(
     folder: &mut F,
     file: &str,
@@ -78,8 +78,8 @@ fn swap<F: Folder>(
     }
 }
 
-/// Takes the lock of a file, renames a draft over it if it has what it is to have before, and removes the lock. Tells why that is there still,
-/// if it couldn't be removed.
+/// Takes the lock of a file, renames a temporary file over it if it has what it is to have before, and removes the lock. Tells why that is
+/// there still, if it couldn't be removed.
 fn lock_and_swap<F: Folder>(
     folder: &mut F,
     file: &str,
@@ -125,7 +125,7 @@ fn settle<F: Folder>(folder: &mut F) -> Ended
     }
 }
 
-/// Puts a draft that is down in place of its file, or removes it.
+/// Puts a temporary file that is down in place of the file that it is for, or removes it.
 fn put<F: Folder>(
     folder: &mut F,
     file: &str,
@@ -158,7 +158,7 @@ fn put<F: Folder>(
     }
 }
 
-/// Fills an empty draft and puts it in place of its file, or removes it.
+/// Fills an empty temporary file and puts it in place of the file that it is for, or removes it.
 fn fill_and_put<F: Folder>(
     folder: &mut F,
     file: &str,
@@ -185,7 +185,7 @@ fn fill_and_put<F: Folder>(
     }
 }
 
-/// Makes a draft of a file's new text, and puts it in place of the file. Tells how that ended.
+/// Makes a temporary file with a file's new text, and puts it in place of the file. Tells how that ended.
 fn draft_and_put<F: Folder>(
     folder: &mut F,
     file: &str,
@@ -206,9 +206,9 @@ fn draft_and_put<F: Folder>(
     }
 }
 
-/// Gives a file a text in place of the one that it had before, or of none. The text is written down to the disk as the draft of the process of
-/// a number. Then the lock is taken, and if the file has what it is to have before, the draft is renamed. Whenever the process or the machine
-/// stops, the file has its old text or the new one, whole.
+/// Gives a file a text in place of the one before, or of none. The text is written down to the disk as the temporary file of the process of
+/// a number. Then the lock is taken, and if the file has what it is to have before, the temporary file is renamed. Whenever the process or
+/// the machine stops, the file has its old text or the new one, whole.
 ///
 /// # Errors
 ///

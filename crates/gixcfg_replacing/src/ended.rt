@@ -11,9 +11,9 @@ pub enum Ended {
     Done,
     /// The file has another text than the one that it was to have before. It keeps that.
     Changed,
-    /// Its lock is there: somebody else edits it, or was stopped while he did. The file is as it was.
+    /// Its lock is there: somebody else edits it, or was killed while he did. The file is as it was.
     Locked,
-    /// A draft of this number is there. The file is as it was.
+    /// A temporary file of this number is there. The file is as it was.
     Drafted,
     /// A call failed before the rename. The file is as it was.
     Failed(io::Error),
@@ -28,7 +28,7 @@ pub enum Ended {
 pub struct Edited {
     /// How it ended.
     pub ended: Ended,
-    /// Why its draft is there still, if it couldn't be removed.
+    /// Why its temporary file is there still, if it couldn't be removed.
     pub draft: Option<io::Error>,
     /// Why its lock is there still, if it couldn't be removed.
     pub lock: Option<io::Error>,

@@ -1,18 +1,18 @@
-//! A folder on a disk, as an edit in place sees it.
+//! A directory on a disk, as an edit in place sees it.
 ghost use Rattle.std.specs.Prelude.{◌≡◌, ◌≢◌, ◌≤◌, ℕ, true, List, [], ◌∷◌, Option, Some, None, Ok, option_map, IfOk, IfErr, OnOk};
 ghost use Rattle.gixcfg_replacing.specs.Changes.{Making, Sharing, Writing, Syncing, Renaming, Removing, SyncingNames};
 ghost use Rattle.gixcfg_replacing.specs.Disk.{Disk, seen, lock_of, IsQuiet, IsLeftAlone, IsRespected, Did, GoesOn, HasCause, Makes, Moves, IsOldOrMoved, IsNameDown};
 
 use std::io;
 
-/// A folder on a disk, with a clock. Files have names in it; names that differ are of different files. The text of a file may be torn by a
-/// crash until it is synced, and a name has its old file, its new one or none until the names are synced. Each call may fail, and others may
-/// change the folder during it: but not what is ours, nor a file while we have its lock.
+/// A directory on a disk, with a clock. Files have names in it; names that differ are of different files. The text of a file may be torn by
+/// a crash until it is synced, and a name has its old file, its new one or none until the names are synced. Each call may fail, and others
+/// may change the directory during it: but not what is ours, nor a file while we have its lock.
 ///
-/// That a folder of a disk is one can't be proved. It is taken to be one where upper and lower case count, a rename puts one file in place of
-/// the other in one step, also for a crash, and what was synced stays; where a lock counts as empty, whatever it says of who has it; and where
-/// other programs make FILE.lock before they change FILE, and leave a lock or a draft that they didn't make. Whose a file is, and which one it
-/// is where others have the same text, isn't said here.
+/// That a directory of a disk is one can't be proved. It is taken to be one where upper and lower case count, a rename puts one file in
+/// place of the other in one step, also for a crash, and what was synced stays; where a lock counts as empty, whatever it says of who has
+/// it; and where other programs make FILE.lock before they change FILE, and leave a lock or a temporary file that they didn't make. Whose a
+/// file is, and which one it is where others have the same text, isn't said here.
 pub trait Folder {
     /// What readers find, what a crash leaves, and what is whose.
     ghost disk: { Disk Self };

@@ -1,5 +1,5 @@
-//! The text of a file replaced in place, proved over a folder with a clock: while nobody else changes the file, a crash at any moment leaves its old text
-//! or the new one, whole, and each end says what readers find.
+//! The text of a file replaced in place, proved over a directory with a clock: while nobody else changes the file, a crash at any moment
+//! leaves its old text or the new one, whole, and each end says what readers find.
 #![tactic(auto)]
 
 mod call;

@@ -1,4 +1,4 @@
-//! A folder of which nothing is known, with a log of the calls on it.
+//! A directory of which nothing is known, with a log of the calls on it.
 ghost use Rattle.std.specs.Prelude.{◌≡◌, ◌≢◌, ◌≤◌, ◌<◌, ◌+◌, ◌∷◌, ℕ, List, [], None, IfOk, IfErr, Ok, OnOk, option_map, false, true};
 ghost use Rattle.std.specs.Vec.{vec_len, vec_capacity};
 ghost use Rattle.gixcfg_replacing.specs.Changes.{Change, MadeSince, if_done, if_made, Making, Sharing, Writing, Syncing, Renaming, Removing, SyncingNames};
@@ -14,8 +14,8 @@ use std::alloc::{AllocError, Global};
 use std::io;
 use std::io::ErrorKind;
 
-/// The calls of an edit on a folder, of which nothing is known. Those of [`Folder`](crate::Folder), with the names that it has, and without any
-/// promise of what they do. A folder may say which changes may have been made on it.
+/// The calls of an edit on a directory, of which nothing is known. Those of [`Folder`](crate::Folder), with the names that it has, and
+/// without any promise of what they do. A directory may say which changes may have been made on it.
 pub trait FolderCalls {
     /// The changes that may have been made on it since it was the first one, the last one first.
     ghost has_made: { Self → Self → List Change → Type 0 };
@@ -94,8 +94,8 @@ const EACH: usize = 4;
 /// What the name of a lock ends with.
 const LOCK: &str = ".lock";
 
-/// A folder of which nothing is known, seen by what calls on it answered. The log of these calls is a folder with a clock: what an answer has
-/// otherwise than the log was done by others. While a lock is ours its file isn't looked at again, since others leave it alone.
+/// A directory of which nothing is known, seen by what calls on it answered. The log of these calls is a directory with a clock: what an
+/// answer has otherwise than the log was done by others. While a lock is ours its file isn't looked at again, since others leave it alone.
 #[derive(Drop)]
 pub struct LoggedFolder<C: Drop> {
     alloc: Global,
@@ -107,7 +107,8 @@ pub struct LoggedFolder<C: Drop> {
 }
 
 impl<C: FolderCalls + Drop> LoggedFolder<C> {
-    /// A folder in which the file at a name has had this text, or hasn't been there, for so long that it is written down.
+    /// A directory in which a file has had this text, or hasn't been there. The file is the one at a name, and that was so for so long
+    /// that it is written down.
     ///
     /// # Errors
     ///
@@ -141,14 +142,14 @@ impl<C: FolderCalls + Drop> LoggedFolder<C> {
         })
     }
 
-    /// The folder.
+    /// The directory.
     pub fn folder(&self) -> &C
         ensures { result.now ≡ below self.now }
     {
         &self.folder
     }
 
-    /// The folder, without the log.
+    /// The directory, without the log.
     pub fn into_folder(self) -> C
         ensures { result ≡ below self }
     {
@@ -251,7 +252,8 @@ impl<C: FolderCalls + Drop> LoggedFolder<C> {
         }
     }
 
-    /// Notes whether others have made or removed what is at a name. What it has doesn't matter, since nobody reads a lock or a draft.
+    /// Notes whether others have made or removed what is at a name. What it has doesn't matter, since nobody reads a lock or a temporary
+    /// file.
     fn note(&mut self, at: Vec<u8>, is_there: bool)
         requires room { HasRoom self.old 2 }
         requires free { IsFree (calls_of self.old) at.items }
@@ -390,7 +392,7 @@ fn put(calls: &mut Vec<Call>, call: Call)
     let _ = calls.insert(0, call);
 }
 
-/// A copy of a text. If there is no memory it is tried again, since a lock or a draft that stays would stand in the way of others.
+/// A copy of a text. If there is no memory it is tried again, since a lock or a temporary file that stays would stand in the way of others.
 fn copied(alloc: Global, text: &[u8]) -> Result<Vec<u8>, AllocError>
     ensures { IfOk result (λ copy. copy.items ≡ text.now) }
 {

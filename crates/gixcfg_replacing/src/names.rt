@@ -14,7 +14,7 @@ pub fn lock_of(alloc: Global, file: &str) -> Result<String, AllocError>
     format!(in alloc; "{file}.lock")
 }
 
-/// The name of a file's draft by the process of a number.
+/// The name of the temporary file for a file, by the process of a number.
 ///
 /// # Errors
 ///

@@ -120,7 +120,7 @@ fn mode_of(word: &Word<'_>) -> Result<u32, NotUnderstood> {
     }
 }
 
-/// `folder BYTES`: a folder at a path.
+/// `folder BYTES`: a directory at a path.
 fn put_folder(session: &mut Session, words: &[Word<'_>]) -> Result<(), Refusal> {
     let [path] = words else {
         return Err(Refusal::NotUnderstood);
@@ -160,7 +160,7 @@ fn set_input(alloc: Global, session: &mut Session, words: &[Word<'_>]) -> Result
     Ok(())
 }
 
-/// `end`, or an error in its place: `fails` of a stream whose other side has gone, `folder` of a folder.
+/// `end`, or an error in its place: `fails` of a stream whose other side has gone, `folder` of a directory.
 fn end_of(word: &Word<'_>) -> Result<Option<refusal::Refusal>, NotUnderstood> {
     match word.plain()? {
         b"end" => Ok(None),
@@ -184,7 +184,7 @@ fn set_room(session: &mut Session, words: &[Word<'_>]) -> Result<(), Refusal> {
     Ok(())
 }
 
-/// `grow N`: takes memory so many times, and gives it back. So a tool that may refuse one growth of the whole script can shift it.
+/// `grow N`: takes memory so many times, and gives it back. So a tool that may refuse one allocation of the whole script can shift it.
 fn grow(alloc: Global, words: &[Word<'_>]) -> Result<(), Refusal> {
     let [count] = words else {
         return Err(Refusal::NotUnderstood);

@@ -17,21 +17,21 @@ const BESIDE: &str = "m.gixcfg-3b6f0c52-91d4-4e7a-c0ffee00-1234-4abc.lock";
 static LEFT: &str =
     "gixcfg: m: written, but m.lock can't be removed: Permission denied (os error 13)\n";
 
-/// What is told where the folder can't be synced.
+/// What is told where the directory can't be synced.
 static UNSYNCED: &str =
     "gixcfg: m: written, but a loss of power may undo that: Permission denied (os error 13)\n";
 
-/// How many file operations an edit can't do without at the least: a link asked for, the lock looked for, the file looked at, opened, looked at
-/// and read; the lock looked for again; the draft made, looked at, given the rights, written and synced; the lock's other name made and looked
-/// at; the file looked at, opened, looked at and read again; the draft looked for and renamed.
+/// How many file operations an edit can't do without at the least: a link asked for, the lock looked for, the file looked at, opened,
+/// looked at and read; the lock looked for again; the temporary file made, looked at, given the rights, written and synced; the lock's
+/// other name made and looked at; the file looked at, opened, looked at and read again; the temporary file looked for and renamed.
 const LEAST: usize = 20;
 
-/// How many it does without: the number of the process asked for; what was drawn at the start opened and read; the folder opened, three names and
-/// their end read; what is drawn opened and read; the draft held and looked for; the lock held, looked for, written, given its name, and its other
-/// name looked for; the lock looked for before it is removed.
+/// How many it does without: the number of the process asked for; what was drawn at the start opened and read; the directory opened, three
+/// names and their end read; what is drawn opened and read; the temporary file held and looked for; the lock held, looked for, written,
+/// given its name, and its other name looked for; the lock looked for before it is removed.
 const SPARED: usize = 18;
 
-/// How many come when the file has its new text: the folder opened and synced.
+/// How many come when the file has its new text: the directory opened and synced.
 const AFTER_ALL: usize = 2;
 
 /// More than an edit has.

@@ -1,4 +1,4 @@
-//! Drafts beside a file, as edits that were stopped leave them.
+//! Temporary files beside a file, as edits that were killed leave them.
 
 use crate::machine::{Machine, State};
 use crate::tree::Node;
@@ -31,7 +31,7 @@ static TOLD: &str =
 gixcfg: m.gixcfg-3b6f0c52-91d4-4e7a-c0ffee00-1234-4abc.lock: removed, left by an edit that was stopped\n\
 gixcfg: m.gixcfg-3b6f0c52-91d4-4e7a-: removed, left by an edit that was stopped\n";
 
-/// The machine with the file, drafts and other files beside it.
+/// The machine with the file, temporary files and other files beside it.
 fn machine_with_drafts(alloc: Global) -> Result<State, NoMemory> {
     let mut state = machine(alloc, "/r/sub/m", Some(TEXT))?;
     for (name, _) in &BESIDE {
@@ -73,7 +73,7 @@ fn is_spared(alloc: Global) -> Result<bool, NoMemory> {
     Ok(done.is(0, "", "") && is_all_there(&state))
 }
 
-/// Drafts that nobody holds are removed, and no other file.
+/// Temporary files that nobody holds are removed, and no other file.
 #[test]
 fn drafts_that_were_left_are_removed(rt: HostRuntime) -> Result<(), Fail> {
     assert!(rt; is_removed(rt.alloc())?);

@@ -1,4 +1,4 @@
-//! A runtime in memory: files, variables and a working folder, with the file operation that fails.
+//! A runtime in memory: files, variables and a working directory, with the file operation that fails.
 ghost use Rattle.std.specs.Io.{WritesAtMost};
 ghost use Rattle.std.specs.Prelude.{◌≤◌, length};
 
@@ -63,7 +63,7 @@ pub struct State {
 }
 
 impl State {
-    /// A machine of these files, in which none was changed, without variables. Its working folder is that in which paths of the tree
+    /// A machine of these files, in which none was changed, without variables. Its working directory is that in which paths of the tree
     /// begin.
     pub fn new(alloc: Global, tree: Tree) -> State {
         State {
@@ -77,7 +77,7 @@ impl State {
         }
     }
 
-    /// Lets another process change a file each time before a lock is made, so many times.
+    /// Lets another process change a file each time before a lock is made. `count` says how many times.
     pub fn disturb(&mut self, path: &str, change: Change, count: usize) -> Result<(), AllocError> {
         self.other = Some(Other {
             path: String::from_str(self.alloc, path)?,
@@ -248,7 +248,7 @@ impl Env for Machine<'_> {
     }
 }
 
-/// A file of a machine that is open, or a folder.
+/// A file of a machine that is open, or a directory.
 #[derive(Clone, Copy)]
 pub struct Opened<'a> {
     machine: Machine<'a>,
@@ -314,7 +314,7 @@ impl OpenFile for Opened<'_> {
     }
 }
 
-/// The names of a folder of a machine that is open, each with a zero byte behind it.
+/// The names in an open directory of a machine, each with a zero byte behind.
 #[derive(Drop)]
 pub struct Listing<'a> {
     machine: Machine<'a>,

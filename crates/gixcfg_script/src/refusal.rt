@@ -11,9 +11,9 @@ pub enum Refusal {
     Forbidden,
     /// Something is at the path already.
     Taken,
-    /// The path leads through what is no folder.
+    /// The path leads through what is no directory.
     NoFolder,
-    /// A folder has no text.
+    /// A directory has no text.
     Folder,
     /// What is at the path is no link.
     NoLink,

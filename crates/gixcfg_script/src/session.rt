@@ -8,7 +8,7 @@ use gixcfg_commands::{Invocation, Terminal, run_words, tell_ill_formed};
 use std::alloc::{AllocError, Global};
 use std::mem::replace;
 
-/// The working folder of each machine.
+/// The working directory of each machine.
 const FOLDER: &str = "/w";
 
 /// A machine, and the streams of its next call.
@@ -34,7 +34,7 @@ pub struct Done {
 }
 
 impl Session {
-    /// An empty working folder, no variable, nothing on standard input and room for all output.
+    /// An empty working directory, no variable, nothing on standard input and room for all output.
     pub fn new(alloc: Global) -> Result<Session, AllocError> {
         Ok(Session {
             alloc,
@@ -90,7 +90,7 @@ fn ended(status: u8, out: Target, err: Target, read: usize) -> Result<Done, NoMe
     })
 }
 
-/// A machine that has its working folder alone.
+/// A machine that has its working directory alone.
 fn machine(alloc: Global) -> Result<State, AllocError> {
     let mut tree = Tree::new(alloc, FOLDER)?;
     tree.put(FOLDER, Node::Folder)?;

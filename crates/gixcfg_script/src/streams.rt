@@ -18,7 +18,7 @@ pub struct Source {
 }
 
 impl Source {
-    /// A text, so many bytes at a time, and what comes after it in place of its end.
+    /// A text, so many bytes at a time. After it comes `refusal`, in place of its end.
     pub fn new(text: Vec<u8>, step: usize, refusal: Option<Refusal>) -> Source {
         Source {
             text,

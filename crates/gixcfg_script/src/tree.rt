@@ -1,4 +1,4 @@
-//! Files, folders and symbolic links in memory, by their paths. Links are followed where a path ends, and not on its way.
+//! Files, directories and symbolic links in memory, by their paths. Links are followed where a path ends, and not on its way.
 
 use crate::refusal::Refusal;
 use std::alloc::{AllocError, Global};
@@ -17,7 +17,7 @@ const MAY_READ: u32 = 0o400;
 /// What is at a path.
 #[derive(Drop)]
 pub enum Node {
-    /// A folder.
+    /// A directory.
     Folder,
     /// A file of this text, with these rights.
     File(Vec<u8>, u32),
@@ -33,7 +33,7 @@ struct Entry {
     node: Node,
 }
 
-/// All that is there, and the folder in which relative paths begin.
+/// All that is there, and the directory in which relative paths begin.
 #[derive(Drop)]
 pub struct Tree {
     alloc: Global,
@@ -42,7 +42,7 @@ pub struct Tree {
     made: usize,
 }
 
-/// A path from the root without `.`, `..` and further slashes; a relative one begins in a folder. The root has the empty path.
+/// A path from the root without `.`, `..` and further slashes; a relative one begins in a directory. The root has the empty path.
 fn absolute(alloc: Global, folder: &str, path: &str) -> Result<String, AllocError> {
     let mut whole = match path.starts_with('/') {
         true => String::new(alloc),
@@ -63,7 +63,7 @@ fn step(alloc: Global, path: String, part: &str) -> Result<String, AllocError> {
     }
 }
 
-/// The folder that holds what is at a path.
+/// The directory that holds what is at a path.
 fn folder_of(path: &str) -> &str {
     match path.rsplit_once('/') {
         Some((folder, _)) => folder,
@@ -71,7 +71,7 @@ fn folder_of(path: &str) -> &str {
     }
 }
 
-/// The name of what is at a path, if it is in a folder.
+/// The name of what is at a path, if it is in a directory.
 fn name_in<'a>(path: &'a str, folder: &str) -> Option<&'a str> {
     match path.rsplit_once('/') {
         Some((start, name)) if start == folder => Some(name),
@@ -90,7 +90,7 @@ impl Tree {
         })
     }
 
-    /// The folder in which relative paths begin.
+    /// The directory in which relative paths begin.
     pub fn folder(&self) -> &str {
         &self.folder
     }
@@ -190,7 +190,7 @@ impl Tree {
         }
     }
 
-    /// The number of the file or folder that a path leads to, which may be read.
+    /// The number of the file or directory that a path leads to. It may be read.
     pub fn open(&self, path: &str) -> io::Result<usize> {
         let entry = self.found(path)?;
         match &entry.node {
@@ -199,7 +199,7 @@ impl Tree {
         }
     }
 
-    /// Makes an empty file at a path, in a folder that is there, and returns its number.
+    /// Makes an empty file at a path, and returns its number. The directory for it is there.
     pub fn create(&mut self, path: &str) -> io::Result<usize> {
         let whole = self.whole(path)?;
         if self.at(&whole).is_some() {
@@ -238,7 +238,7 @@ impl Tree {
         Ok(String::from_str(self.alloc, &self.found(path)?.path)?)
     }
 
-    /// The names in the folder that a path leads to, each with a zero byte behind it.
+    /// The names in the directory that a path leads to. Each has a zero byte behind it.
     pub fn names_in(&self, path: &str) -> io::Result<Vec<u8>> {
         let folder = self.found(path)?;
         let Node::Folder = folder.node else {
@@ -278,7 +278,7 @@ impl Tree {
         }
     }
 
-    /// The text and the rights of the file that a path leads to, if there is one.
+    /// The text and the rights of the file that a path leads to, if any.
     pub fn file(&self, path: &str) -> Option<(&[u8], u32)> {
         match self.found(path) {
             Ok(

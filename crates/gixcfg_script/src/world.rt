@@ -1,4 +1,4 @@
-//! The machine that calls are run on: a working folder below a repository's, the files of the user and of the system, and one file more.
+//! The machine that calls are run on: a working directory below a repository's, the files of the user and of the system, and one file more.
 
 use crate::machine::{Machine, State};
 use crate::tree::{Node, Tree};
@@ -100,7 +100,7 @@ impl Done {
     }
 }
 
-/// Runs a call of these words, with blanks between them, as the program does where no stream is a terminal.
+/// Runs a call of these words, with spaces between them, as the program does. No stream is a terminal.
 pub fn called(state: &State, words: &str, input: &str) -> Result<Done, NoMemory> {
     called_on(state, Terminal::none(), words, input)
 }

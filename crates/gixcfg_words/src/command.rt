@@ -36,7 +36,7 @@ pub enum Command<'a> {
     RenameSection(Renaming<'a>),
     /// Removes the sections of a name.
     RemoveSection(Removal<'a>),
-    /// Lays files out.
+    /// Formats files.
     Fmt(Fmt<'a>),
     /// Tells what is wrong with files.
     Check(Check<'a>),
@@ -88,7 +88,7 @@ pub enum Source<'a> {
     Effective,
 }
 
-/// What a call reads, and whether with what it includes; where that isn't said, it depends on what is read.
+/// What a call reads, and whether with what it includes. Where that isn't said, it depends on what is read.
 #[derive(Clone, Copy)]
 pub struct Reading<'a> {
     /// What is read.
@@ -305,7 +305,7 @@ pub enum Newline {
     Detect,
 }
 
-/// The files that are laid out.
+/// The files that are formatted.
 #[derive(Drop)]
 pub enum Files<'a> {
     /// One.
@@ -319,7 +319,7 @@ pub enum Files<'a> {
 pub struct Fmt<'a> {
     /// The files.
     pub files: Files<'a>,
-    /// Whether it is only told which aren't laid out.
+    /// Whether it is only told which aren't formatted.
     pub is_check: bool,
     /// What comes before a name.
     pub indent: Option<Indent>,
@@ -362,7 +362,7 @@ pub struct Explain<'a> {
     pub reading: Reading<'a>,
     /// The key.
     pub key: KeyRef<'a>,
-    /// Whether a byte 0 ends each field, in place of a tab or a line feed.
+    /// Whether a byte 0 ends each field, instead of a tab or a line feed.
     pub is_null: bool,
 }
 
@@ -409,7 +409,7 @@ impl Place {
 }
 
 impl Command<'_> {
-    /// Whether it reads standard input without being told so by a `-` among the names of files.
+    /// Whether it reads standard input without a `-` among the names of files.
     pub fn reads_input(&self) -> bool {
         match self {
             Command::Print => true,
@@ -467,7 +467,7 @@ impl Reading<'_> {
 }
 
 impl Files<'_> {
-    /// Whether standard input is laid out.
+    /// Whether standard input is formatted.
     fn is_input(&self) -> bool {
         matches!(self, Files::One(Target::Input))
     }

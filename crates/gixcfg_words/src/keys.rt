@@ -39,7 +39,7 @@ pub fn key_of<'a>(word: &'a str) -> Result<KeyRef<'a>, Fault<'a>>
 ///
 /// # Errors
 ///
-/// As those of [`key_of`].
+/// Those of [`key_of`].
 pub(crate) fn key_if<'a>(word: &'a str) -> Result<Option<KeyRef<'a>>, Fault<'a>>
     ensures { Gives (option_map keys.key_of) (key_if word.now) result }
 {
@@ -52,7 +52,7 @@ pub(crate) fn key_if<'a>(word: &'a str) -> Result<Option<KeyRef<'a>>, Fault<'a>>
     }
 }
 
-/// The name of a section and its subsection, which a word has with a dot between them.
+/// The names of a section and subsection that an argument has, with a dot between.
 pub fn names_of(word: &str) -> Names<'_>
     ensures { tasks.names_of result ≡ asking.names_in word.now }
 {

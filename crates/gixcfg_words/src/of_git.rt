@@ -21,7 +21,7 @@ use std::alloc::Global;
 ///
 /// # Errors
 ///
-/// As those of [`crate::read`].
+/// Those of [`crate::read`].
 pub(crate) fn read<'a>(alloc: Global, words: &[&'a str]) -> Result<Command<'a>, Fault<'a>>
     ensures { Gives task_of (asking.form_asked (map (λ w. w.now) words.now)) result }
 {

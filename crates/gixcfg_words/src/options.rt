@@ -91,7 +91,7 @@ pub enum Opt {
     ShowNames,
     /// The names without values.
     NameOnly,
-    /// Whether the file is laid out, and nothing written.
+    /// Whether the file is formatted, and nothing written.
     Check,
     /// What comes before a name.
     Indent,

@@ -171,7 +171,7 @@ impl<'a> Given<'a> {
         }
     }
 
-    /// The last of the entries that are asked for by a word, or what is given as `--default`.
+    /// The last of the entries that an argument asks for, or what `--default` gives.
     pub fn last(&self, word: &'a str) -> Choice<'a>
         ensures { tasks.chosen_of result ≡ asking.last (spec.seen self.now) word.now }
     {

@@ -137,7 +137,7 @@ fn unset<'a>(key: KeyRef<'a>) -> Command<'a>
     })
 }
 
-/// That standard input is laid out as it is by default.
+/// That standard input is formatted as it is by default.
 fn layout<'a>() -> Fmt<'a>
     ensures { plain_of_fmt result.files result.is_check result.indent result.newline ≡ Some spec.Fmt }
 {

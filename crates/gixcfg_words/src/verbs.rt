@@ -17,7 +17,7 @@ pub enum Verb {
     RenameSection,
     /// Takes the sections of a name out.
     RemoveSection,
-    /// Lays files out.
+    /// Formats files.
     Fmt,
     /// Tells the faults of each file.
     Check,

@@ -539,7 +539,7 @@ fn fmt<'a>(given: Given<'a>) -> Result<Command<'a>, Fault<'a>>
     }
 }
 
-/// That a file is laid out, or those that the words name.
+/// That a file is formatted, or those that the words name.
 fn fmt_of<'a>(given: Given<'a>, target: Option<Target<'a>>) -> Command<'a>
     ensures { task_of result ≡ asking.laid_by (spec.seen given.entry) (option_map tasks.where_of target.entry) }
 {

@@ -45,7 +45,7 @@ pub enum Answer<'a> {
     Entry(String, BString),
     /// Words as they are written, each after a blank.
     Words(String),
-    /// The text of a refusal.
+    /// The text of an error.
     Message(Error),
     /// The events of a text.
     Events(Events),

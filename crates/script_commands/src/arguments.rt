@@ -34,7 +34,7 @@ pub fn owned(alloc: Global, bytes: Option<&[u8]>) -> Result<Option<BString>, Ref
     }
 }
 
-/// The section's number that is written so; if there is none, the number of no section.
+/// The section's number that is written so, or else the number of no section.
 pub fn id_of(alloc: Global, file: &File, number: usize) -> Result<SectionId, Refusal> {
     // As in the Rust crate, only its text shows a section's number.
     let wanted = format!(in alloc; "{number}")?;

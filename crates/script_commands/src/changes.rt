@@ -71,7 +71,7 @@ pub fn outside_outcome<'a>(
     }
 }
 
-/// Commands that make a file of what is outside, and the one that asks for a place of configuration.
+/// Commands that make a file of what is outside. The one that asks for a place of configuration is among them.
 pub fn loader_outcome<'a>(
     alloc: Global,
     session: &mut Session,

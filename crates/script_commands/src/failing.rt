@@ -37,8 +37,8 @@ impl Failure {
     }
 }
 
-/// Files in memory, of whose calls one read and one question for trust may fail, each by its turn. Since what is at a path doesn't
-/// decide how a call ends, it reports no table.
+/// Files in memory, some of whose calls may fail. These are one read and one question for trust, each by its turn. Since what is
+/// at a path doesn't decide how a call ends, it reports no table.
 #[derive(Drop)]
 pub struct TurnFiles {
     files: MemFiles,

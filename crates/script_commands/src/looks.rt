@@ -55,7 +55,7 @@ pub fn look_up_outcome<'a>(file: &File, command: LookUpCommand, words: &[Word<'_
     }
 }
 
-/// Commands that look up values of a key with their sections, or in a type that the caller names.
+/// Commands that look up values of a key with their sections, or in a type. The caller names the type.
 pub fn typed_outcome<'a>(
     alloc: Global,
     file: &File,

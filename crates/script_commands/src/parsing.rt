@@ -14,7 +14,7 @@ pub fn events<'a>(alloc: Global, words: &[Word<'_>]) -> Outcome<'a> {
     Ok(Answer::Events(Events::from_bytes(alloc, bytes(words)?, None)?))
 }
 
-/// `errtext BYTES`: the text of the refusal of a text.
+/// `errtext BYTES`: the text of the error of a text.
 pub fn errtext<'a>(alloc: Global, words: &[Word<'_>]) -> Outcome<'a> {
     match Events::from_bytes(alloc, bytes(words)?, None) {
         Ok(_) => Ok(Answer::Absent),

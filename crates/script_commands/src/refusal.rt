@@ -16,11 +16,11 @@ use std::alloc::{AllocError, AllocFailed};
 pub enum Refusal {
     /// The line is not understood, or asks for something impossible.
     Line,
-    /// The library's refusal, by its number.
+    /// The library's error, by its number.
     Numbered(u8),
-    /// The refusal of a value by its type, as a word.
+    /// The error of a value by its type, as a word.
     Mistyped(&'static str),
-    /// The parser's refusal of a text that has no document.
+    /// The parser's error for a text that has no document.
     Unread(Error),
     /// A writer failed after it took these bytes.
     Unwritten(SinkFault, Vec<u8>),

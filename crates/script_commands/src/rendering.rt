@@ -17,7 +17,7 @@ use script_words::answers::{
 };
 use std::alloc::{AllocError, Global};
 
-/// The line that answers a command, with a first word that says whether a growth was refused, if that is known.
+/// The line that answers a command. Its first word says whether an allocation was refused, if that is known.
 pub fn line_of(
     alloc: Global,
     refused: Option<bool>,
@@ -198,7 +198,7 @@ fn put_refusal(alloc: Global, line: &mut String, refusal: &Refusal) -> Result<()
     }
 }
 
-/// The parser's refusal: the line, the kind with `-` for its blank, and the data.
+/// The parser's error: the line, the kind with `-` for its blank, and the data.
 fn put_unread(alloc: Global, line: &mut String, refusal: &Error) -> Result<(), AllocError> {
     put_error(line, refusal.number())?;
     put_number(line, refusal.line_number())?;

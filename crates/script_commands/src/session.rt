@@ -156,7 +156,7 @@ impl Session {
         }
     }
 
-    /// Puts a section into that place, or empties it, and returns the one that was there.
+    /// Puts a section into that place, or empties it. Returns the one that was there.
     pub fn replace_section(&mut self, place: Place, section: Option<Section>) -> Option<Section> {
         match place {
             Place::S => replace(&mut self.s, section),

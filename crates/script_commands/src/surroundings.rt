@@ -160,7 +160,7 @@ impl Outside {
         self.expansion.options()
     }
 
-    /// The folder of the repository with its symbolic links resolved; a fault if none is set.
+    /// The directory of the repository with its symbolic links resolved. A fault if none is set.
     pub fn real_folder(&self) -> Result<&str, FileFault> {
         self.expansion.real_folder()
     }

@@ -58,7 +58,7 @@ pub fn put_integer(line: &mut String, number: i64) -> Result<(), AllocError> {
     write!(line, " {number}")
 }
 
-/// A refusal by its number.
+/// An error by its number.
 pub fn put_error(line: &mut String, number: u8) -> Result<(), AllocError> {
     write!(line, "err E{number}")
 }

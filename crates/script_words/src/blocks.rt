@@ -25,7 +25,7 @@ fn turn_of(line: &[u8]) -> Turn {
     }
 }
 
-/// The next line of a block that is for its editor; `None` after the block, and after the last line of the script. The lines before
+/// The next line of a block that is for its editor. `None` after the block, and after the last line of the script. The lines before
 /// it, and the one that ends the block, are answered here.
 pub fn next_asked<R: Read + Drop, W: Write + Drop>(
     alloc: Global,

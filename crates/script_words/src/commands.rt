@@ -76,7 +76,7 @@ pub enum LookUpCommand {
     Integers,
 }
 
-/// Commands that look up values of a key with their sections, or in a type that the caller names.
+/// Commands that look up values of a key with their sections, or in a type. The caller names the type.
 #[derive(Clone, Copy)]
 pub enum TypedCommand {
     /// `rawwith`
@@ -250,7 +250,7 @@ pub enum OutsideCommand {
     FailTrust,
 }
 
-/// Commands that make a file of what is outside, and the one that shows a place of configuration.
+/// Commands that make a file of what is outside. The one that shows a place of configuration is among them.
 #[derive(Clone, Copy)]
 pub enum LoaderCommand {
     /// `place`
@@ -269,7 +269,7 @@ pub enum LoaderCommand {
     FromGitDir,
 }
 
-/// The command that the first word names, and the words after it; `None`, and all words, if it names none.
+/// The command that the first word names, and the words after it. `None`, and all words, if it names none.
 pub fn command_of<'a, 'b>(words: &'a [Word<'b>]) -> (Option<Command>, &'a [Word<'b>]) {
     match words.split_first() {
         Some((Word::Plain(word), rest)) => (named(word), rest),

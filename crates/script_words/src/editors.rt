@@ -110,7 +110,7 @@ pub enum ValuesLine {
     End,
 }
 
-/// The editor that the first word opens, and the words after it; `None`, and all words, if it opens none.
+/// The editor that the first word opens, and the words after it. `None`, and all words, if it opens none.
 pub fn opening_of<'a, 'b>(words: &'a [Word<'b>]) -> (Option<Opening>, &'a [Word<'b>]) {
     match words.split_first() {
         Some((Word::Plain(word), rest)) => (named_in(&OPENINGS, word), rest),
@@ -118,7 +118,7 @@ pub fn opening_of<'a, 'b>(words: &'a [Word<'b>]) -> (Option<Opening>, &'a [Word<
     }
 }
 
-/// What a line asks of the editor of a section, and the words after it; `None`, and all words, for any other line.
+/// What a line asks of the editor of a section, and the words after it. `None`, and all words, for any other line.
 pub fn section_line_of<'a, 'b>(words: &'a [Word<'b>]) -> (Option<SectionLine>, &'a [Word<'b>]) {
     match words.split_first() {
         Some((Word::Plain(word), rest)) => (section_line_named(word), rest),
@@ -126,7 +126,7 @@ pub fn section_line_of<'a, 'b>(words: &'a [Word<'b>]) -> (Option<SectionLine>, &
     }
 }
 
-/// What a line asks of the editor of one value, and the words after it; `None`, and all words, for any other line.
+/// What a line asks of the editor of one value, and the words after it. `None`, and all words, for any other line.
 pub fn value_line_of<'a, 'b>(words: &'a [Word<'b>]) -> (Option<ValueLine>, &'a [Word<'b>]) {
     match words.split_first() {
         Some((Word::Plain(word), rest)) => (named_in(&VALUE_LINES, word), rest),
@@ -134,8 +134,8 @@ pub fn value_line_of<'a, 'b>(words: &'a [Word<'b>]) -> (Option<ValueLine>, &'a [
     }
 }
 
-/// What a line asks of the editor of all values of a key, and the words after it; `None`, and all words, for any other
-/// line.
+/// What a line asks of an editor of values, and the words after it. It is the editor of all values of a key. `None`, and all
+/// words, for any other line.
 pub fn values_line_of<'a, 'b>(words: &'a [Word<'b>]) -> (Option<ValuesLine>, &'a [Word<'b>]) {
     match words.split_first() {
         Some((Word::Plain(word), rest)) => (named_in(&VALUES_LINES, word), rest),

@@ -36,8 +36,8 @@ impl From<AllocError> for Fault {
 /// The exit status when memory ran out outside of any command.
 pub const NO_MEMORY: u8 = 5;
 
-/// Answers the script that is read, one line for each of its lines that isn't empty, and each at once. Returns
-/// the exit status: 0 after the last line, 4 if a stream failed, 5 when memory ran out outside of any command.
+/// Answers the script that is read, a line for each that isn't empty. Each is answered at once. Returns the exit status: 0 after the
+/// last line, 4 if a stream failed, 5 when memory ran out outside of any command.
 pub fn play<R: Read + Drop, W: Write + Drop, P: Player>(
     alloc: Global,
     input: R,

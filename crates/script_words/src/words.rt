@@ -8,7 +8,7 @@ ghost use Rattle.script_words.specs.Words.{StandsFor, word_of_bytes};
 use hex::FromHexError;
 use std::alloc::{AllocError, Global};
 
-/// A line that has the wrong number of words, or a word of the wrong form.
+/// A line with the wrong number of words, or a word of the wrong form.
 #[derive(Clone, Copy)]
 pub struct NotUnderstood;
 

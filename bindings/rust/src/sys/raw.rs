@@ -27,9 +27,9 @@ pub(crate) const SECTION_MISSING: u32 = 7;
 pub(crate) const SUBSECTION_MISSING: u32 = 8;
 /// The sections have no such value.
 pub(crate) const KEY_MISSING: u32 = 9;
-/// The value is not of the type that is asked for, or 64 bits don't hold it.
+/// The value is not of the type asked for, or 64 bits don't hold it.
 pub(crate) const BAD_VALUE: u32 = 11;
-/// A path needs a folder that is not known, or is empty.
+/// A path needs a directory that is not known, or is empty.
 pub(crate) const MISSING_FOLDER: u32 = 12;
 /// A path is not UTF-8.
 pub(crate) const PATH_NOT_UTF8: u32 = 13;
@@ -41,7 +41,7 @@ pub(crate) const INCLUDE_DEPTH_EXCEEDED: u32 = 15;
 pub(crate) const MISSING_CONFIG_PATH: u32 = 16;
 /// The condition of an include is about a repository, and there is none.
 pub(crate) const MISSING_GIT_DIR: u32 = 17;
-/// The repository's folder can't be resolved.
+/// The repository's directory can't be resolved.
 pub(crate) const REALPATH: u32 = 18;
 /// A file that is included can't be opened.
 pub(crate) const INCLUDE_NOT_OPENED: u32 = 19;
@@ -79,9 +79,9 @@ pub(crate) const VARIABLE_NOT_TOLD: u32 = 105;
 pub(crate) const SOURCE_GIT_INSTALLATION: u32 = 1;
 /// The configuration of the whole machine.
 pub(crate) const SOURCE_SYSTEM: u32 = 2;
-/// The user's configuration in `git/config` of the folder for configuration.
+/// The user's configuration in `git/config` of the directory for configuration.
 pub(crate) const SOURCE_GIT: u32 = 4;
-/// The user's configuration in `.gitconfig` of the home folder.
+/// The user's configuration in `.gitconfig` of the home directory.
 pub(crate) const SOURCE_USER: u32 = 8;
 /// The repository's configuration.
 pub(crate) const SOURCE_LOCAL: u32 = 16;
@@ -255,33 +255,33 @@ pub(crate) struct Filter {
     pub(crate) least_trust: u32,
 }
 
-/// The folders that the shorthands of paths stand for. One that is not known refuses the paths that
-/// need it.
+/// The directories that the shorthands of paths stand for. One that is not known refuses the paths
+/// that need it.
 #[repr(C)]
 #[derive(Clone, Copy)]
 pub(crate) struct Folders<'a> {
     /// Whether it is known where git is installed.
     pub(crate) has_installation: bool,
-    /// The folder where git is installed, for `%(prefix)/`.
+    /// The directory where git is installed, for `%(prefix)/`.
     pub(crate) installation: Text<'a>,
-    /// Whether the user's home folder is known.
+    /// Whether the user's home directory is known.
     pub(crate) has_home: bool,
-    /// The user's home folder, for `~/`.
+    /// The user's home directory, for `~/`.
     pub(crate) home: Text<'a>,
 }
 
-/// How a text is laid out. gix_config_layout_default fills it.
+/// How a text is formatted. gix_config_layout_default fills it.
 #[repr(C)]
 #[derive(Clone, Copy, Default)]
 pub(crate) struct Layout {
-    /// Whether the blanks stay that are before a comment on a line of its own before the first
-    /// header.
+    /// Whether whitespace stays before comments on lines of their own before the first header.
     pub(crate) keeps_root_blanks: bool,
     /// If they don't stay: whether tabs come in their place, else spaces.
     pub(crate) has_root_tabs: bool,
     /// And how many.
     pub(crate) root_indent: usize,
-    /// Whether tabs come before a name or a comment that begins a line after a header, else spaces.
+    /// Whether tabs come before what begins a line after a header, else spaces. That is a name or a
+    /// comment.
     pub(crate) has_tabs: bool,
     /// And how many.
     pub(crate) indent: usize,
@@ -304,22 +304,23 @@ pub(crate) struct Layout {
 }
 
 /// How includes are followed: ten files deep; deeper ones are refused, and so is a path relative to
-/// the folder of a file that has no path.
+/// the directory of a file that has no path.
 #[repr(C)]
 #[derive(Clone, Copy)]
 pub(crate) struct Includes<'a> {
-    /// Whether a path is refused whose shorthand stands for nothing, and a condition on the
-    /// repository's folder if there is no repository; else such an include is left out.
+    /// Whether an include that lacks something is refused; else it is left out. That is a path
+    /// whose shorthand stands for nothing, or a condition on the repository's directory if there is
+    /// no repository.
     pub(crate) strict: bool,
-    /// Whether blanks, line endings and comments of the files that are read are left out.
+    /// Whether whitespace, line endings and comments of the files that are read are left out.
     pub(crate) lossy: bool,
-    /// The folders that the shorthands of paths stand for.
+    /// The directories that the shorthands of paths stand for.
     pub(crate) folders: Folders<'a>,
     /// Whether there is a repository.
     pub(crate) has_git_folder: bool,
-    /// The folder of the repository, for the conditions `gitdir:` and `gitdir/i:`.
+    /// The directory of the repository, for the conditions `gitdir:` and `gitdir/i:`.
     pub(crate) git_folder: Text<'a>,
-    /// The same folder, with its symbolic links resolved.
+    /// The same directory, with its symbolic links resolved.
     pub(crate) real_git_folder: Text<'a>,
     /// Whether there is a branch.
     pub(crate) has_branch: bool,
@@ -347,7 +348,7 @@ pub(crate) struct Load<'a> {
 pub(crate) struct Metadata<'a> {
     /// Whether it is that of a file with a path.
     pub(crate) has_path: bool,
-    /// The path of its file, if there is one: that of an include is relative to its folder.
+    /// The path of its file, if there is one: that of an include is relative to its directory.
     pub(crate) path: Text<'a>,
     /// The place that it stands for: one of the sources' numbers.
     pub(crate) source: u32,
@@ -364,22 +365,23 @@ pub(crate) struct Places<'a> {
     pub(crate) has_installation: bool,
     /// Its path, if there is some.
     pub(crate) installation: Text<'a>,
-    /// The folder that `etc/gitconfig` is in, the configuration of the whole machine: `/` for most.
+    /// The directory that `etc/gitconfig` is in, the configuration of the whole machine: `/` for
+    /// most.
     pub(crate) system_prefix: Text<'a>,
-    /// Whether the user's home folder is known.
+    /// Whether the user's home directory is known.
     pub(crate) has_home: bool,
-    /// The user's home folder, for `~/` in the paths of includes.
+    /// The user's home directory, for `~/` in the paths of includes.
     pub(crate) home: Text<'a>,
 }
 
-/// A repository: its folders, and the places of configuration besides.
+/// A repository: its directories, and the places of configuration besides.
 #[repr(C)]
 #[derive(Clone, Copy)]
 pub(crate) struct Repository<'a> {
-    /// The folder of the repository, such as `/home/ada/project/.git`: its configuration is in the
-    /// file `config` there.
+    /// The directory of the repository, such as `/home/ada/project/.git`: its configuration is in
+    /// the file `config` there.
     pub(crate) git_folder: Text<'a>,
-    /// The same folder, with its symbolic links resolved.
+    /// The same directory, with its symbolic links resolved.
     pub(crate) real_git_folder: Text<'a>,
     /// The places of configuration.
     pub(crate) places: Places<'a>,
@@ -480,8 +482,8 @@ pub(crate) struct SectionRow {
     pub(crate) entries_at: usize,
     /// How many entries it has: they stand one after the other.
     pub(crate) entries_len: usize,
-    /// Its number in its file, which stays whatever is added or removed around it, and which no
-    /// other section gets.
+    /// Its number in its file. It stays whatever is added or removed around the section, and no
+    /// other section gets it.
     pub(crate) number: usize,
 }
 

@@ -25,7 +25,8 @@ fn keeps(buffer: &[u8], copies: &[u8], event: &Event, filter: fn(&EventRef<'_>) 
     matches!(event, Event::SectionHeader(_)) || filter(&event_ref(buffer, copies, event))
 }
 
-/// The events that are headers or that the filter keeps, in order, and whether each name, separator and value is among them.
+/// The events that are headers or that the filter keeps, in order. The result also says whether each name, separator and
+/// value is among them.
 pub fn kept_events(
     alloc: Global,
     buffer: &[u8],
@@ -77,7 +78,7 @@ fn is_entry(event: &Event) -> bool
     )
 }
 
-/// A filter that drops blanks, line endings and comments, and keeps everything that has a meaning.
+/// A filter that drops blanks, line endings and comments. It keeps everything that has a meaning.
 pub fn keeps_meaning(event: &EventRef<'_>) -> bool
     ensures { result ≡ spec.keeps_meaning (shown event.now) }
 {

@@ -24,7 +24,7 @@ impl<'a> EventIter<'a> {
     ghost use Rattle.gitconf_items.specs.ShownEvents.{shown_event};
     ghost use Rattle.gitconf_parse.specs.EventIters.{events_left};
 
-    /// The events of a slice, whose spans are offsets of `buffer`, and whose copies are in `copies`.
+    /// The events of a slice. Their spans are offsets of `buffer`, and their copies are in `copies`.
     pub fn over(buffer: &'a [u8], copies: &'a [u8], events: EventSlice<'a>) -> EventIter<'a>
         requires { AreWithin buffer.now copies.now (events_of events) }
         ensures { events_left result ≡ map (shown_event buffer.now copies.now) (events_of events.entry) }
@@ -122,7 +122,7 @@ impl<'a> SectionIter<'a> {
     ghost use Rattle.gitconf_items.specs.Sections.{is_header_event, sections_of};
     ghost use Rattle.gitconf_parse.specs.EventIters.{sections_left};
 
-    /// The sections of a slice of events, whose spans are offsets of `buffer`, and whose copies are in `copies`.
+    /// The sections of a slice of events. The events' spans are offsets of `buffer`, and their copies are in `copies`.
     pub fn over(buffer: &'a [u8], copies: &'a [u8], events: EventSlice<'a>) -> SectionIter<'a>
         requires { AreWithin buffer.now copies.now (events_of events) }
         ensures { sections_left result ≡ map (λ events. map (shown_event buffer.now copies.now) events) (sections_of is_header_event (events_of events.entry)) }

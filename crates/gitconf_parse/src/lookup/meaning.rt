@@ -68,7 +68,7 @@ pub fn meaning(alloc: Global, input: &[u8], first: usize) -> Result<BString, NoM
     decoded(alloc, &raw)
 }
 
-/// What an entry means whose value begins at an offset, or that has none and counts as empty.
+/// What an entry means whose value begins at an offset. An entry without a value counts as empty.
 pub fn entry_meaning(alloc: Global, input: &[u8], value: Option<usize>) -> Result<BString, NoMemory>
     requires within { ValueInside (length input.now) value }
     requires fits { length input.now < 2 ^ 32 }

@@ -42,8 +42,8 @@ fn lowest(bits: u64) -> usize
     (bits | 0x1_0000).trailing_zeros() as usize
 }
 
-/// How many bytes of the block at an offset come before the first that might not stand for itself in a value. All control bytes, and
-/// `!`, count as such.
+/// How many bytes of a block come before the first special one. The block is that at an offset. Special is what might not stand for
+/// itself in a value; all control bytes, and `!`, count as such.
 #[inline(always)]
 pub fn plain_front(input: &[u8], at: usize) -> usize
     requires { at + 16 ≤ length input.now }
@@ -54,7 +54,8 @@ pub fn plain_front(input: &[u8], at: usize) -> usize
     lowest(at_most(bytes, b'#') | equal(bytes, b';') | equal(bytes, b'\\'))
 }
 
-/// How many bytes of the block at an offset come before the first that doesn't stand for itself between the quotes of a header.
+/// How many bytes of a block come before the first special one. The block is that at an offset. Special is what doesn't stand for
+/// itself between the quotes of a header.
 #[inline(always)]
 pub fn spelled_front(input: &[u8], at: usize) -> usize
     requires { at + 16 ≤ length input.now }
@@ -65,7 +66,7 @@ pub fn spelled_front(input: &[u8], at: usize) -> usize
     lowest(equal(bytes, b'"') | equal(bytes, b'\\') | equal(bytes, b'\n'))
 }
 
-/// How many bytes of the block at an offset come before the first CR or LF.
+/// How many bytes of the block at an offset precede the first CR or LF.
 #[inline(always)]
 pub fn line_front(input: &[u8], at: usize) -> usize
     requires { at + 16 ≤ length input.now }

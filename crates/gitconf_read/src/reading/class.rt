@@ -6,7 +6,7 @@ ghost use Rattle.gitconf_read.specs.Reading as spec;
 /// Letters, digits and the dash.
 const NAME: u8 = 1;
 
-/// Bytes that stand for themselves in a value, quotes or not: all but LF, `;`, `#`, a quote, a backslash and white space.
+/// Bytes that stand for themselves in a value, quotes or not: all but LF, `;`, `#`, a quote, a backslash and whitespace.
 const PLAIN: u8 = 2;
 
 /// Space and tab.

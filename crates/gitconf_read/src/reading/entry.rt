@@ -52,7 +52,7 @@ fn is_plain_sign(input: &[u8], at: usize) -> bool
     !is_blank(input[at + 3])
 }
 
-/// The offset after the blanks that follow a name, and, if `=` is there, the one after the blanks that follow it.
+/// The offset after the blanks that follow a name. If `=` is there, also the one after the blanks that follow it.
 #[inline(always)]
 pub fn sign_ends(input: &[u8], at: usize) -> (usize, Option<usize>)
     requires { at ≤ length input.now }

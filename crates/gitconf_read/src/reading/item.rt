@@ -310,7 +310,7 @@ fn push_blanks(
     Ok(())
 }
 
-/// Adds what is kept of the items from an offset on, up to a header or the end, and returns the offset after them.
+/// Adds what is kept of the items from an offset on. They go up to a header or the end. Returns the offset after them.
 pub fn push_items(
     alloc: Global,
     input: &[u8],
@@ -340,7 +340,7 @@ pub fn push_items(
     Ok(at)
 }
 
-/// The header whose bracket is at an offset, and the offset after it; `wanted` is reported as looked for if no header is there.
+/// The header whose bracket is at an offset, and the offset after it. `wanted` is reported as looked for if no header is there.
 #[inline(always)]
 pub fn header_first(input: &[u8], at: usize, wanted: Expected) -> Result<(Header, usize), ReadError>
     requires within { at < length input.now }

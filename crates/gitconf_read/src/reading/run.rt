@@ -69,7 +69,7 @@ pub fn run_end(input: &[u8], from: usize, run: Run) -> usize
     i
 }
 
-/// The offset after the run that begins at an offset, faster for a run that is mostly long.
+/// The offset after the run that begins at an offset. This is faster for a run that is mostly long.
 #[inline(always)]
 pub fn long_run_end(input: &[u8], from: usize, run: Run) -> usize
     requires { from ≤ length input.now }
@@ -142,7 +142,7 @@ fn is_header_gap(input: &[u8], at: usize) -> bool
     input[at + 1] == b'['
 }
 
-/// The offset after the line endings at an offset, and the one after the blanks that follow.
+/// The offsets after the line endings at an offset, and after the blanks that follow.
 #[inline(always)]
 pub fn gap_ends(input: &[u8], at: usize) -> (usize, usize)
     requires { at ≤ length input.now }

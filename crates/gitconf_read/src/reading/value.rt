@@ -16,7 +16,7 @@ use gitconf_items::event::{Event, Span};
 /// How a piece of a value ends.
 #[derive(Clone, Copy)]
 pub enum PieceEnd {
-    /// At the end of the value, which is at an offset; white space after that is no part of it.
+    /// At the end of the value, which is at an offset; whitespace after that is no part of it.
     Last(usize),
     /// At a backslash before a line ending of that many bytes; what follows may be between quotes.
     GoesOn {

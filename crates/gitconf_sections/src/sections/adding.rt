@@ -30,8 +30,8 @@ use std::mem::replace;
 use std::rc::Rc;
 
 impl SectionList {
-    /// Makes room at once for that many more sections, for their places and for the indexes; each of them that is then added at the
-    /// end takes memory for its names and its items alone.
+    /// Makes room at once for that many more sections. This is room for their places and for the indexes; each of them that is then
+    /// added at the end takes memory for its names and its items alone.
     ///
     /// # Errors
     ///
@@ -46,12 +46,12 @@ impl SectionList {
         Ok(())
     }
 
-    /// Adds a section at the end, under the next number and `name` in ASCII lower case, with nothing held after it, and returns that number.
-    /// The items are its own. Takes memory for the names and for a box, and constant time and memory on average for its place.
+    /// Adds a section at the end, and returns its number. It gets the next number and `name` in ASCII lower case, and nothing is held after
+    /// it. The items are its own. Takes memory for the names and for a box, and constant time and memory on average for its place.
     ///
     /// # Errors
     ///
-    /// A [`span::Error`], number 3 if only the greatest number is left, otherwise 27 when out of memory. All is then as it was.
+    /// A [`span::Error`]: E3 if only the greatest number is left, otherwise E27 when out of memory. All is then as it was.
     pub fn push(
         &mut self,
         name: &[u8],
@@ -87,13 +87,13 @@ impl SectionList {
         Ok(id)
     }
 
-    /// Adds a section at the end, as [`SectionList::push`] does, and its items after those of the list that the sections share, which is what
-    /// a load does: takes no memory except for the names, and on average constant time and memory for the items and its place.
+    /// Adds a section at the end, as [`SectionList::push`] does, for a load. Its items go after those of the list that the sections share.
+    /// It takes no memory except for the names, and on average constant time and memory for the items and its place.
     ///
     /// # Errors
     ///
-    /// Those of [`SectionList::push`]; 27 also if the list would have more than 4294967295 items. The items are then as they were,
-    /// too.
+    /// Those of [`SectionList::push`]; E27 also if the list would have more than 4294967295 items. The items are then as they
+    /// were, too.
     pub fn push_loaded(
         &mut self,
         name: &[u8],
@@ -137,14 +137,14 @@ impl SectionList {
         Ok(id)
     }
 
-    /// Adds the sections of another list after all others, in their order and under the next numbers; their items go after those of the
+    /// Adds the sections of another list after all others, in their order. They get the next numbers; their items go after those of the
     /// list that the sections share. Takes memory for these, for the places and the indexes. Sections whose words were made from
     /// another seed get new ones first, as [`SectionList::reseed`] makes them.
     ///
     /// # Errors
     ///
-    /// A [`span::Error`], number 3 if fewer numbers are left than the other has sections, otherwise 27 when out of memory. All is then
-    /// as it was, and the other is dropped.
+    /// A [`span::Error`]: E3 if fewer numbers are left than the other has sections, otherwise E27 when out of memory. All is then as
+    /// it was, and the other is dropped.
     pub fn append(&mut self, other: SectionList) -> Result<(), span::Error>
         ensures ok { OnOk result (self.new ≡ with_all (length self.old.entries) other self.old) }
         ensures used_up { IsErrOf result 3 ↔ (no_number < self.old.next + length other.entries) }
@@ -194,8 +194,9 @@ impl SectionList {
         Ok(())
     }
 
-    /// Adds a line ending, if one is given, and others after what is held after the section at a place, and then the sections of another
-    /// list after all others, as [`SectionList::append`] does.
+    /// Adds items after what is held after a section, and another list's sections last. The items are a line ending, if one is given,
+    /// and others; they go after what is held after the section at a place. The sections go after all others, as [`SectionList::append`]
+    /// adds them.
     ///
     /// # Errors
     ///

@@ -38,8 +38,8 @@ impl SectionList {
         row.meta = meta;
     }
 
-    /// Takes the items of the section at a place, to be changed and put back by [`SectionList::put_items`]. Takes memory for as
-    /// many items if they are in the list that the sections share.
+    /// Takes the items of the section at a place. They are to be changed and put back by [`SectionList::put_items`]. Takes
+    /// memory for as many items if they are in the list that the sections share.
     ///
     /// # Errors
     ///
@@ -92,8 +92,8 @@ impl SectionList {
         row.body = Body::Nothing;
     }
 
-    /// Removes the items at these places, counted in items from 0, from the section at a place. One walk over
-    /// its items. Takes no memory.
+    /// Removes the items at these places from the section at a place. The places of the items are counted from 0, in
+    /// items of the section. One walk over its items. Takes no memory.
     pub fn leave_out(&mut self, position: usize, places: &[(SectionId, usize)])
         requires position { position < length self.old.entries }
         requires ascend { Ascend 0 places.now }
@@ -104,8 +104,8 @@ impl SectionList {
         row.body = leave_out_of(&mut self.list, body, places);
     }
 
-    /// Moves the section at a place, after `by` bytes were put before those of its buffer, and `copies_by` before the decoded copies. One
-    /// pass over its items, which takes no memory.
+    /// Moves the section at a place, after bytes were put before those of its buffer. These are `by` bytes, and `copies_by` were put
+    /// before the decoded copies. One pass over its items, which takes no memory.
     pub fn move_section(&mut self, position: usize, by: u32, copies_by: u32)
         requires position { position < length self.old.entries }
         requires movable { IfSome (section_at position self.old) (IsMovable by copies_by) }

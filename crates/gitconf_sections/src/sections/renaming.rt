@@ -11,9 +11,9 @@ use crate::word::{full_state, word_of};
 use gitconf_text::NoMemory;
 
 impl SectionList {
-    /// Gives the sections at all these places other names, `name` in ASCII lower case; their numbers, their places and what
-    /// they hold stay. Takes memory for the names once. If the places ascend, takes time for them and, once, for the
-    /// sections that have the new name, or share a bucket with them; no other sections are looked at.
+    /// Gives the sections at all these places other names. They get `name` in ASCII lower case; their numbers, their places
+    /// and what they hold stay. Takes memory for the names once. If the places ascend, takes time for them and, once, for
+    /// the sections that have the new name, or share a bucket with them; no other sections are looked at.
     ///
     /// # Errors
     ///

@@ -31,9 +31,9 @@ impl SectionList {
         }
     }
 
-    /// The sections of this name, without ASCII case, and exactly this subsection, in file order, each under its number. Takes no
-    /// memory, and constant time except for the bytes of the names; each step takes the time of the sections that share a bucket, one
-    /// or two on average besides those that are asked for.
+    /// The sections of this name and subsection, in file order, each under its number. The name is compared without ASCII case, the
+    /// subsection exactly. Takes no memory, and constant time except for the bytes of the names; each step takes the time of the
+    /// sections that share a bucket, one or two on average besides those that are asked for.
     #[inline(always)]
     pub fn named<'a, 'n, 's>(
         &'a self,
@@ -52,8 +52,8 @@ impl SectionList {
         }
     }
 
-    /// The sections of this name, without ASCII case, and any subsection, in file order, each under its number. Takes the time of
-    /// [`SectionList::named`], and no memory.
+    /// The sections of this name and any subsection, in file order, each under its number. The name is compared without ASCII
+    /// case. Takes the time of [`SectionList::named`], and no memory.
     pub fn with_name<'a, 'n>(&'a self, name: &'n str) -> WithName<'a, 'n>
         ensures left { with_name_left result ≡ all_named name.now self.now }
     {

@@ -7,8 +7,8 @@ use crate::runs::Run;
 use crate::sections::{SectionList, relocate};
 
 impl SectionList {
-    /// Weaves the sections from `first` on among those before them; their numbers, their names and what they hold stay. Takes
-    /// no memory, moves no items, and takes time for all sections: those between the runs are moved once for each time that the runs
+    /// Weaves the sections from `first` on among those before them. Their numbers, their names and what they hold stay. Takes no
+    /// memory, moves no items, and takes time for all sections: those between the runs are moved once for each time that the runs
     /// can be halved, and all are linked once. Without runs it takes constant time.
     pub fn weave(&mut self, first: usize, runs: &[Run])
         requires within { first ≤ length self.old.entries }

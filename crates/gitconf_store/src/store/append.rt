@@ -74,7 +74,7 @@ pub(crate) fn put_text(
     Ok(count)
 }
 
-/// As [`put_text`], with a line ending before the other's bytes, whose span is returned too.
+/// Like [`put_text`], but with a line ending before the other's bytes, whose span is returned too.
 ///
 /// # Errors
 ///
@@ -116,12 +116,12 @@ impl Store {
         }
     }
 
-    /// Checks whether [`Store::put_at`] may add another file to ours, and returns the line ending that then goes between; no bytes if none
-    /// is needed. Takes no memory.
+    /// Checks whether [`Store::put_at`] may add another file to ours. Returns the line ending that then goes between; no bytes if none is
+    /// needed. Takes no memory.
     ///
     /// # Errors
     ///
-    /// A [`span::Error`], number 3, if and only if [`Store::put_at`] returns it.
+    /// A [`span::Error`] (E3) if and only if [`Store::put_at`] returns it.
     pub fn check_put(
         &self,
         at: usize,
@@ -151,8 +151,8 @@ impl Store {
     ///
     /// # Errors
     ///
-    /// A [`span::Error`]: number 3 if and only if the buffer would be longer than 4294967295 bytes or fewer numbers are left than the other
-    /// has sections, before any growth, otherwise 27 when out of memory. The other is then dropped, and the file as it was.
+    /// A [`span::Error`]: E3 if and only if the buffer would be longer than 4294967295 bytes or fewer numbers are left than the other has
+    /// sections, before any allocation, otherwise E27 when out of memory. The other is then dropped, and the file as it was.
     pub(crate) fn put_at(
         &mut self,
         at: usize,

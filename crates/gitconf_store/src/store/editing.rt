@@ -20,17 +20,17 @@ impl Store {
     ghost use Rattle.gitconf_body.specs.Refusals.{span_refusal, value_refusal};
     ghost use Rattle.gitconf_store.specs.Edited.{has_number, IsEdited};
 
-    /// Pushes a line after the items of the section of a number: the editor's blanks, the key, and if a value is given `=` with the
-    /// editor's blanks around it and the value as a file spells it; then the comment, if one is given, after a space and `#`, with a space
-    /// before a first byte that is not white space, and each LF turned to a space; then the editor's line ending, unless it is switched
-    /// off. All else stays as it is; if no section has the number, everything does.
+    /// Pushes a line after the items of the section of a number: the editor's whitespace, the key, and if a value is given `=` with the
+    /// editor's whitespace around it and the value as a file spells it; then the comment, if one is given, after a space and `#`, with a
+    /// space before a first byte that is not whitespace, and each LF turned to a space; then the editor's line ending, unless it is
+    /// switched off. All else stays as it is; if no section has the number, everything does.
     ///
     /// The section is found in constant time. Takes memory for what is added to the buffer, and for the new items.
     ///
     /// # Errors
     ///
-    /// Refusal 6 for a name that no value has; otherwise 3 if and only if the buffer would be longer than 4294967295 bytes, before any
-    /// growth; 27 when out of memory. The file is then as it was.
+    /// E6 for a name that no value has; otherwise E3 if and only if the buffer would be longer than 4294967295 bytes, before any
+    /// allocation; E27 when out of memory. The file is then as it was.
     pub fn push_entry(
         &mut self,
         id: SectionId,
@@ -59,10 +59,10 @@ impl Store {
         Ok(())
     }
 
-    /// Pushes a line below that of the last entry of the section of a number, whatever its key, or below the header's line if it has no
-    /// entry, before the comments and blank lines that come after it. The line is as [`Store::push_entry`] pushes it without a comment. If
-    /// the line before it has no line ending, it gets the editor's one first. All else stays as it is; if no section has the number,
-    /// everything does.
+    /// Pushes a line below the last entry's line in the section of a number. The entry's key may be any; if the section has no entry, the
+    /// line goes below the header's line. Comments and blank lines that come after stay after it. The line is as [`Store::push_entry`]
+    /// pushes it without a comment. If the line before it has no line ending, it gets the editor's one first. All else stays as it is; if
+    /// no section has the number, everything does.
     ///
     /// The section is found in constant time; two walks from its end up to its last entry. Takes memory for what is added to the buffer, for
     /// the new items and for those behind them.
@@ -91,15 +91,15 @@ impl Store {
         Ok(())
     }
 
-    /// Pushes the editor's line ending after the items of the section of a number, even if it is switched off after lines. All else stays
-    /// as it is; if no section has the number, everything does.
+    /// Pushes the editor's line ending after the items of the section of a number. It does so even if the line ending is switched off
+    /// after lines. All else stays as it is; if no section has the number, everything does.
     ///
     /// The section is found in constant time. Takes memory for the line ending in the buffer, and for the new item.
     ///
     /// # Errors
     ///
-    /// A [`span::Error`]: number 3 if and only if the buffer would be longer than 4294967295 bytes, before any growth, otherwise 27 when out
-    /// of memory. The file is then as it was.
+    /// A [`span::Error`]: E3 if and only if the buffer would be longer than 4294967295 bytes, before any allocation, otherwise E27 when
+    /// out of memory. The file is then as it was.
     pub fn push_newline(&mut self, id: SectionId, editor: &Editor<'_>) -> Result<(), span::Error>
         requires editor { IsEditor (given_editor editor.now) }
         ensures done { IsEdited span_refusal (PushLineEnd id (given_editor editor.now)) result self.old self.new }
@@ -109,7 +109,7 @@ impl Store {
     }
 
     /// Gives the last entry of a key in the section of a number another value: what follows `=` is replaced, and `=` is added if
-    /// there is none, with the editor's blanks around it. If no entry of the section has the key, a line with it is pushed, as
+    /// there is none, with the editor's whitespace around it. If no entry of the section has the key, a line with it is pushed, as
     /// [`Store::push_entry`] does. All else stays as it is; if no section has the number, everything does. Returns the raw text of the old
     /// value: its pieces joined, not decoded; no bytes for an entry without `=`; `None` if there was no entry, or no section.
     ///
@@ -140,16 +140,16 @@ impl Store {
         Ok(old)
     }
 
-    /// Removes the last entry of a key in the section of a number, with the blanks directly before it and the line endings directly after
-    /// it. All else stays as it is. Returns the raw text of its value: its pieces joined, not decoded; no bytes for an entry without `=`.
-    /// If the section has no entry of the key, or no section has the number, nothing is changed, and the result is `None`.
+    /// Removes the last entry of a key in the section of a number. The blanks directly before it and the line endings directly after it
+    /// go too. All else stays as it is. Returns the raw text of its value: its pieces joined, not decoded; no bytes for an entry without
+    /// `=`. If the section has no entry of the key, or no section has the number, nothing is changed, and the result is `None`.
     ///
     /// The section is found in constant time; one walk over its items. Takes memory for the result alone; no byte is added to
     /// the buffer.
     ///
     /// # Errors
     ///
-    /// Out of memory, only if there is an entry. The file is then as it was.
+    /// E27 when out of memory, only if there is an entry. The file is then as it was.
     pub fn remove_entry(&mut self, id: SectionId, key: &[u8]) -> Result<Option<Vec<u8>>, NoMemory>
         ensures ok { OnOk result (self.new ≡ apply (Remove id key.now) self.old) }
         ensures answer { IfOk result (λ o. Raw (option_map (λ v. v.items) o) ≡ answer (Remove id key.now) self.old) }
@@ -169,7 +169,7 @@ impl Store {
     ///
     /// # Errors
     ///
-    /// Out of memory. The file is then as it was.
+    /// E27 when out of memory. The file is then as it was.
     pub fn remove_marked_entries(
         &mut self,
         id: SectionId,
@@ -184,17 +184,17 @@ impl Store {
         self.edit_items(id, &RemoveMarkedEntries { key, marks })?
     }
 
-    /// Removes the last entry of the section of a number, whatever its key, with the blanks directly before it and everything after
-    /// it; everything in the body if it has no entry. Returns the key as it is spelled and what its value means; no bytes for an
-    /// entry without `=`. If the section has no entry, or no section has the number, the result is `None`; in the second case nothing is
-    /// changed.
+    /// Removes the last entry of the section of a number, whatever its key. The blanks directly before it and everything after it go
+    /// too; if the section has no entry, everything in the body goes. Returns the key as it is spelled and what its value means; no
+    /// bytes for an entry without `=`. If the section has no entry, or no section has the number, the result is `None`; in the second
+    /// case nothing is changed.
     ///
     /// The section is found in constant time; one walk over its items. Takes memory for the result and the raw text of the
     /// value; no byte is added to the buffer.
     ///
     /// # Errors
     ///
-    /// Out of memory, only if there is an entry. The file is then as it was.
+    /// E27 when out of memory, only if there is an entry. The file is then as it was.
     pub fn pop_entry(&mut self, id: SectionId) -> Result<Option<(Vec<u8>, Vec<u8>)>, NoMemory>
         ensures ok { OnOk result (self.new ≡ apply (Pop id) self.old) }
         ensures answer { IfOk result (λ o. Entry (option_map (λ t. (t.0.items, t.1.items)) o) ≡ answer (Pop id) self.old) }

@@ -47,9 +47,9 @@ impl Store {
         tokens::bodies_line_end(self.sections())
     }
 
-    /// Adds the sections of another file after all others, in their order and under the next numbers, and holds its front after the
-    /// section at a place; the line ending goes between if items are held there that don't end with one, and the other's don't begin with
-    /// one. The time is linear in the other file.
+    /// Adds another file's sections after all others, and holds its front after a section. The sections stay in their order and get the
+    /// next numbers. The front is held after the section at a place; the line ending goes between if items are held there that don't end
+    /// with one, and the other's don't begin with one. The time is linear in the other file.
     ///
     /// # Errors
     ///

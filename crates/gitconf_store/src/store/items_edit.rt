@@ -17,7 +17,7 @@ impl Store {
     ///
     /// # Errors
     ///
-    /// Out of memory for the items of the section, if it has none of its own. The edit's refusals are within. All is then as it was.
+    /// Out of memory for the items of the section, if it has none of its own. The edit's errors are within. All is then as it was.
     pub(crate) fn edit_items_at<E: ItemsEdit>(
         &mut self,
         at: usize,

@@ -18,16 +18,16 @@ impl Store {
     ghost use Rattle.gitconf_body.specs.Refusals.{header_refusal};
     ghost use Rattle.gitconf_store.specs.Edited.{causes, IsEdited};
 
-    /// Makes a section after all others, whose body is one line ending, the file's; it has the file's metadata. Returns its number.
+    /// Makes a section after all others. Its body is one line ending, the file's; it has the file's metadata. Returns its number.
     ///
     /// A walk over the file's items up to the first line ending. Takes memory for what is added to the buffer, for the items, and for the
     /// section's place.
     ///
     /// # Errors
     ///
-    /// Refusal 4 for a name that a section can't be made of, otherwise 5 for a subsection that it can't be made of; 3 if the buffer would
-    /// be longer than 4294967295 bytes, which is checked before any growth, or there is no number left; 27 when out of memory. The file is
-    /// then as it was.
+    /// E4 for a name that a section can't be made of, otherwise E5 for a subsection that it can't be made of; E3 if the buffer would be
+    /// longer than 4294967295 bytes, which is checked before any allocation, or there is no number left; E27 when out of memory. The
+    /// file is then as it was.
     pub fn new_section(
         &mut self,
         name: &str,
@@ -65,7 +65,7 @@ impl Store {
     ///
     /// # Errors
     ///
-    /// Refusals 4 and 5, each if and only if [`Store::new_section`] returns it; otherwise 3 if and only if the buffer would be longer than
+    /// E4 and E5, each if and only if [`Store::new_section`] returns it; otherwise E3 if and only if the buffer would be longer than
     /// 4294967295 bytes or no number is left.
     pub fn check_new_section(&self, name: &str, subsection_name: Option<&[u8]>) -> Result<(), Error>
         ensures { result ≡ checked header_refusal (first_cause (causes (NewSection name.now (option_copied subsection_name.entry)) self.now)) }
@@ -83,7 +83,7 @@ impl Store {
     ///
     /// # Errors
     ///
-    /// Out of memory.
+    /// E27 when out of memory.
     pub fn fresh_blanks(&self) -> Result<Blanks, NoMemory>
         ensures { IfOk result (λ blanks. blanks ≡ spacing_of []) }
     {

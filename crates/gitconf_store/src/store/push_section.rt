@@ -19,7 +19,7 @@ impl Store {
     ///
     /// # Errors
     ///
-    /// A [`span::Error`], number 3, if and only if [`Store::push_section`] returns it.
+    /// A [`span::Error`] (E3) if and only if [`Store::push_section`] returns it.
     pub fn check_pushed(&self, section: &detached::Section) -> Result<(), span::Error>
         ensures too_large { IsErrOf result 3 ↔ ((2 ^ 32 ≤ self.now.used + section.now.used) ⊎ (self.now.next ≡ no_number)) }
         ensures known { IfErr result (λ e. e ≡ 3) }
@@ -30,15 +30,15 @@ impl Store {
         check_room(&self.buffer, section.buffer.len())
     }
 
-    /// Adds a section that is in no file after all others, under the next number, which is returned. Its header, its body and where it
-    /// comes from stay. Its bytes are added to the buffer, and its spans are moved in one pass.
+    /// Adds a section that is in no file after all others. It gets the next number, which is returned. Its header, its body and where
+    /// it comes from stay. Its bytes are added to the buffer, and its spans are moved in one pass.
     ///
     /// Takes memory for the bytes, for the names, and constant memory on average for its place.
     ///
     /// # Errors
     ///
-    /// A [`span::Error`]: number 3 if and only if the buffer would be longer than 4294967295 bytes or no number is left, before any growth,
-    /// otherwise 27 when out of memory. The section is then dropped, and the file as it was.
+    /// A [`span::Error`]: E3 if and only if the buffer would be longer than 4294967295 bytes or no number is left, before any
+    /// allocation, otherwise E27 when out of memory. The section is then dropped, and the file as it was.
     pub fn push_section(&mut self, section: detached::Section) -> Result<SectionId, span::Error>
         ensures done { IsEdited span_refusal (PushSection section) result self.old self.new }
         ensures answer { IfOk result (λ id. Number id ≡ answer (PushSection section) self.old) }

@@ -60,7 +60,7 @@ impl Store {
         Ok(())
     }
 
-    /// Gives the section of a number another name and subsection, with a header that is made: the name as given, and a subsection in quotes
+    /// Gives the section of a number another name and subsection. Its header is made anew: the name as given, and a subsection in quotes
     /// after a space. All else stays as it is; if no section has the number, everything does. Later lookups find it by its new names.
     ///
     /// Takes time for the bytes of the names, and for the sections that have the new name, by an index; memory for the header and the
@@ -68,9 +68,9 @@ impl Store {
     ///
     /// # Errors
     ///
-    /// Refusal 4 if and only if a byte of the name is not a letter, digit or dash, otherwise 5 if and only if the subsection has LF or NUL;
-    /// both also if no section has the number. Then 3 if and only if the buffer would be longer than 4294967295 bytes, before any growth;
-    /// 27 when out of memory. The file is then as it was.
+    /// E4 if and only if a byte of the name is not a letter, digit or dash, otherwise E5 if and only if the subsection has LF or NUL; both
+    /// also if no section has the number. Then E3 if and only if the buffer would be longer than 4294967295 bytes, before any allocation;
+    /// E27 when out of memory. The file is then as it was.
     pub fn rename(
         &mut self,
         id: SectionId,
@@ -153,7 +153,7 @@ impl Store {
     }
 }
 
-/// The refusal if sections have the names, and none of them passes.
+/// The error if sections have the names, and none of them passes.
 fn missing() -> rename_section::Error
     ensures { result ≡ Lookup KeyMissing }
 {

@@ -18,16 +18,16 @@ impl Store {
     ghost use Rattle.gitconf_body.specs.Refusals.{span_refusal};
     ghost use Rattle.gitconf_store.specs.Several.{all_deleted, all_meanings, meaning_of_place, AreRewritten, AreSetExisting};
 
-    /// Writes the entries at places again, the first one with the first value and so on, up to the end of the shorter list. A place is the
-    /// number of a section, and a place among the items of its body, counted in items from 0. Each entry has the key as it
-    /// is given, `=` with the blanks around it that its section uses when it is written, and the value as a file spells it; nothing
-    /// stays of its old value. All else stays as it is, and so do the places of entries. If no section has the number, everything does.
-    /// Each section is found in constant time, and walked over once for each entry. Takes memory for what is added to the buffer.
+    /// Writes the entries at places again, the first with the first value and so on. It goes on up to the end of the shorter list. A place
+    /// is the number of a section, and a place among the items of its body, counted in items from 0. Each entry has the key as it is
+    /// given, `=` with the blanks around it that its section uses when it is written, and the value as a file spells it; nothing stays of
+    /// its old value. All else stays as it is, and so do the places of entries. If no section has the number, everything does. Each
+    /// section is found in constant time, and walked over once for each entry. Takes memory for what is added to the buffer.
     ///
     /// # Errors
     ///
-    /// Those of [`Store::push_newline`]; number 3 at the first entry whose bytes, with those of the entries before it, would pass the limit.
-    /// The entries before the one that was refused then have their values, and no other is changed.
+    /// Those of [`Store::push_newline`]; E3 at the first entry whose bytes, with those of the entries before it, would pass the limit. The
+    /// entries before the one that was refused then have their values, and no other is changed.
     pub fn rewrite_entries_at(
         &mut self,
         places: &[(SectionId, usize)],
@@ -48,7 +48,7 @@ impl Store {
         Ok(())
     }
 
-    /// As [`Store::rewrite_entries_at`], each entry with the same value.
+    /// Like [`Store::rewrite_entries_at`], but each entry with the same value.
     ///
     /// # Errors
     ///
@@ -70,7 +70,7 @@ impl Store {
         Ok(())
     }
 
-    /// Deletes the items at places, the last one first, so that those before it keep their places; each alone, as
+    /// Deletes the items at places, the last one first. So those before it keep their places. Each is deleted alone, as
     /// [`Store::delete_entry_at`] does. It can't fail, and takes no memory.
     ///
     /// Places of one section that are next to each other in the list, each before the next one in the section, are removed at once: the
@@ -101,7 +101,7 @@ impl Store {
     ///
     /// # Errors
     ///
-    /// Out of memory for the result.
+    /// E27 when out of memory for the result.
     pub fn meanings_at(&self, places: &[(SectionId, usize)]) -> Result<Vec<BString>, NoMemory>
         ensures { IfOk result (λ texts. texts_of texts ≡ all_meanings places.now self.now) }
     {

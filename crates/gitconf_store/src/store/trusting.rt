@@ -17,7 +17,7 @@ impl Store {
     ///
     /// # Errors
     ///
-    /// Out of memory, only if a section has the number. The file is then as it was.
+    /// E27 when out of memory, only if a section has the number. The file is then as it was.
     pub fn set_trust(&mut self, id: SectionId, trust: Trust) -> Result<(), NoMemory>
         ensures ok { OnOk result (self.new ≡ apply (SetTrust id trust) self.old) }
         ensures none { numbered id self.old ≡ None → IsOk result }

@@ -32,16 +32,16 @@ impl Store {
     ghost use Rattle.gitconf_lookups.specs.SomeSections.{Filtered};
     ghost use Rattle.gitconf_lookups.specs.ValuePlaces.{all_stand, key_places, meaning_at, value_place, ArePlaces, IsPlace};
 
-    /// The place of the last entry of a key, with `=` or without it, in the last section that has one, of those that have the name,
-    /// without ASCII case, and exactly the subsection, and whose metadata passes the filter: the number of the section, and the entry's
-    /// place among the items of its body, counted in items from 0.
+    /// The place of the last entry of a key in sections that pass a filter. The entry has `=` or not; it is in the last section that
+    /// has one, of those that have the name, without ASCII case, and exactly the subsection, and whose metadata passes the filter. The
+    /// result is the number of the section, and the entry's place among the items of its body, counted in items from 0.
     ///
     /// It walks over the sections of the name from the last one up to that one. Takes no memory.
     ///
     /// # Errors
     ///
-    /// Refusal 7 if no section has the name, 8 if none of these has the subsection; otherwise 6 for an invalid value name; otherwise 9
-    /// if none of these that pass has such an entry.
+    /// E7 if no section has the name, E8 if none of these has the subsection; otherwise E6 for an invalid value name; otherwise E9 if
+    /// none of these that pass has such an entry.
     pub fn value_place_filter<F: FnMut(&Metadata) -> bool>(
         &self,
         key: KeyRef<'_>,
@@ -64,16 +64,17 @@ impl Store {
         }
     }
 
-    /// The places of all entries of a key, with `=` or without it, in the sections that have the name, without ASCII case, and exactly the
-    /// subsection, and whose metadata passes the filter: for each the number of the section, and the entry's place among the items of its
-    /// body, counted in items from 0. They are in the order of the numbers, and in each section in that of the places.
+    /// The places of all entries of a key in sections that pass a filter. The entries have `=` or not; the sections are those that have
+    /// the name, without ASCII case, and exactly the subsection, and whose metadata passes the filter. The result is for each entry the
+    /// number of the section, and the entry's place among the items of its body, counted in items from 0. The places are in the order of
+    /// the numbers, and in each section in that of the places.
     ///
     /// It walks over the sections of the name and over their items, and sorts the places. Takes memory for them.
     ///
     /// # Errors
     ///
-    /// Refusal 7 if no section has the name, 8 if none of these has the subsection; otherwise 6 for an invalid value name; otherwise 9
-    /// if none of these that pass has such an entry; otherwise 27 when out of memory.
+    /// E7 if no section has the name, E8 if none of these has the subsection; otherwise E6 for an invalid value name; otherwise E9 if
+    /// none of these that pass has such an entry; otherwise E27 when out of memory.
     pub fn value_places_filter<F: FnMut(&Metadata) -> bool>(
         &self,
         key: KeyRef<'_>,
@@ -100,12 +101,12 @@ impl Store {
         Ok(places)
     }
 
-    /// What the entry at a place in the section of a number means; without `=` it is empty. `None` if no entry is there,
+    /// What the entry at a place in the section of a number means. Without `=` it is empty. `None` if no entry is there,
     /// or no section has the number. The section is found in constant time.
     ///
     /// # Errors
     ///
-    /// Out of memory for the result, only if there is an entry.
+    /// E27 when out of memory for the result, only if there is an entry.
     pub fn meaning_at(&self, id: SectionId, place: usize) -> Result<Option<BString>, NoMemory>
         ensures { IsFound bstring_bytes result (said_in_section id (meaning_at place) self.now) }
     {
@@ -115,10 +116,10 @@ impl Store {
         }
     }
 
-    /// Writes an entry at a place among the items of the section of a number, counted in items from 0; after all
-    /// of them if there are fewer. The entry has the key as it is given, and `=` with the editor's blanks around it and the value as a
-    /// file spells it. It replaces the entry there, as `in_place_of` says; if no entry is there, it comes before what is there.
-    /// All else stays as it is; if no section has the number, everything does.
+    /// Writes an entry at a place in the section of a number. The place is one among the items of the section, counted in items from
+    /// 0; if there are fewer, the entry comes after all of them. The entry has the key as it is given, and `=` with the editor's
+    /// blanks around it and the value as a file spells it. It replaces the entry there, as `in_place_of` says; if no entry is there,
+    /// it comes before what is there. All else stays as it is; if no section has the number, everything does.
     ///
     /// The section is found in constant time. Takes memory for what is added to the buffer, and for at most one more item.
     ///
@@ -152,8 +153,8 @@ impl Store {
         self.edit_items(id, &entry)?
     }
 
-    /// As [`Store::write_entry_at`], with the blanks around `=` that the section uses: those around its first one; none if it has
-    /// entries, but no `=`; and a space and a space if it has no entry. One more walk over its items.
+    /// Like [`Store::write_entry_at`], but with the blanks around `=` that the section uses: those around its first one; none if
+    /// it has entries, but no `=`; and a space and a space if it has no entry. One more walk over its items.
     ///
     /// # Errors
     ///
@@ -178,9 +179,9 @@ impl Store {
         self.edit_items(id, &entry)?
     }
 
-    /// Deletes the item at a place among those of the section of a number, counted in items from 0. All else
-    /// stays as it is, even the blanks and line endings around it; if the section has fewer items, or no section has the number, everything
-    /// does. It can't fail, and takes no memory. The section is found in constant time.
+    /// Deletes the item at a place in the section of a number. The place is one among the section's items, counted in items from 0. All
+    /// else stays as it is, even the blanks and line endings around it; if the section has fewer items, or no section has the number,
+    /// everything does. It can't fail, and takes no memory. The section is found in constant time.
     pub fn delete_entry_at(&mut self, id: SectionId, place: usize)
         ensures deleted { self.new ≡ apply (DeleteAt id place) self.old }
         ensures stands { has_number id self.new ≡ has_number id self.old }

@@ -21,8 +21,9 @@ impl Store {
     ghost use Rattle.gitconf_lookups.specs.SomeSections.{Filtered};
     ghost use Rattle.gitconf_lookups.specs.Walks.{named_left, and_held_left, and_ids_by_name_left, and_ids_left, by_name_left, section_ids_left, with_held, with_id, with_name};
 
-    /// The sections that have the name, without ASCII case, and any subsection, in file order; `None` if there is none.
-    /// The sections are found by an index: constant time except for the bytes of the names, and no memory.
+    /// The sections that have the name, in file order; `None` if there is none. The name is compared without ASCII
+    /// case, and the subsection may be any. The sections are found by an index: constant time except for the bytes of
+    /// the names, and no memory.
     pub fn sections_by_name<'a, 'n>(&'a self, name: &'n str) -> Option<SectionsByName<'a, 'n>>
         ensures none { IsNone result ↔ (with_name name.now self.now.sections ≡ []) }
         ensures left { IfSome result (λ it. by_name_left it ≡ with_name name.now self.now.sections) }
@@ -37,7 +38,7 @@ impl Store {
         })
     }
 
-    /// As [`Store::sections_by_name`], each section with its number.
+    /// Like [`Store::sections_by_name`], but each section with its number.
     pub fn sections_and_ids_by_name<'a, 'n>(
         &'a self,
         name: &'n str,
@@ -51,8 +52,8 @@ impl Store {
         }
     }
 
-    /// As [`Store::sections_by_name`], but only those whose metadata passes the filter. If sections have the name and none
-    /// passes, the walk is empty.
+    /// Like [`Store::sections_by_name`], but only those whose metadata passes the filter. If sections have the name and
+    /// none passes, the walk is empty.
     pub fn sections_by_name_and_filter<'a, 'n, F: FnMut(&Metadata) -> bool + Drop>(
         &'a self,
         name: &'n str,
@@ -86,8 +87,8 @@ impl Store {
         }
     }
 
-    /// The sections in file order, each with the events of what is held after it, which came before the first section of a
-    /// file that was appended or included.
+    /// The sections in file order, each with the events of what is held after it. These events came before the first
+    /// section of a file that was appended or included.
     pub fn sections_and_postmatter(&self) -> SectionsAndPostmatter<'_>
         ensures { and_held_left result ≡ map with_held self.now.sections }
     {
@@ -111,7 +112,7 @@ impl Store {
         }
     }
 
-    /// Whether there is a section of the name and subsection; if not, the refusal says what is missing.
+    /// Whether there is a section of the name and subsection; if not, the error says what is missing.
     pub(crate) fn check_named(
         &self,
         name: &str,

@@ -6,7 +6,7 @@ use std::alloc::{AllocError, AllocFailed};
 use std::fmt;
 use std::marker::Model;
 
-/// A place past byte 4294967295, no section number left, or a refused growth.
+/// A place past byte 4294967295, no section number left, or a failed allocation.
 #[derive(Clone, Copy, Debug, PartialEq, Eq, PartialOrd, Ord)]
 pub struct Error {
     cause: Cause,
@@ -26,7 +26,7 @@ impl Model for Error {
 impl Error {
     ghost use Rattle.std.specs.Prelude.{◌==◌};
 
-    /// The refusal of a place or a number that passes the limit.
+    /// The error for a place or a number that passes the limit.
     pub fn too_large() -> Error
         ensures { result ≡ 3 }
     {
@@ -35,7 +35,7 @@ impl Error {
         }
     }
 
-    /// The refusal's number: 3, or 27 when memory ran out.
+    /// The error's number: 3, or 27 when memory ran out.
     pub fn number(&self) -> u8
         ensures { result ≡ self.now }
     {

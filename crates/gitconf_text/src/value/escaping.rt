@@ -8,7 +8,7 @@ ghost use Rattle.gitconf_text.specs.Value as spec;
 use crate::memory::NoMemory;
 use std::alloc::Global;
 
-/// Whether the first byte is white space.
+/// Whether the first byte is whitespace.
 fn begins_white(bytes: &[u8]) -> bool
     ensures { result ≡ text.begins is_whitespace bytes.now }
 {
@@ -18,7 +18,7 @@ fn begins_white(bytes: &[u8]) -> bool
     }
 }
 
-/// Whether the last byte is white space.
+/// Whether the last byte is whitespace.
 fn ends_white(bytes: &[u8]) -> bool
     ensures { result ≡ text.ends is_whitespace bytes.now }
 {
@@ -124,7 +124,7 @@ pub fn escaped_len(bytes: &[u8]) -> usize
 /// Appends the value whose meaning is `bytes`, as a file spells it.
 ///
 /// LF, tab, `"` and `\` are written as `\n`, `\t`, `\"` and `\\`, all other bytes as they are. The whole is put in quotes
-/// if its first or last byte is ASCII white space, or a byte is `;` or `#` (the Rust crate's rule). It reads
+/// if its first or last byte is ASCII whitespace, or a byte is `;` or `#` (the Rust crate's rule). It reads
 /// `bytes` twice, once for the room that it needs, and asks for memory once.
 ///
 /// # Errors
@@ -152,7 +152,7 @@ pub fn append_escaped(out: &mut Vec<u8>, bytes: &[u8]) -> Result<(), NoMemory>
     Ok(())
 }
 
-/// The value whose meaning is `bytes`, as a file spells it, in memory of its own.
+/// The value whose meaning is `bytes`, as a file spells it. It is in memory of its own.
 ///
 /// It is what `append_escaped` appends, at the same cost.
 ///

@@ -15,7 +15,8 @@ struct Told {
     input: BString,
 }
 
-/// A value that is not a boolean or not an integer, or an integer that is too large: refusal 11. Or a refused growth: refusal 27.
+/// A value of the wrong type or too large (E11), or a failed allocation (E27). The value is not a boolean or not an integer, or
+/// it is an integer that is too large.
 #[derive(Debug, Drop)]
 pub struct Error {
     /// None when memory ran out.
@@ -31,7 +32,7 @@ impl Model for Error {
 }
 
 impl Error {
-    /// The refusal of bytes that are not a boolean. It keeps them and takes no memory.
+    /// The error for bytes that are not a boolean. It keeps them and takes no memory.
     pub fn not_a_boolean(input: BString) -> Error
         ensures { result ≡ refused (codes "not a boolean") (bstring_bytes input) }
     {
@@ -43,7 +44,7 @@ impl Error {
         }
     }
 
-    /// The refusal of bytes that are not an integer. It keeps them and takes no memory.
+    /// The error for bytes that are not an integer. It keeps them and takes no memory.
     pub fn not_an_integer(input: BString) -> Error
         ensures { result ≡ refused (codes "not an integer") (bstring_bytes input) }
     {
@@ -55,7 +56,7 @@ impl Error {
         }
     }
 
-    /// The refusal of an integer that a signed 64-bit integer can't hold. It keeps its bytes and takes no memory.
+    /// The error for an integer that a signed 64-bit integer can't hold. It keeps its bytes and takes no memory.
     pub fn overflow(input: BString) -> Error
         ensures { result ≡ refused (codes "Integer overflow") (bstring_bytes input) }
     {
@@ -67,7 +68,7 @@ impl Error {
         }
     }
 
-    /// The refusal's number: 11, or 27 when memory ran out.
+    /// The error's number: 11, or 27 when memory ran out.
     pub fn number(&self) -> u8
         ensures { result ≡ self.now.number }
     {

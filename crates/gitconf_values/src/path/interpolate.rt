@@ -18,27 +18,28 @@ use thiserror::Error;
 /// The default has nothing.
 #[derive(Clone, Copy, Default)]
 pub struct Context<'a> {
-    /// The folder where git is installed, for `%(prefix)/`.
+    /// The directory where git is installed, for `%(prefix)/`.
     pub git_install_dir: Option<&'a str>,
-    /// The home folder of the user who runs the program, for `~/`.
+    /// The home directory of the user who runs the program, for `~/`.
     pub home_dir: Option<&'a str>,
-    /// The home folders of users, for `~user/`.
+    /// The home directories of users, for `~user/`.
     pub home_for_user: Option<&'a Homes>,
 }
 
 /// Why the shorthand of a path can't be replaced.
 #[derive(Debug, Drop, Error)]
 pub enum Error {
-    /// The path is empty, or a folder, the table of users or a user is not known: refusal 12.
+    /// The path is empty, or something that it needs is not known: E12. That is a directory, the table of users or a
+    /// user.
     #[error("{what} is missing")]
     Missing { what: &'static str },
-    /// The rest of the path isn't UTF-8: refusal 13.
+    /// The rest of the path isn't UTF-8: E13.
     #[error("Ill-formed UTF-8 in {what}")]
     Utf8Conversion { what: &'static str, err: Utf8Error },
-    /// The name of the user isn't UTF-8: refusal 14.
+    /// The name of the user isn't UTF-8: E14.
     #[error("Ill-formed UTF-8 in username")]
     UsernameConversion(Utf8Error),
-    /// A growth was refused: refusal 27.
+    /// An allocation failed: E27.
     #[error("out of memory")]
     Memory,
 }
@@ -53,7 +54,7 @@ impl From<NoMemory> for Error {
     }
 }
 
-/// A table from users to their home folders.
+/// A table from users to their home directories.
 #[derive(Drop)]
 pub struct Homes {
     folders: BTreeMap<String, String>,
@@ -83,7 +84,7 @@ impl Homes {
         }
     }
 
-    /// Gives a user this folder, in place of the one that the user had. Takes a walk down a tree of the users.
+    /// Gives a user this directory, in place of the one that the user had. Takes a walk down a tree of the users.
     ///
     /// # Errors
     ///
@@ -92,14 +93,14 @@ impl Homes {
         ensures ok { OnOk result (self.new ≡ with_home (string_bytes user) (string_bytes folder) self.old) }
         ensures err { OnErr result (self.new ≡ self.old) }
         ensures absent { OnErr result (folder_of (string_bytes user) self.old ≡ None) }
-        // The user has the folder, and each other user what it had.
+        // The user has the directory, and each other user what it had.
         ensures last { OnOk result ((asked : List ℕ) → folder_of asked self.new
             ≡ cond (bytes_eq (string_bytes user) asked) (Some (string_bytes folder)) (folder_of asked self.old)) }
     {
         put_home(&mut self.folders, user, folder)
     }
 
-    /// The folder of a user, or `None` if the user has none. Takes no memory, and a walk down a tree of the users.
+    /// The directory of a user, or `None` if the user has none. Takes no memory, and a walk down a tree of the users.
     pub fn get(&self, user: &str) -> Option<&str>
         ensures { option_copied result ≡ folder_of user.now self.now }
     {
@@ -107,7 +108,7 @@ impl Homes {
     }
 }
 
-/// Gives a user a folder in a tree of the users.
+/// Gives a user a directory in a tree of the users.
 fn put_home(
     folders: &mut BTreeMap<String, String>,
     user: String,
@@ -123,7 +124,7 @@ fn put_home(
     Ok(())
 }
 
-/// The folder of a user in a tree of the users.
+/// The directory of a user in a tree of the users.
 fn home_of<'a>(folders: &'a BTreeMap<String, String>, user: &str) -> Option<&'a str>
     ensures { option_copied result ≡ folder_of user.now (homes_of folders.now.entries) }
 {
@@ -167,7 +168,7 @@ fn plain(alloc: Global, path: &[u8]) -> Result<String, Error>
     }
 }
 
-/// The rest of a path, in a folder that must be known; `what` names it in a refusal.
+/// The rest of a path, in a directory that must be known; `what` names it in an error.
 fn below(
     alloc: Global,
     folder: Option<&str>,
@@ -188,7 +189,7 @@ fn below(
     }
 }
 
-/// The rest of a path, in the folder of a user.
+/// The rest of a path, in the directory of a user.
 fn below_user(
     alloc: Global,
     homes: Option<&Homes>,
@@ -208,7 +209,7 @@ fn below_user(
     }
 }
 
-/// A path that begins with `~`: with a slash later on it is in a user's folder.
+/// A path that begins with `~`: with a slash later on it is in a user's directory.
 fn of_user(
     alloc: Global,
     homes: Option<&Homes>,
@@ -223,7 +224,7 @@ fn of_user(
     }
 }
 
-/// A path that begins with none of the folders named so far.
+/// A path that begins with none of the directories named so far.
 fn of_user_or_plain(alloc: Global, homes: Option<&Homes>, path: &[u8]) -> Result<String, Error>
     ensures { Gives result (spec.of_user_or_plain (option_copied homes.entry) path.now) }
 {

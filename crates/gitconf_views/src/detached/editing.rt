@@ -68,15 +68,16 @@ impl Section {
         }
     }
 
-    /// Pushes a line after the items: the editor's blanks, the key, and if a value is given `=` with the editor's blanks around it and
-    /// the value as a file spells it; then the comment, if one is given, after a space and `#`, with a space before a first byte that is
-    /// not white space, and each LF turned to a space; then the editor's line ending, unless it is switched off. All else stays as it is.
+    /// Pushes a line after the items: the editor's whitespace, the key, and if a value is given `=` with the editor's whitespace around it
+    /// and the value as a file spells it; then the comment, if one is given, after a space and `#`, with a space before a first byte that
+    /// is not whitespace, and each LF turned to a space; then the editor's line ending, unless it is switched off. All else stays as it
+    /// is.
     ///
     /// It looks at no item. Takes memory for what is added to the buffer, and for the new items.
     ///
     /// # Errors
     ///
-    /// A [`span::Error`]: number 3 if and only if the buffer would be longer than 4294967295 bytes, otherwise 27 when out of memory. The
+    /// A [`span::Error`]: E3 if and only if the buffer would be longer than 4294967295 bytes, otherwise E27 when out of memory. The
     /// section is then as it was.
     pub fn push_entry(
         &mut self,
@@ -102,9 +103,9 @@ impl Section {
         self.edit_items(&line)
     }
 
-    /// Pushes a line below that of the last entry, whatever its key, or below the header's line if there is no entry, before the comments
-    /// and blank lines that come after it. The line is as [`Section::push_entry`] pushes it without a comment. If the line before it has no
-    /// line ending, it gets the editor's one first. All else stays as it is.
+    /// Pushes a line below that of the last entry, whatever its key. If there is no entry, the line goes below the header's line. Comments
+    /// and blank lines that come after stay after it. The line is as [`Section::push_entry`] pushes it without a comment. If the line
+    /// before it has no line ending, it gets the editor's one first. All else stays as it is.
     ///
     /// It walks from the end up to the last entry. Takes memory for what is added to the buffer, for the new items and for those behind them.
     ///
@@ -129,7 +130,8 @@ impl Section {
         self.edit_items(&line)
     }
 
-    /// Pushes the editor's line ending after the items, even if it is switched off after lines. All else stays as it is.
+    /// Pushes the editor's line ending after the items. It does so even if the line ending is switched off after lines. All else stays as
+    /// it is.
     ///
     /// It looks at no item. Takes memory for the line ending in the buffer, and for the new item.
     ///
@@ -146,7 +148,7 @@ impl Section {
     }
 
     /// Gives the last entry of a key another value: what follows `=` is replaced, and `=` is added if there is none, with the
-    /// editor's blanks around it. If no entry has the key, a line with it is pushed, as [`Section::push_entry`] does. All else stays as
+    /// editor's whitespace around it. If no entry has the key, a line with it is pushed, as [`Section::push_entry`] does. All else stays as
     /// it is. Returns the raw text of the old value: its pieces joined, not decoded; no bytes for an entry without `=`; `None` if there
     /// was no entry.
     ///
@@ -172,7 +174,7 @@ impl Section {
         self.edit_items(&SetEntry { editor, key, value })
     }
 
-    /// Removes the last entry of a key, with the blanks directly before it and the line endings directly after it. All else stays as it
+    /// Removes the last entry of a key. The blanks directly before it and the line endings directly after it go too. All else stays as it
     /// is. Returns the raw text of its value: its pieces joined, not decoded; no bytes for an entry without `=`. If no entry has the key,
     /// nothing is changed, and the result is `None`.
     ///
@@ -206,9 +208,9 @@ impl Section {
         self.edit_items(&RemoveMarkedEntries { key, marks })
     }
 
-    /// Removes the last entry, whatever its key, with the blanks directly before it and everything after it; everything in the body
-    /// if it has no entry. Returns the key as it is spelled and what its value means; no bytes for an entry without `=`; `None`
-    /// if there is no entry.
+    /// Removes the last entry, whatever its key. The blanks directly before it and everything after it go too; if there is no
+    /// entry, everything in the body goes. Returns the key as it is spelled and what its value means; no bytes for an entry without
+    /// `=`; `None` if there is no entry.
     ///
     /// One walk over the items. Takes memory for the result and the raw text of the value; no byte is added to the buffer.
     ///
@@ -225,14 +227,14 @@ impl Section {
         self.edit_items(&PopEntry {})
     }
 
-    /// Gives it a header that is made of a name and a subsection, as [`Section::new`] makes one. All else stays as it is. One pass over
-    /// both, which takes memory for their text and for a decoded copy of a subsection that is spelled differently.
+    /// Gives it a header that is made of a name and a subsection. It is made as [`Section::new`] makes one. All else stays as it is.
+    /// One pass over both, which takes memory for their text and for a decoded copy of a subsection that is spelled differently.
     ///
     /// # Errors
     ///
-    /// `InvalidName` if a byte of the name is not a letter, digit or dash, otherwise `InvalidSubSection` if the subsection holds LF or NUL;
-    /// otherwise `Span`, number 3, if and only if the buffer would be longer than 4294967295 bytes, and `Memory` when out of memory. The
-    /// section is then as it was.
+    /// `InvalidName` (E4) if a byte of the name is not a letter, digit or dash, otherwise `InvalidSubSection` (E5) if the subsection holds
+    /// LF or NUL; otherwise `Span` (E3) if and only if the buffer would be longer than 4294967295 bytes, and `Memory` (E27) when out of
+    /// memory. The section is then as it was.
     pub fn rename(&mut self, name: &str, subsection: Option<&[u8]>) -> Result<(), header::Error>
         ensures { IsDone (heading_causes name.now (option_copied subsection.entry) self.old.used) header_refusal result
             (alone_renamed name.now (option_copied subsection.entry) self.old) self.old self.new }

@@ -13,7 +13,8 @@ use gitconf_text::parse::section::header;
 use gitconf_text::parse::span;
 
 /// An editor of a section that is in no file. What it writes besides names and values stays as it was when the editor was made, even
-/// while the section changes: the blanks before a name, those around `=`, and the line ending, that of the section's first newline, or LF.
+/// while the section changes: the whitespace before a name, that around `=`, and the line ending, that of the section's first newline, or
+/// LF.
 pub struct DetachedSectionMut<'a, B: Drop = Blanks> {
     /// The section that is edited.
     pub section: &'a mut Section,
@@ -52,7 +53,7 @@ impl Section {
     ghost use Rattle.gitconf_views.specs.contracts.detached.Section.{the_row};
     ghost use Rattle.gitconf_views.specs.AloneEditors.{edited, editor, lent};
 
-    /// An editor of it. One walk over its items, which takes memory for the blanks that it uses.
+    /// An editor of it. One walk over its items, which takes memory for the whitespace that it uses.
     ///
     /// # Errors
     ///
@@ -91,14 +92,14 @@ impl<'a> DetachedSectionMut<'a> {
     ghost use Rattle.gitconf_body.specs.Done.{heading_causes, room_causes, IsDone};
     ghost use Rattle.gitconf_body.specs.Refusals.{header_refusal, span_refusal};
 
-    /// Pushes a line after the section's others: the blanks before a name, the name, and if a value is given `=` with the blanks around it
-    /// and the value, as a file spells it; then the line ending, unless it is switched off. It looks at no item. Takes memory for what is
-    /// added to the section's buffer, and for the new items.
+    /// Pushes a line after the section's others: the whitespace before a name, the name, and if a value is given `=` with the whitespace
+    /// around it and the value, as a file spells it; then the line ending, unless it is switched off. It looks at no item. Takes memory for
+    /// what is added to the section's buffer, and for the new items.
     ///
     /// # Errors
     ///
-    /// Refusal 6 if and only if the name is invalid; otherwise 3 if and only if the section's buffer would be longer than 4294967295 bytes,
-    /// and 27 when out of memory. The section is then as it was.
+    /// E6 if and only if the name is invalid; otherwise E3 if and only if the section's buffer would be longer than 4294967295 bytes, and
+    /// E27 when out of memory. The section is then as it was.
     pub fn push(&mut self, value_name: &str, value: Option<&[u8]>) -> Result<(), value::Error>
         ensures same_section { lent self.new ≡ lent self.old }
         ensures same_editor { editor self.new ≡ editor self.old }
@@ -109,8 +110,8 @@ impl<'a> DetachedSectionMut<'a> {
         self.section.push_line(&editor, value_name, value, None)
     }
 
-    /// As [`DetachedSectionMut::push`], with a comment after the value: a space, `#` and the comment, with a space before it if it doesn't
-    /// begin with white space, and each LF turned to a space.
+    /// Like [`DetachedSectionMut::push`], but with a comment after the value: a space, `#` and the comment, with a space before it if it
+    /// doesn't begin with white space, and each LF turned to a space.
     ///
     /// # Errors
     ///
@@ -132,10 +133,10 @@ impl<'a> DetachedSectionMut<'a> {
             .push_line(&editor, value_name, value, Some(comment))
     }
 
-    /// Pushes a line below that of the section's last entry, whatever its name, or below the header's line if it has none: comments and
-    /// blank lines that come after it come after the new one too. The line is as [`DetachedSectionMut::push`] pushes it. If the line before
-    /// it has no line ending, it gets the editor's one first. It walks from the end up to the last entry. Takes memory for what is added to
-    /// the section's buffer, for the new items and for those behind them.
+    /// Pushes a line below that of the section's last entry, whatever its name. If the section has no entry, the line goes below the
+    /// header's line. Comments and blank lines that come after it come after the new one too. The line is as [`DetachedSectionMut::push`]
+    /// pushes it. If the line before it has no line ending, it gets the editor's one first. It walks from the end up to the last entry.
+    /// Takes memory for what is added to the section's buffer, for the new items and for those behind them.
     ///
     /// # Errors
     ///
@@ -160,8 +161,8 @@ impl<'a> DetachedSectionMut<'a> {
     ///
     /// # Errors
     ///
-    /// Number 3 if and only if the section's buffer would be longer than 4294967295 bytes, and 27 when out of memory. The section is then as
-    /// it was.
+    /// E3 if and only if the section's buffer would be longer than 4294967295 bytes, and E27 when out of memory. The section is then as it
+    /// was.
     pub fn push_newline(&mut self) -> Result<(), span::Error>
         ensures same_section { lent self.new ≡ lent self.old }
         ensures same_editor { editor self.new ≡ editor self.old }
@@ -173,7 +174,7 @@ impl<'a> DetachedSectionMut<'a> {
     }
 
     /// Gives the last entry of the name another value: what follows `=` is replaced, and `=` is added if there is none, with the
-    /// editor's blanks around it. If no entry has the name, a line with it is pushed, as [`DetachedSectionMut::push`] does. Returns the
+    /// editor's whitespace around it. If no entry has the name, a line with it is pushed, as [`DetachedSectionMut::push`] does. Returns the
     /// raw text of the old value: its pieces joined, not decoded; no bytes for an entry without `=`; `None` if there was no entry. One
     /// walk over the items. Takes memory for the old value, for what is added to the section's buffer, and for new items.
     ///
@@ -192,9 +193,9 @@ impl<'a> DetachedSectionMut<'a> {
         self.section.set_line(&editor, value_name, value)
     }
 
-    /// Removes the last entry of the name, with the blanks directly before it and the line endings directly after it. Returns the raw text of
-    /// its value, as [`DetachedSectionMut::set`] does; `None` if there is no such entry. One walk over the items. Takes memory for the
-    /// result alone.
+    /// Removes the last entry of the name. The blanks directly before it and the line endings directly after it go too. Returns the raw
+    /// text of its value, as [`DetachedSectionMut::set`] does; `None` if there is no such entry. One walk over the items. Takes memory for
+    /// the result alone.
     ///
     /// # Errors
     ///
@@ -235,9 +236,9 @@ impl<'a> DetachedSectionMut<'a> {
             .remove_marked_entries(value_name.as_bytes(), marks)
     }
 
-    /// Removes the last entry, whatever its name, with the blanks directly before it and everything after it; everything in the body
-    /// if it has no entry. Returns the name as it is spelled and what the value means; an empty text for an entry without `=`; `None`
-    /// if there is no entry. One walk over the items. Takes memory for the result and the raw text of the value.
+    /// Removes the last entry, whatever its name. The blanks directly before it and everything after it go too; if there is no entry,
+    /// everything in the body goes. Returns the name as it is spelled and what the value means; an empty text for an entry without
+    /// `=`; `None` if there is no entry. One walk over the items. Takes memory for the result and the raw text of the value.
     ///
     /// # Errors
     ///
@@ -254,7 +255,7 @@ impl<'a> DetachedSectionMut<'a> {
         Ok(texts_of(popped))
     }
 
-    /// Whether a line ending is added after what is pushed from now on; it is, unless this is set to `false`.
+    /// Sets whether a line ending is added after what is pushed from now on. It is, unless this is set to `false`.
     pub fn set_implicit_newline(&mut self, on: bool) -> &mut Self
         ensures same { result.ghost_name ≡ self.entry.ghost_name }
         ensures same_section { lent result.now ≡ lent self.old }
@@ -265,12 +266,13 @@ impl<'a> DetachedSectionMut<'a> {
         self
     }
 
-    /// Gives the section a header that is made of a name and a subsection, as [`Section::new`] makes one. All else stays as it is.
+    /// Gives the section a header that is made of a name and a subsection. It is made as [`Section::new`] makes one. All else stays as it
+    /// is.
     ///
     /// # Errors
     ///
-    /// Those of [`Section::new`], number 3 if and only if the section's buffer would be longer than 4294967295 bytes. The section is then as
-    /// it was.
+    /// Those of [`Section::new`], E3 if and only if the section's buffer would be longer than 4294967295 bytes. The section is then as it
+    /// was.
     pub fn rename(
         &mut self,
         name: &str,
@@ -299,11 +301,11 @@ impl<'a> DetachedSectionMut<'a> {
         self.section.set_trust(trust)
     }
 
-    /// Sets other blanks before names from now on, or none. They have to be ASCII white space. Takes memory for a copy of them.
+    /// Sets other whitespace before names from now on, or none. It has to be ASCII whitespace. Takes memory for a copy of it.
     ///
     /// # Errors
     ///
-    /// Out of memory. The blanks are then as they were.
+    /// Out of memory. The whitespace is then as it was.
     pub fn set_leading_whitespace(&mut self, whitespace: Option<BString>) -> Result<(), NoMemory>
         requires white { IfSome whitespace (λ blanks. list_all is_whitespace (bstring_bytes blanks) ≡ true) }
         ensures same_section { lent self.new ≡ lent self.old }

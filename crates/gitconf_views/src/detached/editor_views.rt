@@ -27,7 +27,7 @@ impl<'a> DetachedSectionMut<'a> {
         self.section.to_ref()
     }
 
-    /// The number that the section had in a file; the greatest for one that was in none.
+    /// The number that the section had in a file. If it was in none, the greatest number.
     pub fn id(&self) -> SectionId
         ensures { result ≡ (edited self.now).section.number }
     {
@@ -55,7 +55,7 @@ impl<'a> DetachedSectionMut<'a> {
         self.section().meta()
     }
 
-    /// The text of the section alone, as [`SectionRef::to_bstring`].
+    /// The text of the section alone, like [`SectionRef::to_bstring`].
     ///
     /// # Errors
     ///
@@ -66,7 +66,7 @@ impl<'a> DetachedSectionMut<'a> {
         self.section().to_bstring()
     }
 
-    /// As [`BodyRef::value`] of its body.
+    /// Like [`BodyRef::value`] of its body.
     ///
     /// # Errors
     ///
@@ -77,7 +77,7 @@ impl<'a> DetachedSectionMut<'a> {
         self.body().value(value_name)
     }
 
-    /// As [`BodyRef::value_implicit`] of its body.
+    /// Like [`BodyRef::value_implicit`] of its body.
     ///
     /// # Errors
     ///
@@ -88,7 +88,7 @@ impl<'a> DetachedSectionMut<'a> {
         self.body().value_implicit(value_name)
     }
 
-    /// As [`BodyRef::values`] of its body.
+    /// Like [`BodyRef::values`] of its body.
     ///
     /// # Errors
     ///
@@ -99,28 +99,28 @@ impl<'a> DetachedSectionMut<'a> {
         self.body().values(value_name)
     }
 
-    /// As [`BodyRef::value_names`] of its body.
+    /// Like [`BodyRef::value_names`] of its body.
     pub fn value_names(&self) -> ValueNames<'_>
         ensures { names_left result ≡ map (λ e. e.name) (entries_of (edited self.now).section.items) }
     {
         self.body().value_names()
     }
 
-    /// As [`BodyRef::contains_value_name`] of its body.
+    /// Like [`BodyRef::contains_value_name`] of its body.
     pub fn contains_value_name(&self, value_name: &str) -> bool
         ensures { result ≡ has_key value_name.now (entries_of (edited self.now).section.items) }
     {
         self.body().contains_value_name(value_name)
     }
 
-    /// As [`BodyRef::num_values`] of its body.
+    /// Like [`BodyRef::num_values`] of its body.
     pub fn num_values(&self) -> usize
         ensures { result ≡ length (entries_of (edited self.now).section.items) }
     {
         self.body().num_values()
     }
 
-    /// As [`BodyRef::is_void`] of its body.
+    /// Like [`BodyRef::is_void`] of its body.
     pub fn is_void(&self) -> bool
         ensures { result ≡ is_empty_body (edited self.now).section.items }
     {
@@ -134,14 +134,14 @@ impl<'a> DetachedSectionMut<'a> {
         self.line_end.as_bytes()
     }
 
-    /// The blanks that it writes before a name, if it writes any.
+    /// The whitespace that it writes before a name, if it writes any.
     pub fn leading_whitespace(&self) -> Option<&[u8]>
         ensures { option_copied result ≡ (editor self.now).spacing.leading }
     {
         self.blanks.leading()
     }
 
-    /// The blanks that it writes before and after `=`; `None` if it writes none there.
+    /// The whitespace that it writes before and after `=`; `None` if it writes none there.
     pub fn separator_whitespace(&self) -> (Option<&[u8]>, Option<&[u8]>)
         ensures before { option_copied result.0 ≡ if_any (editor self.now).spacing.before }
         ensures behind { option_copied result.1 ≡ if_any (editor self.now).spacing.behind }

@@ -1,4 +1,4 @@
-//! What the editor of a section that is in no file writes, by the blanks and the line ending that it has.
+//! What the editor of a section that is in no file writes, by the whitespace and the line ending that it has.
 ghost use Rattle.std.specs.Prelude.{◌≡◌, option_map};
 ghost use Rattle.bstr.specs.Owned.{bstring_bytes};
 

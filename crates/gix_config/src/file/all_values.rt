@@ -80,7 +80,7 @@ impl File {
     ///
     /// # Errors
     ///
-    /// Those of [`File::raw_values`], and refusal 10 if the type refuses a value, with its refusal of the first such value.
+    /// Those of [`File::raw_values`], and E10 if the type rejects a value, with its error for the first such value.
     pub fn values<T: TryFrom<BString> + Drop, K: AsKey>(
         &self,
         key: K,
@@ -92,7 +92,7 @@ impl File {
         self.values_by(key.section_name, key.subsection_name, key.value_name)
     }
 
-    /// As [`File::values`], by the names of the section, the subsection and the value.
+    /// Like [`File::values`], but by the names of the section, the subsection and the value.
     ///
     /// # Errors
     ///
@@ -107,7 +107,7 @@ impl File {
     {
         converted(self.raw_values_by(section_name, subsection_name, value_name))
     }
-    /// All values of a key in a type, each with its section, found as by [`File::raw_values_with_sections`]: one
+    /// All values of a key in a type, each with its section. They are found as by [`File::raw_values_with_sections`]: one
     /// or more. The key has to be valid, as [`AsKey::try_as_key`] says.
     ///
     /// # Errors
@@ -124,7 +124,7 @@ impl File {
         self.values_with_sections_by(key.section_name, key.subsection_name, key.value_name)
     }
 
-    /// As [`File::values_with_sections`], by the names of the section, the subsection and the value.
+    /// Like [`File::values_with_sections`], but by the names of the section, the subsection and the value.
     ///
     /// # Errors
     ///

@@ -10,8 +10,8 @@ use gitconf_body::blanks::Blanks;
 use gitconf_text::parse::span;
 
 impl File {
-    /// Adds a section that is in no file after all others, and returns its number and the blanks of an editor of it. What may be refused by
-    /// number 3 is checked first.
+    /// Adds a section that is in no file after all others, and returns its number and the whitespace of an editor of it. What may be
+    /// refused by number 3 is checked first.
     pub(crate) fn put_section(
         &mut self,
         section: Section,
@@ -26,17 +26,17 @@ impl File {
         Ok((id, blanks))
     }
 
-    /// Adds the sections of another file after all others, in their order and under the next numbers; each keeps where it comes from. What
-    /// comes before the other's first section is held after our last section, or joins what comes before our first if we have none; a
-    /// line ending goes between if there is something that doesn't end with one, and what comes doesn't begin with one.
+    /// Adds the sections of another file after all others, in their order. They are under the next numbers, and each keeps where it comes
+    /// from. What comes before the other's first section is held after our last section, or joins what comes before our first if we have
+    /// none; a line ending goes between if there is something that doesn't end with one, and what comes doesn't begin with one.
     ///
     /// The other's bytes are copied once, and its parts are moved in one pass: the time is linear in the other file, except for a walk up to
     /// our first line ending. Takes memory for the bytes, the names and the places.
     ///
     /// # Errors
     ///
-    /// A [`span::Error`]: number 3 if and only if the buffer would be longer than 4294967295 bytes or fewer numbers are left than the other
-    /// has sections, otherwise 27 when out of memory. The other is then dropped, and the file as it was.
+    /// A [`span::Error`]: E3 if and only if the buffer would be longer than 4294967295 bytes or fewer numbers are left than the other has
+    /// sections, otherwise E27 when out of memory. The other is then dropped, and the file as it was.
     pub fn append(&mut self, other: File) -> Result<(), span::Error>
         ensures { IsEdited span_refusal (Append other) result self.old self.new }
     {

@@ -10,20 +10,20 @@ use crate::file::{File, set_raw_value};
 use gitconf_sources::key::{AsKey, KeyRef};
 
 impl File {
-    /// Gives the last entry of a key such as `remote.origin.url` another value, whether it has `=` or not, in the last section of the key's
-    /// name and subsection that has one: the entry is rewritten, with the name as it is given, the blanks around `=` that the
-    /// section uses, and the value as a file spells it. If the old value ended in an empty last piece and a comment comes next, apart from
-    /// blanks, the last line ending of the old value stays before it. All else stays as it is; no entry is made. The key has to be valid, as
-    /// [`AsKey::try_as_key`] says.
+    /// Gives the last entry of a key such as `remote.origin.url` another value. That is the last entry, with `=` or without it, in the last
+    /// section of the key's name and subsection that has one. It is rewritten, with the name as it is given, the whitespace around `=` that
+    /// the section uses, and the value as a file spells it. If the old value ended in an empty last piece and a comment comes next, apart
+    /// from whitespace, the last line ending of the old value stays before it. All else stays as it is; no entry is made. The key has to be
+    /// valid, as [`AsKey::try_as_key`] says.
     ///
     /// It walks over the sections of the key's name and subsection from the last one up to that one, and over its items. Takes memory
     /// for what is added to the file's buffer, and for at most one more item.
     ///
     /// # Errors
     ///
-    /// Refusal 7 if no section has the name, 8 if none of these has the subsection; otherwise 6 for an invalid value name; otherwise 9
-    /// if none of these has such an entry; 3 if the file would take more than 4294967295 bytes, 27 when out of memory. The file is
-    /// then as it was.
+    /// E7 if no section has the name, E8 if none of these has the subsection; otherwise E6 for an invalid value name; otherwise E9 if none
+    /// of these has such an entry; E3 if the file would take more than 4294967295 bytes, E27 when out of memory. The file is then as it
+    /// was.
     pub fn set_existing_raw_value<K: AsKey>(
         &mut self,
         key: K,
@@ -41,7 +41,7 @@ impl File {
         )
     }
 
-    /// As [`File::set_existing_raw_value`], by the names of the section, the subsection and the value.
+    /// Like [`File::set_existing_raw_value`], but by the names of the section, the subsection and the value.
     ///
     /// # Errors
     ///
@@ -63,15 +63,16 @@ impl File {
         self.store.set_existing_raw_value(key, new_value)
     }
 
-    /// Gives the entries of a key other values, whether they have `=` or not, in all sections of the key's name and subsection: the first
-    /// entry gets the first value and so on, up to the end of the shorter list. The entries are in the order of their sections' numbers,
-    /// and in a section in that of the text. Each is rewritten, with the name as it is given, the blanks around `=` that its section then
-    /// uses, and the value as a file spells it. All else stays as it is; no entry is made, and none removed. The key has to be valid.
+    /// Gives the entries of a key other values, one after the other. The first entry gets the first value and so on, up to the end of the
+    /// shorter list. These are the entries with `=` or without it in all sections of the key's name and subsection, in the order of their
+    /// sections' numbers, and in a section in that of the text. Each is rewritten, with the name as it is given, the whitespace around `=`
+    /// that its section then uses, and the value as a file spells it. All else stays as it is; no entry is made, and none removed. The key
+    /// has to be valid.
     ///
     /// # Errors
     ///
-    /// Refusals 7, 8, 6 and 9 as those of [`File::set_existing_raw_value`], with the file as it was; 3 if the file would take more than
-    /// 4294967295 bytes and 27 when out of memory, after the entries before the one that was refused got their values.
+    /// E7, E8, E6 and E9 as those of [`File::set_existing_raw_value`], with the file as it was; E3 if the file would take more than
+    /// 4294967295 bytes and E27 when out of memory, after the entries before the one that was refused got their values.
     pub fn set_existing_raw_multi_value<K: AsKey>(
         &mut self,
         key: K,
@@ -89,7 +90,7 @@ impl File {
         )
     }
 
-    /// As [`File::set_existing_raw_multi_value`], by the names of the section, the subsection and the value.
+    /// Like [`File::set_existing_raw_multi_value`], but by the names of the section, the subsection and the value.
     ///
     /// # Errors
     ///

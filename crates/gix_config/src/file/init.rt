@@ -24,14 +24,14 @@ impl File {
     ghost use Rattle.gitconf_state.specs.Made.{IsMade};
     ghost use Rattle.gix_config.specs.Made.{loaded_tokens, IsParseRefusal};
 
-    /// The file that a text is, with the metadata that it and each of its sections get. No include is followed,
-    /// whatever the options say about them. A lossy load leaves out blanks, comments and line endings, and has the document
-    /// of the whole text. One pass, which copies the text once.
+    /// The file that a text is. It and each of its sections get the metadata. No include is followed, whatever the options
+    /// say about them. A lossy load leaves out whitespace, comments and line endings, and has the document of the whole text.
+    /// One pass, which copies the text once.
     ///
     /// # Errors
     ///
-    /// `Error::Parse`, with number 1 if the text has no document, and the line and the data from where it can't be
-    /// read on; number 2 for more than 4294967295 bytes; number 27 when out of memory.
+    /// `Error::Parse`: E1 if the text has no document, with the line and the data from where it can't be read on; E2
+    /// for more than 4294967295 bytes; E27 when out of memory.
     pub fn from_bytes_no_includes(
         alloc: Global,
         input: &[u8],

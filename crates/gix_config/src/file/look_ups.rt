@@ -16,13 +16,13 @@ use gitconf_sources::key::{AsKey, KeyRef};
 use gitconf_text::NoMemory;
 
 impl File {
-    /// The meaning of the last value of a key such as `remote.origin.url`, or `None` if there is none or
-    /// the key can't be parsed: that of the last section of the key's name and subsection in which the last entry of the
-    /// name has a value. It walks over the sections of the name from the last one up to that one. A miss takes no memory.
+    /// The meaning of the last value of a key such as `remote.origin.url`. It is that of the last section of the key's name
+    /// and subsection in which the last entry of the name has a value; `None` if there is none or the key can't be parsed.
+    /// The call walks over the sections of the name from the last one up to that one. A miss takes no memory.
     ///
     /// # Errors
     ///
-    /// Out of memory for the result.
+    /// E27 when out of memory for the result.
     pub fn string<K: AsKey>(&self, key: K) -> Result<Option<BString>, NoMemory>
         ensures { OfKey (K.key key) (λ key. IsString key (λ _. true) self.now result) result }
     {
@@ -32,7 +32,7 @@ impl File {
         }
     }
 
-    /// As [`File::string`], by the names of the section, the subsection and the value.
+    /// Like [`File::string`], but by the names of the section, the subsection and the value.
     ///
     /// # Errors
     ///
@@ -49,7 +49,7 @@ impl File {
         self.string_filter_by(section_name, subsection_name, value_name, |_| true)
     }
 
-    /// As [`File::string`], of the sections whose metadata passes the filter.
+    /// Like [`File::string`], but of the sections whose metadata passes the filter.
     ///
     /// # Errors
     ///
@@ -74,7 +74,7 @@ impl File {
         }
     }
 
-    /// As [`File::string_filter`], by the names of the section, the subsection and the value.
+    /// Like [`File::string_filter`], but by the names of the section, the subsection and the value.
     ///
     /// # Errors
     ///
@@ -98,12 +98,12 @@ impl File {
         self.store.string_filter(key, filter)
     }
 
-    /// The meanings of all values of a key, in file order, or `None` if there are none or the key can't be parsed. An entry
+    /// The meanings of all values of a key, in file order. `None` if there are none or the key can't be parsed. An entry
     /// without `=` counts as empty. It walks over the sections of the name. A miss takes no memory.
     ///
     /// # Errors
     ///
-    /// Out of memory for the result.
+    /// E27 when out of memory for the result.
     pub fn strings<K: AsKey>(&self, key: K) -> Result<Option<Vec<BString>>, NoMemory>
         ensures { OfKey (K.key key) (λ key. AreStrings key (λ _. true) self.now result) result }
     {
@@ -113,7 +113,7 @@ impl File {
         }
     }
 
-    /// As [`File::strings`], by the names of the section, the subsection and the value.
+    /// Like [`File::strings`], but by the names of the section, the subsection and the value.
     ///
     /// # Errors
     ///
@@ -130,7 +130,7 @@ impl File {
         self.strings_filter_by(section_name, subsection_name, value_name, |_| true)
     }
 
-    /// As [`File::strings`], of the sections whose metadata passes the filter.
+    /// Like [`File::strings`], but of the sections whose metadata passes the filter.
     ///
     /// # Errors
     ///
@@ -155,7 +155,7 @@ impl File {
         }
     }
 
-    /// As [`File::strings_filter`], by the names of the section, the subsection and the value.
+    /// Like [`File::strings_filter`], but by the names of the section, the subsection and the value.
     ///
     /// # Errors
     ///
@@ -184,8 +184,8 @@ impl File {
     ///
     /// # Errors
     ///
-    /// Refusals 7, 8 and 9 if there is none: no section has the name, none of these has the subsection, or none of these that
-    /// pass has such a value. Refusal 27 when out of memory for the result.
+    /// E7, E8 and E9 if there is none: no section has the name, none of these has the subsection, or none of these that pass
+    /// has such a value. E27 when out of memory for the result.
     pub fn raw_value<K: AsKey>(&self, key: K) -> Result<BString, existing::Error>
         requires { IsSome (K.key key) }
         ensures { IsRawValue (the_key (K.key key)) (λ _. true) self.now result }
@@ -194,7 +194,7 @@ impl File {
         self.raw_value_by(key.section_name, key.subsection_name, key.value_name)
     }
 
-    /// As [`File::raw_value`], by the names of the section, the subsection and the value.
+    /// Like [`File::raw_value`], but by the names of the section, the subsection and the value.
     ///
     /// # Errors
     ///
@@ -211,7 +211,7 @@ impl File {
         self.raw_value_filter_by(section_name, subsection_name, value_name, |_| true)
     }
 
-    /// As [`File::raw_value`], of the sections whose metadata passes the filter.
+    /// Like [`File::raw_value`], but of the sections whose metadata passes the filter.
     ///
     /// # Errors
     ///
@@ -235,7 +235,7 @@ impl File {
         )
     }
 
-    /// As [`File::raw_value_filter`], by the names of the section, the subsection and the value.
+    /// Like [`File::raw_value_filter`], but by the names of the section, the subsection and the value.
     ///
     /// # Errors
     ///
@@ -260,13 +260,13 @@ impl File {
         self.store.raw_value_filter(key, filter)
     }
 
-    /// The meaning of the last value of a key, and its section, found as by [`File::string`]. The key has to be
-    /// valid, as [`AsKey::try_as_key`] says.
+    /// The meaning of the last value of a key, and its section. It is found as by [`File::string`]. The key has to be valid,
+    /// as [`AsKey::try_as_key`] says.
     ///
     /// # Errors
     ///
-    /// Refusals 7, 8 and 9 if there is none: no section has the name, none of these has the subsection, or none of these that
-    /// pass has such a value. Refusal 27 when out of memory for the result.
+    /// E7, E8 and E9 if there is none: no section has the name, none of these has the subsection, or none of these that pass
+    /// has such a value. E27 when out of memory for the result.
     pub fn raw_value_with_section<K: AsKey>(
         &self,
         key: K,
@@ -278,7 +278,7 @@ impl File {
         self.raw_value_with_section_by(key.section_name, key.subsection_name, key.value_name)
     }
 
-    /// As [`File::raw_value_with_section`], by the names of the section, the subsection and the value.
+    /// Like [`File::raw_value_with_section`], but by the names of the section, the subsection and the value.
     ///
     /// # Errors
     ///
@@ -295,7 +295,7 @@ impl File {
         self.raw_value_with_section_filter_by(section_name, subsection_name, value_name, |_| true)
     }
 
-    /// As [`File::raw_value_with_section`], of the sections whose metadata passes the filter.
+    /// Like [`File::raw_value_with_section`], but of the sections whose metadata passes the filter.
     ///
     /// # Errors
     ///
@@ -319,7 +319,7 @@ impl File {
         )
     }
 
-    /// As [`File::raw_value_with_section_filter`], by the names of the section, the subsection and the value.
+    /// Like [`File::raw_value_with_section_filter`], but by the names of the section, the subsection and the value.
     ///
     /// # Errors
     ///
@@ -349,8 +349,8 @@ impl File {
     ///
     /// # Errors
     ///
-    /// Refusals 7, 8 and 9 if there is none: no section has the name, none of these has the subsection, or none of these that
-    /// pass has such a value. Refusal 27 when out of memory for the result.
+    /// E7, E8 and E9 if there is none: no section has the name, none of these has the subsection, or none of these that pass
+    /// has such a value. E27 when out of memory for the result.
     pub fn raw_values<K: AsKey>(&self, key: K) -> Result<Vec<BString>, existing::Error>
         requires { IsSome (K.key key) }
         ensures { AreRawValues (the_key (K.key key)) (λ _. true) self.now result }
@@ -359,7 +359,7 @@ impl File {
         self.raw_values_by(key.section_name, key.subsection_name, key.value_name)
     }
 
-    /// As [`File::raw_values`], by the names of the section, the subsection and the value.
+    /// Like [`File::raw_values`], but by the names of the section, the subsection and the value.
     ///
     /// # Errors
     ///
@@ -376,7 +376,7 @@ impl File {
         self.raw_values_filter_by(section_name, subsection_name, value_name, |_| true)
     }
 
-    /// As [`File::raw_values`], of the sections whose metadata passes the filter.
+    /// Like [`File::raw_values`], but of the sections whose metadata passes the filter.
     ///
     /// # Errors
     ///
@@ -401,7 +401,7 @@ impl File {
         )
     }
 
-    /// As [`File::raw_values_filter`], by the names of the section, the subsection and the value.
+    /// Like [`File::raw_values_filter`], but by the names of the section, the subsection and the value.
     ///
     /// # Errors
     ///
@@ -427,13 +427,13 @@ impl File {
         self.store.raw_values_filter(key, filter)
     }
 
-    /// The meanings of all values of a key, each with its section, found as by [`File::strings`]: one or more. The
+    /// The meanings of all values of a key, each with its section. They are found as by [`File::strings`]: one or more. The
     /// key has to be valid, as [`AsKey::try_as_key`] says.
     ///
     /// # Errors
     ///
-    /// Refusals 7, 8 and 9 if there is none: no section has the name, none of these has the subsection, or none of these that
-    /// pass has such a value. Refusal 27 when out of memory for the result.
+    /// E7, E8 and E9 if there is none: no section has the name, none of these has the subsection, or none of these that pass
+    /// has such a value. E27 when out of memory for the result.
     pub fn raw_values_with_sections<K: AsKey>(
         &self,
         key: K,
@@ -445,7 +445,7 @@ impl File {
         self.raw_values_with_sections_by(key.section_name, key.subsection_name, key.value_name)
     }
 
-    /// As [`File::raw_values_with_sections`], by the names of the section, the subsection and the value.
+    /// Like [`File::raw_values_with_sections`], but by the names of the section, the subsection and the value.
     ///
     /// # Errors
     ///
@@ -462,7 +462,7 @@ impl File {
         self.raw_values_with_sections_filter_by(section_name, subsection_name, value_name, |_| true)
     }
 
-    /// As [`File::raw_values_with_sections`], of the sections whose metadata passes the filter.
+    /// Like [`File::raw_values_with_sections`], but of the sections whose metadata passes the filter.
     ///
     /// # Errors
     ///
@@ -487,7 +487,7 @@ impl File {
         )
     }
 
-    /// As [`File::raw_values_with_sections_filter`], by the names of the section, the subsection and the value.
+    /// Like [`File::raw_values_with_sections_filter`], but by the names of the section, the subsection and the value.
     ///
     /// # Errors
     ///

@@ -11,8 +11,9 @@ use gitconf_body::value_at::InPlaceOf;
 use gitconf_text::parse::span;
 use targets::Targets;
 
-/// An editor of the values of all entries of a key of a file, with `=` or without it. It has their places, in the order of the numbers
-/// of their sections, and in each section in the order of its entries. What it writes has the name as the caller spelled it.
+/// An editor of the values of all entries of a key of a file. These are the entries with `=` or without it. The editor has their places,
+/// in the order of the numbers of their sections, and in each section in the order of its entries. What it writes has the name as the
+/// caller spelled it.
 pub struct MultiValueMut<'a, T: Drop = Targets> {
     file: &'a mut File,
     targets: T,
@@ -46,7 +47,7 @@ impl<'a> MultiValueMut<'a> {
     ///
     /// # Errors
     ///
-    /// Refusal 9 if no entry is left; 27 when out of memory for the result.
+    /// E9 if no entry is left; E27 when out of memory for the result.
     pub fn get(&self) -> Result<Vec<BString>, existing::Error>
         ensures { AreMeanings (places_of self.now) (edited self.now) result }
     {
@@ -77,15 +78,15 @@ impl<'a> MultiValueMut<'a> {
         self.targets.places().is_empty()
     }
 
-    /// Gives the entry at an index, counted from 0, another value: it is rewritten, with the name as the caller spelled it, `=` with the
-    /// blanks around it that its section then uses, and the value as a file spells it. Nothing of its old value stays, not even a line
+    /// Gives the entry at an index, counted from 0, another value. It is rewritten, with the name as the caller spelled it, `=` with the
+    /// whitespace around it that its section then uses, and the value as a file spells it. Nothing of its old value stays, not even a line
     /// ending. All else stays as it is, and so do the places of entries.
     ///
     /// One walk over the items of the section. Takes memory for what is added to the file's buffer.
     ///
     /// # Errors
     ///
-    /// Number 3 if the file would take more than 4294967295 bytes, and 27 when out of memory. The file is then as it was.
+    /// E3 if the file would take more than 4294967295 bytes, and E27 when out of memory. The file is then as it was.
     pub fn set_at(&mut self, index: usize, value: &[u8]) -> Result<(), span::Error>
         requires { index < length (places_of self.old) }
         ensures same_file { lent self.new ≡ lent self.old }
@@ -104,7 +105,7 @@ impl<'a> MultiValueMut<'a> {
         )
     }
 
-    /// As [`MultiValueMut::set_at`], with the bytes of a text.
+    /// Like [`MultiValueMut::set_at`], but with the bytes of a text.
     ///
     /// # Errors
     ///
@@ -119,15 +120,15 @@ impl<'a> MultiValueMut<'a> {
         self.set_at(index, value.as_bytes())
     }
 
-    /// Gives the entries other values, the first one the first value and so on, up to the end of the shorter list; each as
-    /// [`MultiValueMut::set_at`] does.
+    /// Gives the entries other values, each as [`MultiValueMut::set_at`] does. The first one gets the first value and so on, up to the
+    /// end of the shorter list.
     ///
     /// One walk over the items of its section for each entry that is written. Takes memory for what is added to the file's buffer.
     ///
     /// # Errors
     ///
-    /// Those of [`MultiValueMut::set_at`]; number 3 at the first value whose bytes, with those of the values before it, would pass the
-    /// limit. The entries before the one that was refused then have their values; all else is as it was.
+    /// Those of [`MultiValueMut::set_at`]; E3 at the first value whose bytes, with those of the values before it, would pass the limit.
+    /// The entries before the one that was refused then have their values; all else is as it was.
     pub fn set_values(&mut self, values: &[&[u8]]) -> Result<(), span::Error>
         ensures same_file { lent self.new ≡ lent self.old }
         ensures same_key { key_of self.new ≡ key_of self.old }
@@ -156,9 +157,9 @@ impl<'a> MultiValueMut<'a> {
             .rewrite_all_entries_at(self.targets.places(), self.targets.key(), value)
     }
 
-    /// Deletes the entry at an index, counted from 0: its name, `=` and value, and the blanks between them. What is around it stays, even
-    /// the blanks before its name and the line ending after its value. The entries after it then have an index that is one less. It can't
-    /// fail, and takes no memory.
+    /// Deletes the entry at an index, counted from 0. This removes its name, `=` and value, and the whitespace between them. What is around
+    /// it stays, even the whitespace before its name and the line ending after its value. The entries after it then have an index that is
+    /// one less. It can't fail, and takes no memory.
     ///
     /// The section is found in constant time; what follows the entry there moves up by one, and so do the places of the entries that are
     /// left.

@@ -33,7 +33,7 @@ impl File {
         self.store.line_end()
     }
 
-    /// Makes a section, and returns its number and the blanks of an editor of it. The names and the room are checked first.
+    /// Makes a section, and returns its number and the whitespace of an editor of it. The names and the room are checked first.
     pub(crate) fn make_section(
         &mut self,
         name: &str,

@@ -12,13 +12,13 @@ use crate::file::{File, Metadata, Section, SectionId};
 use gitconf_text::NoMemory;
 
 impl File {
-    /// Removes the last section that has the name, without ASCII case, and exactly the subsection, and returns it, with its number
-    /// and with a buffer of its own; `None` if there is none. What is held after it is dropped. Its bytes and items are copied
-    /// once, and the places of the sections after it are updated.
+    /// Removes the last section of a name and subsection, and returns it. That is the last one that has the name, without ASCII case,
+    /// and exactly the subsection. It is returned with its number and with a buffer of its own; `None` if there is none. What is held
+    /// after it is dropped. Its bytes and items are copied once, and the places of the sections after it are updated.
     ///
     /// # Errors
     ///
-    /// Out of memory for the copy. The file is then as it was.
+    /// E27 when out of memory for the copy. The file is then as it was.
     #[tactic(auto, using(std::proofs::lemmas::Fn::always_returns_same))]
     pub fn remove_section(
         &mut self,
@@ -32,7 +32,7 @@ impl File {
         self.remove_section_filter(name, subsection_name, |_| true)
     }
 
-    /// As [`File::remove_section`], the section of a number.
+    /// Like [`File::remove_section`], but the section of a number.
     ///
     /// # Errors
     ///
@@ -45,8 +45,8 @@ impl File {
         self.store.remove_section_by_id(id)
     }
 
-    /// As [`File::remove_section`], the last section whose metadata passes the filter; `None` if none passes. The filter is asked about
-    /// the sections of these names from the last one up to that one.
+    /// Like [`File::remove_section`], but the last section whose metadata passes the filter; `None` if none passes. The filter is asked
+    /// about the sections of these names from the last one up to that one.
     ///
     /// # Errors
     ///

@@ -14,18 +14,18 @@ use bstr::BString;
 use gitconf_sources::lists::bytes_of;
 
 impl File {
-    /// Gives all sections that have the name, without ASCII case, and exactly the subsection, another name and subsection: they get new
-    /// headers, with the name as given, and a subsection in quotes after a space. All else stays as it is, and they are found by their
-    /// new names from then on.
+    /// Gives all sections of a name and subsection another name and subsection. These are the sections that have the name, without ASCII
+    /// case, and exactly the subsection. They get new headers, with the name as given, and a subsection in quotes after a space. All else
+    /// stays as it is, and they are found by their new names from then on.
     ///
     /// Walks over the sections of these names and over those that have the new name, by an index, and over no others. The new header
     /// is in the buffer once; memory is taken for it, for the names and for the places of the sections.
     ///
     /// # Errors
     ///
-    /// Refusal 7 if no section has the name, 8 if none of these has the subsection; then 4 if a byte of the new name is not a letter,
-    /// digit or dash, 5 if the new subsection has LF or NUL, and 3 if the buffer would be longer than 4294967295 bytes;
-    /// 27 when out of memory. The file is then as it was.
+    /// E7 if no section has the name, E8 if none of these has the subsection; then E4 if a byte of the new name is not a letter, digit or
+    /// dash, E5 if the new subsection has LF or NUL, and E3 if the buffer would be longer than 4294967295 bytes; E27 when out of memory.
+    /// The file is then as it was.
     #[tactic(auto, using(std::proofs::lemmas::Fn::always_returns_same))]
     pub fn rename_section(
         &mut self,
@@ -43,11 +43,12 @@ impl File {
         })
     }
 
-    /// As [`File::rename_section`], for those sections whose metadata passes the filter, which is called for the sections of these names.
+    /// Like [`File::rename_section`], but only for those sections whose metadata passes the filter. The filter is called for the sections
+    /// of these names.
     ///
     /// # Errors
     ///
-    /// Those of [`File::rename_section`]; and refusal 9 if sections have the names and none passes, before those of the new names.
+    /// Those of [`File::rename_section`]; and E9 if sections have the names and none passes, before those of the new names.
     pub fn rename_section_filter<F: FnMut(&Metadata) -> bool>(
         &mut self,
         name: &str,

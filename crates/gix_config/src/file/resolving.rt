@@ -19,10 +19,10 @@ impl File {
     ghost use Rattle.gitconf_loaders.specs.Errors.{init_says};
     ghost use Rattle.gitconf_loaders.specs.Resolving.{IsMadeOf, MakesCounted};
 
-    /// Reads the files that the file's sections include, and puts each, with what it includes itself, after the section that includes it: its
-    /// sections in their order under the next numbers, and what comes before its first section held after the section before. For an
-    /// `include` without a subsection each `path` is followed, in order; for an `includeIf` only if its condition holds. A path that names no
-    /// file is skipped. Sections that are put in are visited once, as those of their own file, and so not again.
+    /// Reads the files that the file's sections include, and puts them in. Each, with what it includes itself, is put after the section
+    /// that includes it: its sections in their order under the next numbers, and what comes before its first section held after the section
+    /// before. For an `include` without a subsection each `path` is followed, in order; for an `includeIf` only if its condition holds. A
+    /// path that names no file is skipped. Sections that are put in are visited once, as those of their own file, and so not again.
     ///
     /// A condition `hasconfig` is judged by the file as it then is; below the first level, by the file that includes.
     ///
@@ -31,9 +31,9 @@ impl File {
     ///
     /// # Errors
     ///
-    /// 12 to 18 as the options and [`includes::Error`] say; 19 and 20 if a file can't be opened or read; 1 and 2 if one is refused by the
-    /// parser; 3 if there is no room for one; 27 when out of memory. The file then has everything that was put in before the refusal; a
-    /// file that was refused, or that includes a refused one, is left out whole. With `max_depth` 0 nothing is followed, and nothing
+    /// E12 to E18 as the options and [`includes::Error`] say; E19 and E20 if a file can't be opened or read; E1 and E2 if one is refused by
+    /// the parser; E3 if there is no room for one; E27 when out of memory. The file then has everything that was put in before the error;
+    /// a file that was refused, or that includes a refused one, is left out whole. With `max_depth` 0 nothing is followed, and nothing
     /// refused.
     pub fn resolve_includes(
         &mut self,
@@ -57,14 +57,14 @@ impl File {
         result
     }
 
-    /// The file that a text is, with the metadata that it and each of its sections get, and with what it includes as
-    /// [`File::resolve_includes`] puts it in. The text becomes the buffer. A lossy load leaves out blanks, comments and line endings, of
-    /// included files too.
+    /// The file that a text is, with what it includes. It and each of its sections get the metadata, and what it includes is put in as by
+    /// [`File::resolve_includes`]. The text becomes the buffer. A lossy load leaves out whitespace, comments and line endings, of included
+    /// files too.
     ///
     /// # Errors
     ///
-    /// 1 and 2 if the parser refuses the text, and those of [`File::resolve_includes`]; 15 also if `max_depth` is 0 and the options ask for
-    /// it, whatever the text has.
+    /// E1 and E2 if the parser refuses the text, and those of [`File::resolve_includes`]; E15 also if `max_depth` is 0 and the options ask
+    /// for it, whatever the text has.
     pub fn from_bytes_owned(
         alloc: Global,
         text: Vec<u8>,

@@ -20,7 +20,7 @@ use gitconf_text::parse::span;
 pub use making::Error;
 
 /// An editor of one section of a file. What it writes besides names and values stays as it was when the editor was made, even while the
-/// section changes: the blanks before a name, those around `=`, and the line ending, the file's.
+/// section changes: the whitespace before a name, that around `=`, and the line ending, the file's.
 pub struct SectionMut<'a, B: Drop = Blanks> {
     pub(super) file: &'a mut File,
     pub(super) id: SectionId,
@@ -84,16 +84,16 @@ impl<'a> SectionMut<'a> {
             .push_entry(self.id, &editor, value_name.as_bytes(), value, comment)
     }
 
-    /// Pushes a line after the section's others: the blanks before a name, the name, and if a value is given `=` with the blanks
-    /// around it and the value, as a file spells it; then the line ending, unless it is switched off.
+    /// Pushes a line after the section's others. The line is the whitespace before a name, the name, and if a value is given `=` with the
+    /// whitespace around it and the value, as a file spells it; then the line ending, unless it is switched off.
     ///
     /// Its time doesn't grow with the file or the section. Takes memory for what is added to
     /// the file's buffer, and for the new items.
     ///
     /// # Errors
     ///
-    /// Refusal 6 for an invalid name; otherwise 3 if the file would take more than 4294967295 bytes, and 27 when out of memory. The
-    /// file is then as it was.
+    /// E6 for an invalid name; otherwise E3 if the file would take more than 4294967295 bytes, and E27 when out of memory. The file is then
+    /// as it was.
     pub fn push(&mut self, value_name: &str, value: Option<&[u8]>) -> Result<(), value::Error>
         ensures same_file { lent self.new ≡ lent self.old }
         ensures same_section { number_of self.new ≡ number_of self.old }
@@ -104,8 +104,8 @@ impl<'a> SectionMut<'a> {
         self.push_line(value_name, value, None)
     }
 
-    /// As [`SectionMut::push`], with a comment after the value: a space, `#` and the comment, with a space before it if it doesn't
-    /// begin with white space, and each LF turned to a space.
+    /// Like [`SectionMut::push`], but with a comment after the value. This is a space, `#` and the comment, with a space before it if it
+    /// doesn't begin with whitespace, and each LF turned to a space.
     ///
     /// # Errors
     ///
@@ -125,9 +125,9 @@ impl<'a> SectionMut<'a> {
         self.push_line(value_name, value, Some(comment))
     }
 
-    /// Pushes a line below that of the section's last entry, whatever its name, or below the header's line if it has none: comments and
-    /// blank lines that come after it, and may introduce the next section, come after the new one too. The line is as
-    /// [`SectionMut::push`] pushes it. If the line before it has no line ending, it gets the file's one first.
+    /// Pushes a line below that of the section's last entry, whatever its name. If the section has no entry, the line comes below the
+    /// header's. Comments and blank lines that come after the line above it, and may introduce the next section, come after the new one
+    /// too. The line is as [`SectionMut::push`] pushes it. If the line before it has no line ending, it gets the file's one first.
     ///
     /// It is where `git config` puts a new entry.
     ///
@@ -158,7 +158,7 @@ impl<'a> SectionMut<'a> {
     ///
     /// # Errors
     ///
-    /// Number 3 if the file would take more than 4294967295 bytes, and 27 when out of memory. The file is then as it was.
+    /// E3 if the file would take more than 4294967295 bytes, and E27 when out of memory. The file is then as it was.
     pub fn push_newline(&mut self) -> Result<(), span::Error>
         ensures same_file { lent self.new ≡ lent self.old }
         ensures same_section { number_of self.new ≡ number_of self.old }
@@ -170,9 +170,9 @@ impl<'a> SectionMut<'a> {
         file.store.push_newline(self.id, &editor)
     }
 
-    /// Gives the last entry of the name another value: what follows `=` is replaced, and `=` is added if there is none, with
-    /// the editor's blanks around it. If no entry has the name, a line with it is pushed, as [`SectionMut::push`] does. Returns the
-    /// raw text of the old value: its pieces joined, not decoded; no bytes for an entry without `=`; `None` if there was no entry.
+    /// Gives the last entry of the name another value. What follows `=` is replaced, and `=` is added if there is none, with the editor's
+    /// whitespace around it. If no entry has the name, a line with it is pushed, as [`SectionMut::push`] does. Returns the raw text of the
+    /// old value: its pieces joined, not decoded; no bytes for an entry without `=`; `None` if there was no entry.
     ///
     /// One walk over its items. Takes memory for the old value, for what is added
     /// to the file's buffer, and for new items.
@@ -201,14 +201,14 @@ impl<'a> SectionMut<'a> {
         }
     }
 
-    /// Removes the last entry of the name, with the blanks directly before it and the line endings directly after it. Returns the raw
-    /// text of its value, as [`SectionMut::set`] does; `None` if there is no such entry.
+    /// Removes the last entry of the name, and returns the raw text of its value. The whitespace directly before the entry and the line
+    /// endings directly after it are removed, too. The raw text is as [`SectionMut::set`] returns it; `None` if there is no such entry.
     ///
     /// One walk over its items. Takes memory for the result alone.
     ///
     /// # Errors
     ///
-    /// Out of memory, only if there is an entry. The file is then as it was.
+    /// E27 when out of memory, only if there is an entry. The file is then as it was.
     pub fn remove(&mut self, value_name: &str) -> Result<Option<BString>, NoMemory>
         ensures same_file { lent self.new ≡ lent self.old }
         ensures same_section { number_of self.new ≡ number_of self.old }
@@ -225,7 +225,7 @@ impl<'a> SectionMut<'a> {
         }
     }
 
-    /// Removes the marked entries of the name: the first of its entries goes if the first mark is `true`, and so on; those behind the last
+    /// Removes the marked entries of the name. The first of its entries goes if the first mark is `true`, and so on; those behind the last
     /// mark stay, and so do all entries of other names. Each goes as [`SectionMut::remove`] removes one. Returns how many went.
     ///
     /// It is what `git config --unset-all` does, with a mark for each value that matches.
@@ -234,7 +234,7 @@ impl<'a> SectionMut<'a> {
     ///
     /// # Errors
     ///
-    /// Out of memory. The file is then as it was.
+    /// E27 when out of memory. The file is then as it was.
     pub fn remove_marked(&mut self, value_name: &str, marks: &[bool]) -> Result<usize, NoMemory>
         ensures same_file { lent self.new ≡ lent self.old }
         ensures same_section { number_of self.new ≡ number_of self.old }
@@ -248,15 +248,15 @@ impl<'a> SectionMut<'a> {
             .remove_marked_entries(self.id, value_name.as_bytes(), marks)
     }
 
-    /// Removes the last entry, whatever its name, with the blanks directly before it and everything after it; everything in the section
-    /// if it has no entry. Returns the name as it is spelled and what the value means; an empty text for an entry without `=`;
-    /// `None` if there is no entry.
+    /// Removes the last entry, whatever its name, and everything after it. The whitespace directly before it is removed, too; if the
+    /// section has no entry, everything in it is. Returns the name as it is spelled and what the value means; an empty text for an entry
+    /// without `=`; `None` if there is no entry.
     ///
     /// One walk over its items. Takes memory for the result and the raw text of the value.
     ///
     /// # Errors
     ///
-    /// Out of memory, only if there is an entry. The file is then as it was.
+    /// E27 when out of memory, only if there is an entry. The file is then as it was.
     pub fn pop(&mut self) -> Result<Option<(String, BString)>, NoMemory>
         ensures same_file { lent self.new ≡ lent self.old }
         ensures same_section { number_of self.new ≡ number_of self.old }
@@ -272,16 +272,16 @@ impl<'a> SectionMut<'a> {
         Ok(texts_of(popped))
     }
 
-    /// Gives the section another name and subsection, with a header that is made: the name as given, and a subsection in quotes after a
-    /// space. All else stays as it is, and later lookups find the section by its new names.
+    /// Gives the section another name and subsection, with a header that is made. The header has the name as given, and a subsection in
+    /// quotes after a space. All else stays as it is, and later lookups find the section by its new names.
     ///
     /// Takes time for the bytes of the names, and for the sections that have the new name, by an index; memory for the header and the
     /// names.
     ///
     /// # Errors
     ///
-    /// Refusal 4 if a byte of the name is not a letter, digit or dash, otherwise 5 if the subsection has LF or NUL; then 3 if the file
-    /// would take more than 4294967295 bytes, and 27 when out of memory. The file is then as it was.
+    /// E4 if a byte of the name is not a letter, digit or dash, otherwise E5 if the subsection has LF or NUL; then E3 if the file would
+    /// take more than 4294967295 bytes, and E27 when out of memory. The file is then as it was.
     pub fn rename(
         &mut self,
         name: &str,
@@ -301,7 +301,7 @@ impl<'a> SectionMut<'a> {
     ///
     /// # Errors
     ///
-    /// Out of memory. The file is then as it was.
+    /// E27 when out of memory. The file is then as it was.
     pub fn set_trust(&mut self, trust: Trust) -> Result<(), NoMemory>
         ensures same_file { lent self.new ≡ lent self.old }
         ensures same_section { number_of self.new ≡ number_of self.old }
@@ -313,11 +313,11 @@ impl<'a> SectionMut<'a> {
         file.store.set_trust(self.id, trust)
     }
 
-    /// Sets other blanks before names, or none. Only white space may be given ([`is_whitespace`](crate::file::is_whitespace)).
+    /// Sets other whitespace before names, or none. Only whitespace may be given ([`is_whitespace`](crate::file::is_whitespace)).
     ///
     /// # Errors
     ///
-    /// Out of memory. The editor is then as it was.
+    /// E27 when out of memory. The editor is then as it was.
     pub fn set_leading_whitespace(&mut self, whitespace: Option<BString>) -> Result<(), NoMemory>
         requires { IfSome whitespace (λ run. list_all is_whitespace (bstring_bytes run) ≡ true) }
         ensures same_file { lent self.new ≡ lent self.old }
@@ -329,7 +329,7 @@ impl<'a> SectionMut<'a> {
         self.blanks.set_leading(bytes_of(&whitespace))
     }
 
-    /// Whether a line ending is added after what is pushed from now on; it is, unless this is set to `false`.
+    /// Sets whether a line ending is added after what is pushed from now on. It is, unless this is set to `false`.
     pub fn set_implicit_newline(&mut self, on: bool) -> &mut Self
         ensures same { result.ghost_name ≡ self.entry.ghost_name }
         ensures same_file { lent result.now ≡ lent self.old }

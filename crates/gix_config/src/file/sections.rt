@@ -17,7 +17,7 @@ impl File {
     ghost use Rattle.gitconf_lookups.specs.SomeSections.{Filtered};
     ghost use Rattle.gitconf_lookups.specs.Walks.{and_held_left, and_ids_by_name_left, and_ids_left, by_name_left, section_ids_left, with_held, with_id, with_name};
 
-    /// The sections that have the name, without ASCII case, and any subsection, in file order; `None` if there is none.
+    /// The sections that have the name, without ASCII case, in file order. They may have any subsection; `None` if there is none.
     /// They are found by an index: constant time except for the bytes of the names, and no memory.
     pub fn sections_by_name<'a, 'n>(&'a self, name: &'n str) -> Option<SectionsByName<'a, 'n>>
         ensures none { IsNone result ↔ (with_name name.now self.now.sections ≡ []) }
@@ -26,7 +26,7 @@ impl File {
         self.store.sections_by_name(name)
     }
 
-    /// As [`File::sections_by_name`], each section with its number.
+    /// Like [`File::sections_by_name`], but each section with its number.
     pub fn sections_and_ids_by_name<'a, 'n>(
         &'a self,
         name: &'n str,
@@ -37,7 +37,7 @@ impl File {
         self.store.sections_and_ids_by_name(name)
     }
 
-    /// As [`File::sections_by_name`], but only those whose metadata passes the filter. If sections have the name and none
+    /// Like [`File::sections_by_name`], but only those whose metadata passes the filter. If sections have the name and none
     /// passes, the walk is empty. The filter is called for each section when the walk reaches it.
     pub fn sections_by_name_and_filter<'a, 'n, F: FnMut(&Metadata) -> bool + Drop>(
         &'a self,
@@ -65,8 +65,8 @@ impl File {
         self.store.section_ids()
     }
 
-    /// The sections in file order, each with the events of what is held after it, which came before the first section of a
-    /// file that was appended or included.
+    /// The sections in file order, each with the events of what is held after it. That came before the first section of a file that
+    /// was appended or included.
     pub fn sections_and_postmatter(&self) -> SectionsAndPostmatter<'_>
         ensures { and_held_left result ≡ map with_held self.now.sections }
     {
@@ -77,7 +77,7 @@ impl File {
     ///
     /// # Errors
     ///
-    /// Refusal 7 if no section has the name, 8 if none of these has the subsection.
+    /// E7 if no section has the name, E8 if none of these has the subsection.
     pub fn section(
         &self,
         name: &str,
@@ -88,12 +88,12 @@ impl File {
         self.store.section(name, subsection_name)
     }
 
-    /// As [`File::section`], by a key such as `remote.origin`: the name is before its first dot, and all after it is the
+    /// Like [`File::section`], but by a key such as `remote.origin`. The name is before its first dot, and all after it is the
     /// subsection; without a dot there is none.
     ///
     /// # Errors
     ///
-    /// Refusal 9 if the name isn't UTF-8, and those of [`File::section`].
+    /// E9 if the name isn't UTF-8, and those of [`File::section`].
     pub fn section_by_key(&self, section_key: &[u8]) -> Result<SectionRef<'_>, Error>
         ensures { IsSectionOfKey (parsed_section_key section_key.now) self.now result }
     {
@@ -103,7 +103,7 @@ impl File {
         }
     }
 
-    /// As [`File::section`], the last one whose metadata passes the filter; `None` if there are such sections and none passes.
+    /// Like [`File::section`], but the last one whose metadata passes the filter. `None` if there are such sections and none passes.
     /// The filter is called for them from the last one up to that one.
     ///
     /// # Errors
@@ -123,7 +123,7 @@ impl File {
         self.store.section_filter(name, subsection_name, filter)
     }
 
-    /// As [`File::section_filter`], by a key as in [`File::section_by_key`].
+    /// Like [`File::section_filter`], but by a key as in [`File::section_by_key`].
     ///
     /// # Errors
     ///

@@ -90,11 +90,11 @@ fn found_integers(
 }
 
 impl File {
-    /// The last value of a key as a path, found as by [`File::string`]; its shorthands are not replaced ([`Path::interpolate`] does that).
+    /// The last value of a key as a path, found as by [`File::string`]. Its shorthands are not replaced ([`Path::interpolate`] does that).
     ///
     /// # Errors
     ///
-    /// Out of memory for the result.
+    /// E27 when out of memory for the result.
     pub fn path<K: AsKey>(&self, key: K) -> Result<Option<Path>, NoMemory>
         ensures { OfKey (K.key key) (λ key. IsPath key (λ _. true) self.now result) result }
     {
@@ -104,7 +104,7 @@ impl File {
         }
     }
 
-    /// As [`File::path`], by the names of the section, the subsection and the value.
+    /// Like [`File::path`], but by the names of the section, the subsection and the value.
     ///
     /// # Errors
     ///
@@ -121,7 +121,7 @@ impl File {
         self.path_filter_by(section_name, subsection_name, value_name, |_| true)
     }
 
-    /// As [`File::path`], of the sections whose metadata passes the filter.
+    /// Like [`File::path`], but of the sections whose metadata passes the filter.
     ///
     /// # Errors
     ///
@@ -146,7 +146,7 @@ impl File {
         }
     }
 
-    /// As [`File::path_filter`], by the names of the section, the subsection and the value.
+    /// Like [`File::path_filter`], but by the names of the section, the subsection and the value.
     ///
     /// # Errors
     ///
@@ -171,12 +171,12 @@ impl File {
         found_path(found)
     }
 
-    /// The boolean of a key's last entry in the last section of the key's name and subsection that has one: true if that entry has no
-    /// `=`. `None` if there is none or the key can't be parsed. A miss takes no memory.
+    /// The boolean of a key's last entry; true if that entry has no `=`. The entry is the last one in the last section of the key's name
+    /// and subsection that has one. `None` if there is none or the key can't be parsed. A miss takes no memory.
     ///
     /// # Errors
     ///
-    /// Refusal 11 for a value that is not a boolean, `not a boolean`, with its bytes. Refusal 27 when out of memory.
+    /// E11 for a value that is not a boolean, `not a boolean`, with its bytes. E27 when out of memory.
     pub fn boolean<K: AsKey>(&self, key: K) -> Result<Option<bool>, value::Error>
         ensures { OfKey (K.key key) (λ key. IsBoolean key (λ _. true) self.now result) result }
     {
@@ -186,7 +186,7 @@ impl File {
         }
     }
 
-    /// As [`File::boolean`], by the names of the section, the subsection and the value.
+    /// Like [`File::boolean`], but by the names of the section, the subsection and the value.
     ///
     /// # Errors
     ///
@@ -203,7 +203,7 @@ impl File {
         self.boolean_filter_by(section_name, subsection_name, value_name, |_| true)
     }
 
-    /// As [`File::boolean`], of the sections whose metadata passes the filter.
+    /// Like [`File::boolean`], but of the sections whose metadata passes the filter.
     ///
     /// # Errors
     ///
@@ -228,7 +228,7 @@ impl File {
         }
     }
 
-    /// As [`File::boolean_filter`], by the names of the section, the subsection and the value.
+    /// Like [`File::boolean_filter`], but by the names of the section, the subsection and the value.
     ///
     /// # Errors
     ///
@@ -253,12 +253,12 @@ impl File {
         found_boolean(found)
     }
 
-    /// The last value of a key, found as by [`File::string`], as an integer times its suffix. A miss takes no memory.
+    /// The last value of a key, as an integer times its suffix. It is found as by [`File::string`]. A miss takes no memory.
     ///
     /// # Errors
     ///
-    /// Refusal 11 for a value that is not an integer, `not an integer`, or one that 64 bits don't hold, `Integer overflow`, with its bytes.
-    /// Refusal 27 when out of memory.
+    /// E11 for a value that is not an integer, `not an integer`, or one that 64 bits don't hold, `Integer overflow`, with its bytes. E27
+    /// when out of memory.
     pub fn integer<K: AsKey>(&self, key: K) -> Result<Option<i64>, value::Error>
         ensures { OfKey (K.key key) (λ key. IsInteger key (λ _. true) self.now result) result }
     {
@@ -268,7 +268,7 @@ impl File {
         }
     }
 
-    /// As [`File::integer`], by the names of the section, the subsection and the value.
+    /// Like [`File::integer`], but by the names of the section, the subsection and the value.
     ///
     /// # Errors
     ///
@@ -285,7 +285,7 @@ impl File {
         self.integer_filter_by(section_name, subsection_name, value_name, |_| true)
     }
 
-    /// As [`File::integer`], of the sections whose metadata passes the filter.
+    /// Like [`File::integer`], but of the sections whose metadata passes the filter.
     ///
     /// # Errors
     ///
@@ -310,7 +310,7 @@ impl File {
         }
     }
 
-    /// As [`File::integer_filter`], by the names of the section, the subsection and the value.
+    /// Like [`File::integer_filter`], but by the names of the section, the subsection and the value.
     ///
     /// # Errors
     ///
@@ -340,8 +340,8 @@ impl File {
     ///
     /// # Errors
     ///
-    /// Refusal 11 for the first value that is not an integer, `not an integer`, or that 64 bits don't hold, `Integer overflow`, with its
-    /// bytes. Refusal 27 when out of memory.
+    /// E11 for the first value that is not an integer, `not an integer`, or that 64 bits don't hold, `Integer overflow`, with its bytes.
+    /// E27 when out of memory.
     pub fn integers<K: AsKey>(&self, key: K) -> Result<Option<Vec<i64>>, value::Error>
         ensures { OfKey (K.key key) (λ key. AreIntegers key (λ _. true) self.now result) result }
     {
@@ -351,7 +351,7 @@ impl File {
         }
     }
 
-    /// As [`File::integers`], by the names of the section, the subsection and the value.
+    /// Like [`File::integers`], but by the names of the section, the subsection and the value.
     ///
     /// # Errors
     ///
@@ -368,7 +368,7 @@ impl File {
         self.integers_filter_by(section_name, subsection_name, value_name, |_| true)
     }
 
-    /// As [`File::integers`], of the sections whose metadata passes the filter.
+    /// Like [`File::integers`], but of the sections whose metadata passes the filter.
     ///
     /// # Errors
     ///
@@ -393,7 +393,7 @@ impl File {
         }
     }
 
-    /// As [`File::integers_filter`], by the names of the section, the subsection and the value.
+    /// Like [`File::integers_filter`], but by the names of the section, the subsection and the value.
     ///
     /// # Errors
     ///

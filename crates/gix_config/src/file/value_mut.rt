@@ -17,7 +17,7 @@ use gitconf_text::parse::span;
 use spelling::Spelling;
 
 /// An editor of the value of one entry of a file. It has the entry's place in its section. What it writes besides the value stays as
-/// it was when the editor was made: the name, as the caller spelled it, and the blanks around `=`, those of the section.
+/// it was when the editor was made: the name, as the caller spelled it, and the whitespace around `=`, that of the section.
 pub struct ValueMut<'a, S: Drop = Spelling> {
     file: &'a mut File,
     id: SectionId,
@@ -68,7 +68,7 @@ impl<'a> ValueMut<'a> {
     ///
     /// # Errors
     ///
-    /// Refusal 9 if the entry was deleted; 27 when out of memory for the result.
+    /// E9 if the entry was deleted; E27 when out of memory for the result.
     pub fn get(&self) -> Result<BString, existing::Error>
         ensures { IsExisting bstring_bytes result (meaning_of self.now) KeyMissing }
     {
@@ -83,15 +83,15 @@ impl<'a> ValueMut<'a> {
         }
     }
 
-    /// Gives the entry another value: it is rewritten, with the name as the caller spelled it, `=` with the blanks around it, and the value
-    /// as a file spells it. If the old value ended in an empty last piece and a comment comes next, apart from blanks, the last line ending
-    /// of the old value stays before it. An entry that was deleted is written at its place.
+    /// Gives the entry another value. It is rewritten, with the name as the caller spelled it, `=` with the whitespace around it, and the
+    /// value as a file spells it. If the old value ended in an empty last piece and a comment comes next, apart from whitespace, the last
+    /// line ending of the old value stays before it. An entry that was deleted is written at its place.
     ///
     /// Its time doesn't grow with the file. Takes memory for what is added to the file's buffer, and for at most one more item.
     ///
     /// # Errors
     ///
-    /// Number 3 if the file would take more than 4294967295 bytes, and 27 when out of memory. The file is then as it was.
+    /// E3 if the file would take more than 4294967295 bytes, and E27 when out of memory. The file is then as it was.
     pub fn set(&mut self, value: &[u8]) -> Result<(), span::Error>
         ensures same_file { lent self.new ≡ lent self.old }
         ensures same_place { place_of self.new ≡ place_of self.old }
@@ -120,7 +120,7 @@ impl<'a> ValueMut<'a> {
         Ok(())
     }
 
-    /// As [`ValueMut::set`], with the bytes of a text.
+    /// Like [`ValueMut::set`], but with the bytes of a text.
     ///
     /// # Errors
     ///
@@ -137,8 +137,8 @@ impl<'a> ValueMut<'a> {
         self.set(value.as_bytes())
     }
 
-    /// Deletes the entry, if it is there: its name, `=` and value, and the blanks between them. What is around it stays, even the
-    /// blanks before its name and the line ending after its value. It can't fail, and takes no memory.
+    /// Deletes the entry, if it is there. This removes its name, `=` and value, and the whitespace between them. What is around it stays,
+    /// even the whitespace before its name and the line ending after its value. It can't fail, and takes no memory.
     pub fn delete(&mut self)
         ensures same_file { lent self.new ≡ lent self.old }
         ensures same_place { place_of self.new ≡ place_of self.old }
@@ -161,13 +161,13 @@ impl<'a> ValueMut<'a> {
         ensures key { is_value_name (key_of self.now) ≡ true }
         ensures editor { IsEditor (editor self.now) }
     {
-        // For what their contracts say of the name and of the blanks.
+        // For what their contracts say of the name and of the whitespace.
         let _ = self.spelling.key();
         let _ = self.spelling.editor(self.line_end);
         self.file.section_of(self.id)
     }
 
-    /// An editor of the section, which writes the blanks that the section used, and the file's line ending, as they were when this editor
+    /// An editor of the section. It writes the whitespace that the section used, and the file's line ending, as they were when this editor
     /// was made.
     pub fn into_section_mut(self) -> SectionMut<'a>
         ensures same_file { sections.lent result ≡ lent self.entry }

@@ -71,7 +71,7 @@ impl File {
     ///
     /// # Errors
     ///
-    /// Those of [`File::raw_value`], and refusal 10 if the type refuses the value.
+    /// Those of [`File::raw_value`], and E10 if the type rejects the value.
     pub fn value<T: TryFrom<BString>, K: AsKey>(&self, key: K) -> Result<T, lookup::Error<T::Error>>
         requires { IsSome (K.key key) }
         ensures { IsTypedValue T.try_from_gives (the_key (K.key key)) self.now result }
@@ -80,7 +80,7 @@ impl File {
         self.value_by(key.section_name, key.subsection_name, key.value_name)
     }
 
-    /// As [`File::value`], by the names of the section, the subsection and the value.
+    /// Like [`File::value`], but by the names of the section, the subsection and the value.
     ///
     /// # Errors
     ///
@@ -96,8 +96,8 @@ impl File {
         converted(self.raw_value_by(section_name, subsection_name, value_name))
     }
 
-    /// The last value of a key in a type, and its section, found as by [`File::raw_value_with_section`]. The key
-    /// has to be valid, as [`AsKey::try_as_key`] says.
+    /// The last value of a key in a type, and its section. It is found as by [`File::raw_value_with_section`]. The key has
+    /// to be valid, as [`AsKey::try_as_key`] says.
     ///
     /// # Errors
     ///
@@ -113,7 +113,7 @@ impl File {
         self.value_with_section_by(key.section_name, key.subsection_name, key.value_name)
     }
 
-    /// As [`File::value_with_section`], by the names of the section, the subsection and the value.
+    /// Like [`File::value_with_section`], but by the names of the section, the subsection and the value.
     ///
     /// # Errors
     ///
@@ -133,12 +133,12 @@ impl File {
         ))
     }
 
-    /// The last value of a key in a type, or `None` if there is none, found as by [`File::string`]. The key has to be valid,
-    /// as [`AsKey::try_as_key`] says.
+    /// The last value of a key in a type, or `None` if there is none. It is found as by [`File::string`]. The key has to be
+    /// valid, as [`AsKey::try_as_key`] says.
     ///
     /// # Errors
     ///
-    /// Refusal 10 if the type refuses the value; refusal 27 when out of memory.
+    /// E10 if the type rejects the value; E27 when out of memory.
     pub fn try_value<T: TryFrom<BString>, K: AsKey>(
         &self,
         key: K,
@@ -150,7 +150,7 @@ impl File {
         self.try_value_by(key.section_name, key.subsection_name, key.value_name)
     }
 
-    /// As [`File::try_value`], by the names of the section, the subsection and the value.
+    /// Like [`File::try_value`], but by the names of the section, the subsection and the value.
     ///
     /// # Errors
     ///

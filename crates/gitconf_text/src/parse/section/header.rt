@@ -10,16 +10,16 @@ use thiserror::Error;
 /// Why a header can't be made.
 #[derive(Debug, Drop, PartialEq, Eq, PartialOrd, Error)]
 pub enum Error {
-    /// The section's name has a byte other than a letter, a digit or a dash: refusal 4.
+    /// The section's name has a byte other than a letter, a digit or a dash: E4.
     #[error("section names can only be ascii, '-'")]
     InvalidName,
-    /// The subsection holds LF or NUL: refusal 5.
+    /// The subsection holds LF or NUL: E5.
     #[error("sub-section names must not contain newlines or null bytes")]
     InvalidSubSection,
-    /// The text has no room for the header, or there is no section number left: refusal 3.
+    /// The text has no room for the header, or there is no section number left: E3.
     #[error(transparent)]
     Span(span::Error),
-    /// A growth was refused: refusal 27.
+    /// An allocation failed: E27.
     #[error("out of memory")]
     Memory,
 }
@@ -63,8 +63,8 @@ pub fn is_valid_subsection(name: &[u8]) -> bool
 ///
 /// # Errors
 ///
-/// `InvalidName` where the name has a byte other than a letter, a digit or a dash, otherwise `InvalidSubSection` where there
-/// is a subsection that `is_valid_subsection` refuses.
+/// `InvalidName` (E4) where the name has a byte other than a letter, a digit or a dash, otherwise `InvalidSubSection` (E5)
+/// where there is a subsection that `is_valid_subsection` refuses.
 pub fn validate(name: &[u8], subsection: Option<&[u8]>) -> Result<(), Error>
     ensures name { IsErrOf result Error.InvalidName ↔ (spec.is_made_name name.now ≡ false) }
     ensures subsection { IsErrOf result Error.InvalidSubSection ↔ ((spec.is_made_name name.now ≡ true)

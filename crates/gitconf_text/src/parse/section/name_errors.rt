@@ -6,7 +6,7 @@ use std::alloc::AllocError;
 use std::fmt;
 use std::marker::Model;
 
-/// Bytes that are not a section's name, or a refused growth.
+/// Bytes that are not a section's name, or a failed allocation.
 #[derive(Clone, Copy, Debug)]
 pub struct NameError {
     cause: Cause,
@@ -24,7 +24,7 @@ impl Model for NameError {
 }
 
 impl NameError {
-    /// The refusal of bytes that are not such a name.
+    /// The error for bytes that are not such a name.
     pub(super) fn invalid() -> NameError
         ensures { result ≡ 6 }
     {
@@ -33,7 +33,7 @@ impl NameError {
         }
     }
 
-    /// The refusal's number: 6, or 27 when memory ran out.
+    /// The error's number: 6, or 27 when memory ran out.
     pub fn number(&self) -> u8
         ensures { result ≡ self.now }
     {
@@ -74,7 +74,7 @@ impl From<NoMemory> for NameError {
     }
 }
 
-/// Bytes that are not a value's name, or a refused growth.
+/// Bytes that are not a value's name, or a failed allocation.
 #[derive(Clone, Copy, Debug)]
 pub struct ValueNameError {
     cause: Cause,
@@ -92,7 +92,7 @@ impl Model for ValueNameError {
 }
 
 impl ValueNameError {
-    /// The refusal of bytes that are not such a name.
+    /// The error for bytes that are not such a name.
     pub fn invalid() -> ValueNameError
         ensures { result ≡ 6 }
     {
@@ -101,7 +101,7 @@ impl ValueNameError {
         }
     }
 
-    /// The refusal's number: 6, or 27 when memory ran out.
+    /// The error's number: 6, or 27 when memory ran out.
     pub fn number(&self) -> u8
         ensures { result ≡ self.now }
     {

@@ -19,8 +19,8 @@ use std::marker::Model;
 
 /// The name of a section, like `remote`: letters, digits and dashes.
 ///
-/// It keeps its spelling, and is compared, ordered and hashed without ASCII case. `try_from` makes one of a `String`
-/// or a `BString`, whose memory it keeps; its only refusal is number 6, of bytes that are not such a name.
+/// It keeps its spelling, and is compared, ordered and hashed without ASCII case. `try_from` makes one of a `String` or
+/// a `BString`, whose memory it keeps; its only error is E6, for bytes that are not such a name.
 #[derive(Debug, Drop)]
 pub struct Name {
     text: String,
@@ -42,7 +42,7 @@ impl Name {
     ///
     /// # Errors
     ///
-    /// Refusal 6 if they are not, and 27 when out of memory.
+    /// E6 if they are not, and E27 when out of memory.
     pub fn try_from_bytes(alloc: Global, bytes: &[u8]) -> Result<Name, NameError>
         ensures ok { IfOk result (λ name. name ≡ bytes.now) }
         ensures invalid { IsErrOf result 6 ↔ (spec.is_name bytes.now ≡ false) }
@@ -181,8 +181,8 @@ impl Hash for Name {
 
 /// The name of a value, like `path` in `include.path`: a letter, and then letters, digits and dashes.
 ///
-/// It keeps its spelling, and is compared, ordered and hashed without ASCII case. `try_from` makes one of a `String`
-/// or a `BString`, whose memory it keeps; its only refusal is number 6, of bytes that are not such a name.
+/// It keeps its spelling, and is compared, ordered and hashed without ASCII case. `try_from` makes one of a `String` or
+/// a `BString`, whose memory it keeps; its only error is E6, for bytes that are not such a name.
 #[derive(Debug, Drop)]
 pub struct ValueName {
     text: String,
@@ -204,7 +204,7 @@ impl ValueName {
     ///
     /// # Errors
     ///
-    /// Refusal 6 if they are not, and 27 when out of memory.
+    /// E6 if they are not, and E27 when out of memory.
     pub fn try_from_bytes(alloc: Global, bytes: &[u8]) -> Result<ValueName, ValueNameError>
         ensures ok { IfOk result (λ name. name ≡ bytes.now) }
         ensures invalid { IsErrOf result 6 ↔ (spec.is_value_name bytes.now ≡ false) }

@@ -32,7 +32,7 @@ use std::alloc::Global;
 ///
 /// # Errors
 ///
-/// 22 for a value that isn't UTF-8; 6 for an invalid name, 3 if there is no room; 27 when out of memory.
+/// E22 for a value that isn't UTF-8; E6 for an invalid name, E3 if there is no room; E27 when out of memory.
 fn push_value(
     section: &mut SectionMut<'_>,
     name: &str,
@@ -58,7 +58,7 @@ fn push_value(
 ///
 /// # Errors
 ///
-/// 4, 5 and 3 if a section can't be made, and those of [`push_value`].
+/// E4, E5 and E3 if a section can't be made, and those of [`push_value`].
 fn put_value(
     file: &mut File,
     key: KeyRef<'_>,
@@ -77,7 +77,7 @@ fn put_value(
 ///
 /// # Errors
 ///
-/// 25 for a text that has no dot, and those of [`put_value`].
+/// E25 for a text that has no dot, and those of [`put_value`].
 fn put_under(file: &mut File, key: String, value: Option<String>, index: usize) -> Result<(), Error>
     ensures { IsPutUnder index (string_bytes key) (parsed_key (string_bytes key)) (option_map string_bytes value) file.old (left_by env_says result file.new) }
 {
@@ -94,7 +94,7 @@ fn put_under(file: &mut File, key: String, value: Option<String>, index: usize) 
 ///
 /// # Errors
 ///
-/// 24 if the key isn't set, 22 if it isn't UTF-8, 26 if the value isn't set, and those of [`put_under`].
+/// E24 if the key isn't set, E22 if it isn't UTF-8, E26 if the value isn't set, and those of [`put_under`].
 fn put_entry<E: Env>(alloc: Global, env: &mut E, index: usize, file: &mut File) -> Result<(), Error>
     ensures put { IsEntryPut (E.variables env.old) index file.old (left_by env_says result file.new) }
     ensures stays { E.variables env.new ≡ E.variables env.old }
@@ -128,7 +128,7 @@ fn put_entries<E: Env>(
 ///
 /// # Errors
 ///
-/// Out of memory.
+/// E27 when out of memory.
 fn empty(alloc: Global, meta: Metadata) -> Result<File, NoMemory>
     ensures { IfOk result (λ file. file ≡ empty_file meta) }
 {
@@ -190,7 +190,7 @@ pub(crate) fn env_file<F: Files, E: Env>(
 ///
 /// # Errors
 ///
-/// Out of memory.
+/// E27 when out of memory.
 fn or_empty(alloc: Global, made: Option<File>) -> Result<File, NoMemory>
     ensures { IfOk result (λ file. file ≡ unwrap_or made (empty_file api_meta)) }
 {
@@ -227,8 +227,8 @@ impl File {
     ghost use Rattle.gitconf_loaders.specs.Paths.{CountsLoad, telling};
     ghost use Rattle.gix_config.specs.Environment.{IsFromEnv, IsOverrides};
 
-    /// The file of the entries that variables set, which comes from no path and from the source `Env`, fully trusted, at level 0; with what
-    /// it includes by the options. `GIT_CONFIG_COUNT` says how many entries there are, and the key and the value of each are in
+    /// The file of the entries that variables set, with what it includes by the options. It comes from no path and from the source `Env`,
+    /// fully trusted, at level 0. `GIT_CONFIG_COUNT` says how many entries there are, and the key and the value of each are in
     /// `GIT_CONFIG_KEY_0`, `GIT_CONFIG_VALUE_0` and so on. Each entry goes into the last section of the key's names, or into a new one.
     /// `None` if there is no count, or the count is 0 or isn't UTF-8.
     ///
@@ -236,10 +236,10 @@ impl File {
     ///
     /// # Errors
     ///
-    /// 23 for a count that is not a number below 2 to the 64th. For the first entry that can't be put in, the first of these: 24 for a key
-    /// that isn't set, 22 for one that isn't UTF-8, 26 for a value that isn't set, 25 for a key without a dot, 4 and 5 for names that a
-    /// section can't be made of, 22 for a value that isn't UTF-8, 6 for an invalid name; 3 if there is no room. Then those of
-    /// [`File::resolve_includes`], and 15 also if `max_depth` is 0 and the options ask for it. 27 when out of memory.
+    /// E23 for a count that is not a number below 2 to the 64th. For the first entry that can't be put in, the first of these: E24 for a
+    /// key that isn't set, E22 for one that isn't UTF-8, E26 for a value that isn't set, E25 for a key without a dot, E4 and E5 for names
+    /// that a section can't be made of, E22 for a value that isn't UTF-8, E6 for an invalid name; E3 if there is no room. Then those of
+    /// [`File::resolve_includes`], and E15 also if `max_depth` is 0 and the options ask for it. E27 when out of memory.
     pub fn from_env(
         alloc: Global,
         options: Options<'_>,
@@ -261,7 +261,7 @@ impl File {
         env_file(alloc, files, env, &options)
     }
 
-    /// [`File::from_env`], whose includes know the home folders of the host's places; an empty file if that is `None`.
+    /// The file of [`File::from_env`], or an empty file if that is `None`. Its includes know the home directories of the host's places.
     ///
     /// # Errors
     ///

@@ -16,12 +16,12 @@ impl File {
     ghost use Rattle.gitconf_loaders.specs.Globals.{IsGlobal};
     ghost use Rattle.gitconf_loaders.specs.Paths.{CountsLoad, IsLoadedFrom, IsLoadOfPaths, telling};
 
-    /// The file at a path, of that source, at level 0, with the trust that the host reports, which is asked first. No include is followed.
-    /// The file is read and parsed once.
+    /// The file at a path. It is of that source, at level 0, with the trust that the host reports, which is asked first. No include is
+    /// followed. The file is read and parsed once.
     ///
     /// # Errors
     ///
-    /// 21 if the trust can't be asked, or the file can't be opened or read; 1 and 2 if the parser refuses it; 27 when out of memory.
+    /// E21 if the trust can't be asked, or the file can't be opened or read; E1 and E2 if the parser refuses it; E27 when out of memory.
     pub fn from_path_no_includes(
         alloc: Global,
         path: String,
@@ -39,16 +39,17 @@ impl File {
         Ok(File { store })
     }
 
-    /// The files of metadata that has a path, each with what it includes by the options, one after the other as [`File::append`] puts them;
-    /// `None` if no file was loaded. Metadata without a path is skipped, and of several with one path the first is taken. The options
-    /// say whether faults are ignored: then a file that can't be opened is skipped, and one that can't be read counts as empty.
+    /// The files of metadata that has a path, each with what it includes. Includes go by the options, and the files come one after the
+    /// other as [`File::append`] puts them; `None` if no file was loaded. Metadata without a path is skipped, and of several with one path
+    /// the first is taken. The options say whether faults are ignored: then a file that can't be opened is skipped, and one that can't be
+    /// read counts as empty.
     ///
     /// Each file is read and parsed once. What is appended is moved once, and the paths are kept in a tree.
     ///
     /// # Errors
     ///
-    /// 21 if a file can't be opened (also if there is none) or read, and that isn't ignored; 1, 2 and 12 to 20 if a file or its includes
-    /// are refused; 3 if there is no room for one; 27 when out of memory.
+    /// E21 if a file can't be opened (also if there is none) or read, and that isn't ignored; E1, E2 and E12 to E20 if a file or its
+    /// includes are refused; E3 if there is no room for one; E27 when out of memory.
     pub fn from_paths_metadata(
         alloc: Global,
         metas: Vec<Metadata>,
@@ -66,8 +67,8 @@ impl File {
         File::from_paths_metadata_buf(alloc, metas, true, options, host)
     }
 
-    /// As [`File::from_paths_metadata`]; a file that isn't there is skipped unless it must exist. The Rust crate also takes a buffer, into
-    /// which texts are read; here each text becomes its file's buffer.
+    /// Like [`File::from_paths_metadata`], but a file that isn't there is skipped unless it must exist. The Rust crate also takes a buffer,
+    /// into which texts are read; here each text becomes its file's buffer.
     ///
     /// # Errors
     ///
@@ -100,7 +101,7 @@ impl File {
         }
     }
 
-    /// As [`File::from_paths_metadata`], for any source of files: for a program that is generic over where its files come from.
+    /// Like [`File::from_paths_metadata`], but for any source of files. It is for a program that is generic over where its files come from.
     ///
     /// # Errors
     ///
@@ -123,9 +124,9 @@ impl File {
         }
     }
 
-    /// The configuration of the machine and of the user: what is at the places of the sources `GitInstallation`, `System`, `Git` and
-    /// `User`, in this order, each with what it includes, one after the other; an empty file if there is none. Each is fully
-    /// trusted, at level 0. Includes know the home folders of the host's places. Variables are asked again for each place.
+    /// The configuration of the machine and of the user. It is what is at the places of the sources `GitInstallation`, `System`, `Git` and
+    /// `User`, in this order, each with what it includes, one after the other; an empty file if there is none. Each is fully trusted, at
+    /// level 0. Includes know the home directories of the host's places. Variables are asked again for each place.
     ///
     /// # Errors
     ///

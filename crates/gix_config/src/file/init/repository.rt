@@ -41,7 +41,7 @@ struct Parts {
     globals: File,
 }
 
-/// The folder that the repository's configuration is in.
+/// The directory that the repository's configuration is in.
 fn folder_of(path: &str) -> &str
     ensures { result.now ≡ spec.folder_of path.now }
 {
@@ -55,7 +55,7 @@ fn folder_of(path: &str) -> &str
 ///
 /// # Errors
 ///
-/// Out of memory.
+/// E27 when out of memory.
 fn has_worktree(local: &File) -> Result<bool, NoMemory>
     ensures { IfOk result (λ has. has ≡ spec.has_worktree local.now) }
 {
@@ -90,7 +90,7 @@ fn worktree<F: Files>(
     Ok(Some(File { store }))
 }
 
-/// How the repository's files are expanded: with the home folder and the repository's own folder, and no branch.
+/// How the repository's files are expanded: with the home directory and the repository's own directory, and no branch.
 fn options<'a>(places: &'a Places, folder: &'a str, real: Result<&'a str, FileFault>) -> Options<'a>
     ensures { rules_of result ≡ repository_rules places.now folder.now (resolved real.entry) }
 {
@@ -112,7 +112,7 @@ fn options<'a>(places: &'a Places, folder: &'a str, real: Result<&'a str, FileFa
 ///
 /// # Errors
 ///
-/// Those of includes; 3 if there is no room; 27 when out of memory.
+/// Those of includes; E3 if there is no room; E27 when out of memory.
 fn put_behind<F: Files>(
     alloc: Global,
     files: &mut F,
@@ -154,7 +154,7 @@ fn put_worktree<F: Files>(
 ///
 /// # Errors
 ///
-/// Those of the overrides; 3 if there is no room; 27 when out of memory.
+/// Those of the overrides; E3 if there is no room; E27 when out of memory.
 fn put_overrides<F: Files, E: Env>(
     alloc: Global,
     files: &mut F,
@@ -272,7 +272,7 @@ fn read<F: Files, E: Env>(
     })
 }
 
-/// The configuration of the repository whose git folder is `dir`.
+/// The configuration of the repository whose git directory is `dir`.
 ///
 /// # Errors
 ///
@@ -305,15 +305,15 @@ impl File {
     ghost use Rattle.gitconf_loaders.specs.Paths.{CountsLoad, telling};
     ghost use Rattle.gix_config.specs.Repository.{IsRepository};
 
-    /// The configuration of the repository whose git folder is `dir`, which is `real` with its symbolic links resolved: that of the machine
-    /// and of the user ([`File::from_globals`]), of the repository (`config` in the folder), of its worktree (`config.worktree`, if
-    /// `extensions.worktreeConfig` is true), and the overrides ([`File::from_environment_overrides`]), one after the other as
-    /// [`File::append`] puts them. Includes of the repository's files know the home folder of the host's places and the git folder; as in
-    /// the Rust crate, the files of the machine and of the user are expanded once more with these.
+    /// The configuration of the repository whose git directory is `dir`. `real` is that directory with its symbolic links resolved. The
+    /// configuration is that of the machine and of the user ([`File::from_globals`]), of the repository (`config` in the directory), of its
+    /// worktree (`config.worktree`, if `extensions.worktreeConfig` is true), and the overrides ([`File::from_environment_overrides`]), one
+    /// after the other as [`File::append`] puts them. Includes of the repository's files know the home directory of the host's places and
+    /// the git directory; as in the Rust crate, the files of the machine and of the user are expanded once more with these.
     ///
     /// # Errors
     ///
-    /// 21 if a file can't be opened or read, or its trust can't be asked; 18 if a condition asks for the resolved folder and that is a
+    /// E21 if a file can't be opened or read, or its trust can't be asked; E18 if a condition asks for the resolved directory and that is a
     /// fault; otherwise those of the calls named above.
     pub fn from_git_dir(
         alloc: Global,

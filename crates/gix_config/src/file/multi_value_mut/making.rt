@@ -16,16 +16,17 @@ impl File {
     ghost use Rattle.gix_config.specs.contracts.file.File.{the_row};
     ghost use Rattle.gix_config.specs.MultiValueEditors.{edited, lent, targets_of, AreFoundTargets, IsEditorOfValues};
 
-    /// An editor of all entries of a key such as `remote.origin.fetch`, with `=` or without it, in the sections of the key's name and
-    /// subsection. They are in the order of the sections' numbers, and in each section in the order of its entries.
+    /// An editor of all entries of a key such as `remote.origin.fetch`. These are the entries with `=` or without it in the sections
+    /// of the key's name and subsection. They are in the order of the sections' numbers, and in each section in the order of its
+    /// entries.
     ///
     /// It walks over the sections of the key's name and subsection and over their items, and sorts the places. Takes memory for the
     /// places, and for the name.
     ///
     /// # Errors
     ///
-    /// Refusal 7 if no section has the name, 8 if none of these has the subsection; otherwise 6 for an invalid value name; otherwise 9
-    /// if none of these has such an entry; 27 when out of memory. The file is then as it was.
+    /// E7 if no section has the name, E8 if none of these has the subsection; otherwise E6 for an invalid value name; otherwise E9 if
+    /// none of these has such an entry; E27 when out of memory. The file is then as it was.
     pub fn raw_values_mut<K: AsKey>(&mut self, key: K) -> Result<MultiValueMut<'_>, existing::Error>
         requires { IsSome (K.key key) }
         ensures same_file { IfOk result (λ e. lent e ≡ self.entry.ghost_name) }
@@ -37,7 +38,7 @@ impl File {
         self.raw_values_mut_by(key.section_name, key.subsection_name, key.value_name)
     }
 
-    /// As [`File::raw_values_mut`], by the names of the section, the subsection and the value.
+    /// Like [`File::raw_values_mut`], but by the names of the section, the subsection and the value.
     ///
     /// # Errors
     ///
@@ -57,7 +58,8 @@ impl File {
         self.raw_values_mut_filter_by(section_name, subsection_name, value_name, |_| true)
     }
 
-    /// As [`File::raw_values_mut`], in the sections whose metadata passes the filter, which is called for them in file order.
+    /// Like [`File::raw_values_mut`], but in the sections whose metadata passes the filter. The filter is called for them in file
+    /// order.
     ///
     /// # Errors
     ///
@@ -84,7 +86,7 @@ impl File {
         )
     }
 
-    /// As [`File::raw_values_mut_filter`], by the names of the section, the subsection and the value.
+    /// Like [`File::raw_values_mut_filter`], but by the names of the section, the subsection and the value.
     ///
     /// # Errors
     ///

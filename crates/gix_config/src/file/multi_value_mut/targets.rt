@@ -6,8 +6,8 @@ use crate::file::SectionId;
 use gitconf_text::NoMemory;
 use std::marker::Model;
 
-/// The name of a value as the caller spelled it, and the places of the entries, in order: each by the number of its section and its place
-/// among the items of the body, counted in items from 0.
+/// The name of a value as the caller spelled it, and the entries' places. The places are in order, each by the number of its section and
+/// its place among the items of the body, counted in items from 0.
 #[derive(Drop)]
 pub struct Targets {
     key: Vec<u8>,
@@ -63,7 +63,7 @@ impl Targets {
     ///
     /// # Errors
     ///
-    /// Out of memory.
+    /// E27 when out of memory.
     pub(crate) fn new(key: &[u8], places: Vec<(SectionId, usize)>) -> Result<Targets, NoMemory>
         requires { is_value_name key.now ≡ true }
         ensures { IfOk result (λ t. t ≡ record { key = key.now; places = places.items }) }

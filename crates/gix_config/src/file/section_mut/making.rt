@@ -15,11 +15,11 @@ use thiserror::Error;
 /// Why there is no editor.
 #[derive(Debug, Drop, Error)]
 pub enum Error {
-    /// There are such sections, and none passes the filter; or no section has the number. It has no refusal number of its own,
-    /// and counts as 9 ([`Refusal`](crate::refusals::Refusal)).
+    /// There are such sections, and none passes the filter; or no section has the number. It has no number of its own,
+    /// and counts as E9 ([`Refusal`](crate::refusals::Refusal)).
     #[error("No section passes")]
     NonePasses,
-    /// What is missing, or a growth was refused: refusals 7, 8, 9 and 27.
+    /// What is missing, or that an allocation failed: E7, E8, E9 and E27.
     #[error(transparent)]
     Lookup(existing::Error),
 }
@@ -70,7 +70,7 @@ impl File {
     ghost use Rattle.gitconf_store.specs.Edited.{causes, done};
     ghost use Rattle.gix_config.specs.SectionEditors.{blanks_at, edited, editor_at, lent, told, IsEditorOfKey, IsFoundOrMade, IsFoundOrMadeOf, IsOfNumber, IsPassingEditorOfKey, IsPickedOf};
 
-    /// The number and the blanks of the last section that has the name and subsection.
+    /// The number and the whitespace of the last section that has the name and subsection.
     fn blanks_by_names(
         &self,
         name: &str,
@@ -111,7 +111,7 @@ impl File {
         Ok((id, blanks))
     }
 
-    /// The number and the blanks of the last section whose metadata passes the filter, if there is one.
+    /// The number and the whitespace of the last section whose metadata passes the filter, if there is one.
     fn find_passing<F: FnMut(&Metadata) -> bool>(
         &self,
         name: &str,
@@ -167,7 +167,7 @@ impl File {
         self.find_or_make(name, subsection_name, |_| true)
     }
 
-    /// The blanks of the section of a number.
+    /// The whitespace of the section of a number.
     fn blanks_of_numbered(&self, id: SectionId) -> Result<Blanks, Error>
         ensures found { IsOfNumber (λ blanks. (id, blanks)) blanks_at id self.now result }
         ensures stands { IfOk result (λ _. has_number id self.now ≡ true) }
@@ -179,7 +179,7 @@ impl File {
         Ok(blanks?)
     }
 
-    /// An editor of the section of that number, which writes these blanks and this line ending.
+    /// An editor of the section of that number, which writes this whitespace and this line ending.
     fn editor(&mut self, id: SectionId, blanks: Blanks, line_end: LineEnd) -> SectionMut<'_>
         requires stands { has_number id self.old ≡ true }
         ensures same_file { lent result ≡ self.entry.ghost_name }
@@ -195,13 +195,13 @@ impl File {
         }
     }
 
-    /// An editor of the last section that has the name, without ASCII case, and exactly the subsection. It is found by an index; then one
-    /// walk over its items, and one over the file's up to the first line ending. Takes memory for the blanks that the section uses.
+    /// An editor of the last section that has the name and exactly the subsection. The name's ASCII case doesn't count. The section is
+    /// found by an index; then one walk over its items, and one over the file's up to the first line ending. Takes memory for the
+    /// whitespace that the section uses.
     ///
     /// # Errors
     ///
-    /// Refusal 7 if no section has the name, 8 if none of these has the subsection; 27 when out of memory. The file is then as it
-    /// was.
+    /// E7 if no section has the name, E8 if none of these has the subsection; E27 when out of memory. The file is then as it was.
     pub fn section_mut(
         &mut self,
         name: &str,
@@ -219,12 +219,12 @@ impl File {
         Ok(self.editor(id, blanks, line_end))
     }
 
-    /// As [`File::section_mut`], by a key such as `remote.origin`: the name is before its first dot, and all after it is the
+    /// Like [`File::section_mut`], but by a key such as `remote.origin`. The name is before its first dot, and all after it is the
     /// subsection; without a dot there is none.
     ///
     /// # Errors
     ///
-    /// Refusal 9 if the name isn't UTF-8, and those of [`File::section_mut`].
+    /// E9 if the name isn't UTF-8, and those of [`File::section_mut`].
     pub fn section_mut_by_key(
         &mut self,
         section_key: &[u8],
@@ -240,11 +240,12 @@ impl File {
         self.section_mut(key.section_name, key.subsection_name)
     }
 
-    /// As [`File::section_mut`], for the last section whose metadata passes the filter, which is called from the last one up to that one.
+    /// Like [`File::section_mut`], but for the last section whose metadata passes the filter. The filter is called from the last one up to
+    /// that one.
     ///
     /// # Errors
     ///
-    /// [`Error::NonePasses`] if there are such sections and none passes; otherwise those of [`File::section_mut`].
+    /// [`Error::NonePasses`] (E9) if there are such sections and none passes; otherwise those of [`File::section_mut`].
     pub fn section_mut_filter<F: FnMut(&Metadata) -> bool>(
         &mut self,
         name: &str,
@@ -264,11 +265,11 @@ impl File {
         Ok(self.editor(id, blanks, line_end))
     }
 
-    /// As [`File::section_mut_filter`], by a key as in [`File::section_mut_by_key`].
+    /// Like [`File::section_mut_filter`], but by a key as in [`File::section_mut_by_key`].
     ///
     /// # Errors
     ///
-    /// Refusal 9 if the name isn't UTF-8, and those of [`File::section_mut_filter`].
+    /// E9 if the name isn't UTF-8, and those of [`File::section_mut_filter`].
     pub fn section_mut_filter_by_key<F: FnMut(&Metadata) -> bool>(
         &mut self,
         section_key: &[u8],
@@ -287,11 +288,12 @@ impl File {
         self.section_mut_filter(key.section_name, key.subsection_name, filter)
     }
 
-    /// An editor of the section of a number: no walk over sections, one over its items, and one over the file's up to the first line ending.
+    /// An editor of the section of a number. This takes no walk over sections, one over its items, and one over the file's up to the first
+    /// line ending.
     ///
     /// # Errors
     ///
-    /// [`Error::NonePasses`] if no section has the number; 27 when out of memory. The file is then as it was.
+    /// [`Error::NonePasses`] (E9) if no section has the number; E27 when out of memory. The file is then as it was.
     pub fn section_mut_by_id(&mut self, id: SectionId) -> Result<SectionMut<'_>, Error>
         ensures same_file { IfOk result (λ e. lent e ≡ self.entry.ghost_name) }
         ensures same_state { IfOk result (λ e. edited e ≡ self.old) }
@@ -303,16 +305,16 @@ impl File {
         Ok(self.editor(id, blanks, line_end))
     }
 
-    /// Makes a section after all others, whose body is one line ending, the file's, with the file's metadata; and returns an editor of it,
-    /// which writes a tab before names and a space on both sides of `=`.
+    /// Makes a section after all others, and returns an editor of it. The section's body is one line ending, the file's, and it has the
+    /// file's metadata. The editor writes a tab before names and a space on both sides of `=`.
     ///
     /// Three walks over the file's items up to the first line ending. Takes memory for what is added to the buffer, for the items, and for
     /// the section's place.
     ///
     /// # Errors
     ///
-    /// Refusal 4 for a name that a section can't be made of, otherwise 5 for a subsection that it can't be made of; otherwise 3 if the file
-    /// would take more than 4294967295 bytes, or there is no number left; otherwise 27 when out of memory. The file is then as it was.
+    /// E4 for a name that a section can't be made of, otherwise E5 for a subsection that it can't be made of; otherwise E3 if the file
+    /// would take more than 4294967295 bytes, or there is no number left; otherwise E27 when out of memory. The file is then as it was.
     pub fn new_section(
         &mut self,
         name: &str,
@@ -329,15 +331,16 @@ impl File {
         Ok(self.editor(id, blanks, line_end))
     }
 
-    /// Adds a section that is in no file after all others, under the next number, and returns an editor of it, which writes the blanks that
-    /// the section uses, and the line ending that the file then uses. Its header, its body and where it comes from stay.
+    /// Adds a section after all others, and returns an editor of it. The section is one that is in no file, and gets the next number. The
+    /// editor writes the whitespace that the section uses, and the line ending that the file then uses. The section's header, its body and
+    /// where it comes from stay.
     ///
     /// Its bytes are copied once, and its items are moved in one pass; and a walk over the file's items up to the first line ending. Takes
-    /// memory for the bytes, the names, the place, and for the blanks.
+    /// memory for the bytes, the names, the place, and for the whitespace.
     ///
     /// # Errors
     ///
-    /// A [`span::Error`]: number 3 if and only if the buffer would be longer than 4294967295 bytes or no number is left, otherwise 27 when out
+    /// A [`span::Error`]: E3 if and only if the buffer would be longer than 4294967295 bytes or no number is left, otherwise E27 when out
     /// of memory. The section is then dropped, and the file as it was.
     pub fn push_section(&mut self, section: Section) -> Result<SectionMut<'_>, span::Error>
         ensures same_file { IfOk result (λ e. lent e ≡ self.entry.ghost_name) }
@@ -351,11 +354,11 @@ impl File {
         Ok(self.editor(id, blanks, line_end))
     }
 
-    /// As [`File::section_mut`]; if there is no such section, one is made as by [`File::new_section`].
+    /// Like [`File::section_mut`], but if there is no such section, one is made as by [`File::new_section`].
     ///
     /// # Errors
     ///
-    /// If a section is made, those of [`File::new_section`]; otherwise out of memory. The file is then as it was.
+    /// If a section is made, those of [`File::new_section`]; otherwise E27 when out of memory. The file is then as it was.
     pub fn section_mut_or_create_new(
         &mut self,
         name: &str,
@@ -370,8 +373,8 @@ impl File {
         Ok(self.editor(id, blanks, line_end))
     }
 
-    /// As [`File::section_mut_filter`]; if no section passes, one is made as by [`File::new_section`], whether or not the filter would
-    /// pass it.
+    /// Like [`File::section_mut_filter`], but if no section passes, one is made. It is made as by [`File::new_section`], whether or not the
+    /// filter would pass it.
     ///
     /// # Errors
     ///

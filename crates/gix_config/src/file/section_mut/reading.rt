@@ -34,7 +34,7 @@ impl<'a> SectionMut<'a> {
         ensures items { (shown result).items ≡ items_of_numbered (number_of self.now) (edited self.now) }
         ensures editor { IsEditor (editor self.now) }
     {
-        // For what its contract says of the blanks.
+        // For what its contract says of the whitespace.
         let _ = self.blanks.editor(self.line_end, self.ends);
         self.file.section_of(self.id)
     }
@@ -64,68 +64,68 @@ impl<'a> SectionMut<'a> {
     ///
     /// # Errors
     ///
-    /// Out of memory.
+    /// E27 when out of memory.
     pub fn to_bstring(&self) -> Result<BString, NoMemory>
         ensures { IfSome (numbered (number_of self.now) (edited self.now)) (λ s. IfOk result (λ text. bstring_bytes text ≡ printed_section s)) }
     {
         self.section().to_bstring()
     }
 
-    /// As [`BodyRef::value`] of its body.
+    /// Like [`BodyRef::value`], of its body.
     ///
     /// # Errors
     ///
-    /// Out of memory for the result.
+    /// E27 when out of memory for the result.
     pub fn value(&self, value_name: &str) -> Result<Option<BString>, NoMemory>
         ensures { IsFound bstring_bytes result (value_in value_name.now (entries_of (items_of_numbered (number_of self.now) (edited self.now)))) }
     {
         self.body().value(value_name)
     }
 
-    /// As [`BodyRef::value_implicit`] of its body.
+    /// Like [`BodyRef::value_implicit`], of its body.
     ///
     /// # Errors
     ///
-    /// Out of memory for the result.
+    /// E27 when out of memory for the result.
     pub fn value_implicit(&self, value_name: &str) -> Result<Option<Option<BString>>, NoMemory>
         ensures { IsFoundImplicit result (implicit_value_in value_name.now (entries_of (items_of_numbered (number_of self.now) (edited self.now)))) }
     {
         self.body().value_implicit(value_name)
     }
 
-    /// As [`BodyRef::values`] of its body.
+    /// Like [`BodyRef::values`], of its body.
     ///
     /// # Errors
     ///
-    /// Out of memory.
+    /// E27 when out of memory.
     pub fn values(&self, value_name: &str) -> Result<Vec<BString>, NoMemory>
         ensures { AreFound result (values_in value_name.now (entries_of (items_of_numbered (number_of self.now) (edited self.now)))) }
     {
         self.body().values(value_name)
     }
 
-    /// As [`BodyRef::value_names`] of its body.
+    /// Like [`BodyRef::value_names`], of its body.
     pub fn value_names(&self) -> ValueNames<'_>
         ensures { names_left result ≡ map (λ e. e.name) (entries_of (items_of_numbered (number_of self.now) (edited self.now))) }
     {
         self.body().value_names()
     }
 
-    /// As [`BodyRef::contains_value_name`] of its body.
+    /// Like [`BodyRef::contains_value_name`], of its body.
     pub fn contains_value_name(&self, value_name: &str) -> bool
         ensures { result ≡ has_key value_name.now (entries_of (items_of_numbered (number_of self.now) (edited self.now))) }
     {
         self.body().contains_value_name(value_name)
     }
 
-    /// As [`BodyRef::num_values`] of its body.
+    /// Like [`BodyRef::num_values`], of its body.
     pub fn num_values(&self) -> usize
         ensures { result ≡ length (entries_of (items_of_numbered (number_of self.now) (edited self.now))) }
     {
         self.body().num_values()
     }
 
-    /// As [`BodyRef::is_void`] of its body.
+    /// Like [`BodyRef::is_void`], of its body.
     pub fn is_void(&self) -> bool
         ensures { result ≡ is_empty_body (items_of_numbered (number_of self.now) (edited self.now)) }
     {
@@ -139,14 +139,14 @@ impl<'a> SectionMut<'a> {
         self.line_end.as_bytes()
     }
 
-    /// The blanks that the editor writes before a name, if it writes any.
+    /// The whitespace that the editor writes before a name, if it writes any.
     pub fn leading_whitespace(&self) -> Option<&[u8]>
         ensures { option_copied result ≡ (editor self.now).spacing.leading }
     {
         self.blanks.leading()
     }
 
-    /// The blanks that the editor writes before and after `=`; `None` if it writes none there.
+    /// The whitespace that the editor writes before and after `=`. `None` if it writes none there.
     pub fn separator_whitespace(&self) -> (Option<&[u8]>, Option<&[u8]>)
         ensures before { option_copied result.0 ≡ if_any (editor self.now).spacing.before }
         ensures behind { option_copied result.1 ≡ if_any (editor self.now).spacing.behind }

@@ -31,7 +31,7 @@ impl File {
         self.store.value_place_filter(key, filter)
     }
 
-    /// A name, and the blanks that the section of a number uses.
+    /// A name, and the whitespace that the section of a number uses.
     pub(crate) fn spelling_at(&self, id: SectionId, key: &[u8]) -> Result<Spelling, NoMemory>
         requires stands { has_number id self.now ≡ true }
         requires key { is_value_name key.now ≡ true }

@@ -16,16 +16,16 @@ impl File {
     ghost use Rattle.gix_config.specs.contracts.file.File.{the_row};
     ghost use Rattle.gix_config.specs.ValueEditors.{edited, lent, IsEditorOfValue, IsValueEditor};
 
-    /// An editor of the last entry of a key such as `remote.origin.url`, with `=` or without it, in the last section of the key's name and
-    /// subsection that has one. The key has to be valid, as [`AsKey::try_as_key`] says.
+    /// An editor of the last entry of a key such as `remote.origin.url`. That is the last entry, with `=` or without it, in the last
+    /// section of the key's name and subsection that has one. The key has to be valid, as [`AsKey::try_as_key`] says.
     ///
     /// It walks over the sections of the key's name and subsection from the last one up to that one, over its items, and over the
-    /// file's up to the first line ending. Takes memory for the name and for the blanks that the section uses.
+    /// file's up to the first line ending. Takes memory for the name and for the whitespace that the section uses.
     ///
     /// # Errors
     ///
-    /// Refusal 7 if no section has the name, 8 if none of these has the subsection; otherwise 6 for an invalid value name; otherwise 9
-    /// if none of these has such an entry; 27 when out of memory. The file is then as it was.
+    /// E7 if no section has the name, E8 if none of these has the subsection; otherwise E6 for an invalid value name; otherwise E9 if
+    /// none of these has such an entry; E27 when out of memory. The file is then as it was.
     pub fn raw_value_mut<K: AsKey>(&mut self, key: K) -> Result<ValueMut<'_>, existing::Error>
         requires { IsSome (K.key key) }
         ensures same_file { IfOk result (λ e. lent e ≡ self.entry.ghost_name) }
@@ -37,7 +37,7 @@ impl File {
         self.raw_value_mut_by(key.section_name, key.subsection_name, key.value_name)
     }
 
-    /// As [`File::raw_value_mut`], by the names of the section, the subsection and the value.
+    /// Like [`File::raw_value_mut`], but by the names of the section, the subsection and the value.
     ///
     /// # Errors
     ///
@@ -57,8 +57,8 @@ impl File {
         self.raw_value_mut_filter_by(section_name, subsection_name, value_name, |_| true)
     }
 
-    /// As [`File::raw_value_mut`], in the sections whose metadata passes the filter, which is called from the last one up to the one with
-    /// the entry.
+    /// Like [`File::raw_value_mut`], but in the sections whose metadata passes the filter. The filter is called from the last one up to
+    /// the one with the entry.
     ///
     /// # Errors
     ///
@@ -85,7 +85,7 @@ impl File {
         )
     }
 
-    /// As [`File::raw_value_mut_filter`], by the names of the section, the subsection and the value.
+    /// Like [`File::raw_value_mut_filter`], but by the names of the section, the subsection and the value.
     ///
     /// # Errors
     ///

@@ -9,7 +9,7 @@ use gitconf_text::line_end::LineEnd;
 use std::alloc::Global;
 use std::marker::Model;
 
-/// The name of a value as the caller spelled it, and the blanks around its `=`. They stay as they were when the editor was made.
+/// The name of a value as spelled by the caller, and the whitespace around `=`. They stay as they were when the editor was made.
 #[derive(Drop)]
 pub struct Spelling {
     key: Vec<u8>,
@@ -35,11 +35,11 @@ impl Spelling {
     ghost use Rattle.gitconf_state.specs.Edits.{IsEditor};
     ghost use Rattle.gitconf_body.specs.Blanks.{editor_with, given_editor, IsGiven, PutsAround};
 
-    /// A copy of a name, and blanks.
+    /// A copy of a name, and whitespace.
     ///
     /// # Errors
     ///
-    /// Out of memory.
+    /// E27 when out of memory.
     pub(crate) fn new(key: &[u8], blanks: Blanks) -> Result<Spelling, NoMemory>
         requires { is_value_name key.now ≡ true }
         ensures { IfOk result (λ s. s ≡ record { key = key.now; spacing = blanks }) }
@@ -56,7 +56,7 @@ impl Spelling {
         &self.key
     }
 
-    /// An editor that writes the blanks. Takes no memory.
+    /// An editor that writes the whitespace. Takes no memory.
     pub(crate) fn editor(&self, line_end: LineEnd) -> Editor<'_>
         ensures given { IsGiven result }
         ensures puts { PutsAround result }
@@ -66,7 +66,7 @@ impl Spelling {
         self.blanks.editor(line_end, true)
     }
 
-    /// The blanks, when the name is no longer needed.
+    /// The whitespace, when the name is no longer needed.
     pub(crate) fn into_blanks(self) -> Blanks
         ensures { result ≡ self.spacing }
     {

@@ -1,10 +1,10 @@
-/* Each growth that the calls ask for is refused in turn: just one call then answers 27, the others do what they do, and nothing leaks. */
+/* Each allocation that the calls ask for is refused in turn: just one call then answers 27, the others do what they do, and nothing leaks. */
 #include "checking.h"
 #include "refusing_heap.h"
 
 static const char *const TEXT = "# mine\n[core]\n\teditor = vi ; was ed\n[remote \"or\\\"igin\"]\n\turl = \"a b\" c\n\turl = d\n";
 
-/* How many of the calls were refused for want of memory. Any other refusal fails the test, but of calls on a handle that is empty then. */
+/* How many of the calls were refused for want of memory. Any other error fails the test, but of calls on a handle that is empty then. */
 static int refused(uint32_t answer)
 {
     CHECK(answer == GIX_CONFIG_DONE || answer == GIX_CONFIG_OUT_OF_MEMORY);
@@ -87,7 +87,7 @@ static int calls(bool lossy)
     return count;
 }
 
-/* A call that hands out a list of entries. */
+/* A call that returns a list of entries. */
 typedef uint32_t (*listing)(const gix_config_file *file, const gix_config_file *other_file, gix_config_list *list);
 
 static uint32_t all_entries(const gix_config_file *file, const gix_config_file *other_file, gix_config_list *list)
@@ -103,25 +103,25 @@ static uint32_t entries_of_second(const gix_config_file *file, const gix_config_
 }
 
 /* The lists are whole, or not there. */
-static int refused_list(listing call, const gix_config_file *file, const gix_config_file *other_file, size_t len, long growth)
+static int refused_list(listing call, const gix_config_file *file, const gix_config_file *other_file, size_t len, long allocation)
 {
     gix_config_list list = { NULL };
-    growths = 0;
-    refused_growth = growth;
+    allocations = 0;
+    refused_allocation = allocation;
     int count = refused(call(file, other_file, &list));
-    refused_growth = -1;
+    refused_allocation = -1;
     CHECK(count == 0 ? gix_config_list_len(&list) == len : list.at == NULL);
     gix_config_list_close(&list);
     return count;
 }
 
-/* Each refusal is told, but those of room that is asked for ahead, without which a list is made all the same. */
+/* Each refused allocation is told, but those of room that is asked for ahead, without which a list is made all the same. */
 static void listed(listing call, const gix_config_file *file, const gix_config_file *other_file, size_t len, long asked_ahead)
 {
     CHECK(refused_list(call, file, other_file, len, -1) == 0);
-    long all = growths, count = 0;
-    for (long growth = 0; growth < all; growth++)
-        count += refused_list(call, file, other_file, len, growth);
+    long all = allocations, count = 0;
+    for (long allocation = 0; allocation < all; allocation++)
+        count += refused_list(call, file, other_file, len, allocation);
     CHECK(count == all - asked_ahead);
 }
 
@@ -146,17 +146,17 @@ static void lists(bool lossy)
 int main(void)
 {
     for (int lossy = 0; lossy < 2; lossy++) {
-        growths = 0;
-        refused_growth = -1;
+        allocations = 0;
+        refused_allocation = -1;
         CHECK(calls(lossy != 0) == 0);
-        long all = growths;
+        long all = allocations;
         CHECK(all > 20);
         lists(lossy != 0);
-        for (long growth = 0; growth < all; growth++) {
-            growths = 0;
-            refused_growth = growth;
+        for (long allocation = 0; allocation < all; allocation++) {
+            allocations = 0;
+            refused_allocation = allocation;
             if (calls(lossy != 0) != 1) {
-                fprintf(stderr, "growth %ld of %ld: not just one refusal\n", growth, all);
+                fprintf(stderr, "allocation %ld of %ld: not just one error\n", allocation, all);
                 return 1;
             }
         }

@@ -1,4 +1,4 @@
-/* Each growth that telling and loading ask for is refused in turn: the call then answers 27, and its handles and blocks are as they were. */
+/* Each allocation that telling and loading ask for is refused in turn: the call then answers 27, and its handles and blocks are as they were. */
 #include "checking.h"
 #include "refusing_heap.h"
 
@@ -108,7 +108,7 @@ static void told(state *of, const char *but)
     };
     static const char text[] = "[include]\n\tpath = /a\n[x]\n\tk = 1\n";
     gix_config_place place = { 0, 0, 0 };
-    refused_growth = -1;
+    refused_allocation = -1;
     CHECK(gix_config_told_new(&of->told) == GIX_CONFIG_DONE && parse(text, false, &of->file, &place) == GIX_CONFIG_DONE);
     for (size_t i = 0; i < sizeof files / sizeof *files; i += 2)
         CHECK(gix_config_told_text(&of->told, bytes_of(files[i]), strlen(files[i]), bytes_of(files[i + 1]), strlen(files[i + 1])) == GIX_CONFIG_DONE);
@@ -124,16 +124,16 @@ static void told(state *of, const char *but)
     }
 }
 
-static uint32_t call_refused(calling call, const char *but, uint32_t wanted, long growth, bool *used)
+static uint32_t call_refused(calling call, const char *but, uint32_t wanted, long allocation, bool *used)
 {
     state of = { { NULL }, { NULL }, { NULL, 0, NULL } };
     told(&of, but);
     void *file = of.file.at, *at = of.told.at;
-    growths = 0;
-    refused_growth = growth;
+    allocations = 0;
+    refused_allocation = allocation;
     uint32_t answer = call(&of);
-    refused_growth = -1;
-    *used = growths > growth;
+    refused_allocation = -1;
+    *used = allocations > allocation;
     if (answer == GIX_CONFIG_OUT_OF_MEMORY) {
         CHECK(of.file.at == file && of.told.at == at && of.asked.at == NULL && of.asked.owner == NULL);
         /* (all that was told is there, so that the same call is done) */
@@ -149,10 +149,10 @@ static void each_refused(calling call, const char *but, uint32_t wanted)
 {
     bool used = true;
     CHECK(call_refused(call, but, wanted, -1, &used) == wanted);
-    for (long growth = 0;; growth++) {
-        uint32_t answer = call_refused(call, but, wanted, growth, &used);
+    for (long allocation = 0;; allocation++) {
+        uint32_t answer = call_refused(call, but, wanted, allocation, &used);
         if (!used) {
-            CHECK(answer == wanted && growth > 0);
+            CHECK(answer == wanted && allocation > 0);
             return;
         }
         CHECK(answer == GIX_CONFIG_OUT_OF_MEMORY);
