@@ -4,7 +4,7 @@ mod MessageLemmas
 mod PlaceLemmas
 mod WidthLemmas
 mod Digits
-mod ColorLemmas
+mod PartLemmas
 mod Choices
 mod Told
 mod Negated

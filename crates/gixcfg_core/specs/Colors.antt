@@ -3,12 +3,13 @@
 use Rattle.std.specs.Prelude.{ℕ, ◌+◌, ◌==◌, ◌&&◌, ◌||◌, Bool, false, not, leb, ltb, if◌then◌else◌, List, [], ◌∷◌, ◌++◌, length, take, drop, Option, Some, None, slice_index, codes}
 use Rattle.std.specs.Char.{digit_value}
 use Rattle.std.specs.Fmt.{decimal}
-use Rattle.std.specs.List.{sum_by, list_all, list_any, slice_split}
+use Rattle.std.specs.List.{sum_by, list_all, list_any}
 use Rattle.std.specs.Option.{is_some, unwrap_or}
 use Rattle.std.specs.Str.{bytes_eq}
 use Rattle.std.specs.Str.Parse.{digits_value, starts_with_minus, without_leading_sign}
 use Rattle.gitconf_text.specs.Names.{is_same_name}
 use Rattle.gixcfg_core.specs.Numbers.{after_blanks, digits_len}
+use Rattle.gixcfg_core.specs.Parts.{parts_of}
 use Rattle.gixcfg_core.specs.declared.colors.Color.{Color}
 use Rattle.gixcfg_core.specs.declared.colors.Color.TheVariants.{Normal, Named, Palette, Mixed}
 use Rattle.gixcfg_core.specs.declared.colors.Style.{Style}
@@ -123,21 +124,13 @@ is_word word = length word == 0 || is_reset word || is_color_word word || is_att
 abbrev pub color_count : List ℕ → ℕ
 color_count word = if not (length word == 0) && not (is_reset word) && is_color_word word then 1 else 0
 
--- what words have between them
-abbrev pub is_between : ℕ → Bool
-is_between b = b == 32 || b == 9 || b == 10 || b == 13
-
-unfoldable pub words_in : List ℕ → List (List ℕ)
-words_in text = slice_split is_between text
+-- the words of a text: its parts between spaces, tabs, and ends of lines
+abbrev pub words_in : List ℕ → List (List ℕ)
+words_in text = parts_of (32 ∷ 9 ∷ 10 ∷ 13 ∷ []) text
 
 -- a text is a color: words that ask for something, at most two of them for a color
 abbrev pub is_color : List ℕ → Bool
 is_color text = list_all is_word (words_in text) && leb (sum_by color_count (words_in text)) 2
-
--- the words of what is left of a text
-abbrev pub words_left : Option (List ℕ) → List (List ℕ)
-words_left None = []
-words_left (Some rest) = words_in rest
 
 -- how many colors a style has
 abbrev pub colors_in : Style → ℕ

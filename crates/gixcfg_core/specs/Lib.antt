@@ -10,6 +10,7 @@ pub mod Comments
 pub mod Dates
 pub mod Numbers
 pub mod Origins
+pub mod Parts
 pub mod Patterns
 pub mod Pieces
 pub mod Posix

@@ -5,6 +5,7 @@ ghost use Rattle.std.specs.Option.{is_some, option_copied};
 ghost use Rattle.gixcfg_core.specs.Colors as spec;
 
 use crate::numbers::{after_blanks, after_sign, byte_of, digits_at_front};
+use crate::parts::first_part;
 use gitconf_text::parse::section::bytes::is_same_name;
 use std::alloc::{AllocError, Global};
 
@@ -31,6 +32,9 @@ struct Attribute {
 static NAMES: [&[u8]; 8] = [
     b"black", b"red", b"green", b"yellow", b"blue", b"magenta", b"cyan", b"white",
 ];
+
+/// The bytes between words.
+const BETWEEN: &[u8] = b" \t\n\r";
 
 /// The number of black text.
 const DARK: u8 = 30;
@@ -139,7 +143,7 @@ fn style_of(text: &[u8]) -> Option<Style>
     let mut style = Style::none();
     let mut left = Some(text);
     while let Some(rest) = left {
-        let (word, behind) = first_word(rest);
+        let (word, behind) = first_part(rest, BETWEEN);
         if !style.add(word) {
             return None;
         }
@@ -148,38 +152,12 @@ fn style_of(text: &[u8]) -> Option<Style>
     Some(style)
 }
 
-/// The first word, and what follows the byte behind it, if there is one.
-#[tactic(auto, using(crate::proofs::ColorLemmas::only_word))]
-fn first_word(text: &[u8]) -> (&[u8], Option<&[u8]>)
-    ensures { spec.words_in text.now ≡ result.0.now ∷ spec.words_left (option_copied result.1) }
-{
-    match first_between(text) {
-        Some(end) => (&text[..end], Some(&text[end + 1..])),
-        None => (text, None),
-    }
-}
-
-/// The place of the first byte that is between words.
-fn first_between(text: &[u8]) -> Option<usize>
-    ensures place { result ≡ position spec.is_between text.now }
-    ensures within { IfSome result (λ n. n < length text.now) }
-{
-    text.iter().position(|byte| is_between(*byte))
-}
-
 /// Whether a word takes all back.
 #[tactic(auto, unfolding(crate::specs::Colors::is_reset))]
 fn is_reset(word: &[u8]) -> bool
     ensures { result ≡ spec.is_reset word.now }
 {
     is_same_name(word, b"reset")
-}
-
-/// Whether a byte is between words.
-fn is_between(byte: u8) -> bool
-    ensures { result ≡ spec.is_between byte }
-{
-    matches!(byte, b' ' | b'\t' | b'\n' | b'\r')
 }
 
 /// The sequence of a style.

@@ -18,6 +18,7 @@ pub mod names;
 pub mod numbers;
 pub mod origins;
 pub mod outside;
+pub mod parts;
 pub mod patterns;
 pub mod place;
 pub mod places;

@@ -1,3 +1,2 @@
 mod Lists
 mod Sets
-mod Words

@@ -1,7 +1,7 @@
 -- Which values are of a type, and which are of a list of words.
 -- Source: the manual page of `git-config`, "Values".
-use Rattle.std.specs.Prelude.{◌==◌, ◌||◌, ℕ, Bool as Truth, true, false, List, [], Option, Some, None, if◌then◌else◌, codes}
-use Rattle.std.specs.List.{list_any, slice_split}
+use Rattle.std.specs.Prelude.{◌||◌, ℕ, Bool as Truth, true, false, List, [], Option, Some, None, if◌then◌else◌, codes}
+use Rattle.std.specs.List.{list_any}
 use Rattle.std.specs.Option.{is_some}
 use Rattle.std.specs.Str.{bytes_eq}
 use Rattle.gitconf_text.specs.Names.{is_same_name}
@@ -9,6 +9,7 @@ use Rattle.gixcfg_words.specs.declared.kinds.Kind.{Kind}
 use Rattle.gixcfg_words.specs.declared.kinds.Kind.TheVariants.{Bool, Int, BoolOrInt, BoolOrStr, Color}
 use Rattle.gixcfg_core.specs.Colors.{is_color}
 use Rattle.gixcfg_core.specs.Numbers.{boolean_named, boolean_of, integer_of}
+use Rattle.gixcfg_core.specs.Parts.{parts_of}
 
 -- a text writes a value of a type; any is taken for a path or a date
 abbrev pub writes : (text : List ℕ) → Kind → Truth
@@ -42,17 +43,9 @@ is_word value word =
     else if bytes_eq word (codes "<int>") then is_of value Int
     else is_spelled value word
 
-abbrev pub is_comma : ℕ → Truth
-is_comma b = b == 44
-
 -- the words of a list: its parts between commas
-unfoldable pub words_in : List ℕ → List (List ℕ)
-words_in list = slice_split is_comma list
-
--- the words of what is left of a list
-abbrev pub words_left : Option (List ℕ) → List (List ℕ)
-words_left None = []
-words_left (Some rest) = words_in rest
+abbrev pub words_in : List ℕ → List (List ℕ)
+words_in list = parts_of (codes ",") list
 
 -- a value is one of a list of words
 abbrev pub is_one_of : (value : Option (List ℕ)) (words : List ℕ) → Truth

@@ -1,11 +1,12 @@
 //! Which values are of a type, and which are of a list of words.
-ghost use Rattle.std.specs.Prelude.{◌≡◌, ◌<◌, ◌∷◌, IfSome, length, position};
+ghost use Rattle.std.specs.Prelude.{◌≡◌};
 ghost use Rattle.std.specs.Option.{option_copied};
 ghost use Rattle.gixcfg_names.specs.Values as spec;
 
 use gitconf_text::parse::section::bytes::is_same_name;
 use gixcfg_core::colors::is_color;
 use gixcfg_core::numbers::{MOST, MOST_OF_32_BITS, boolean, boolean_named, integer};
+use gixcfg_core::parts::first_part;
 use gixcfg_words::kinds::Kind;
 
 /// Whether git takes a value for one of a type.
@@ -52,32 +53,13 @@ pub fn is_one_of(value: Option<&[u8]>, words: &str) -> bool
 {
     let mut left = Some(words.as_bytes());
     while let Some(list) = left {
-        let (word, behind) = first_word(list);
+        let (word, behind) = first_part(list, b",");
         if is_word(value, word) {
             return true;
         }
         left = behind;
     }
     false
-}
-
-/// The first word of a list, and what follows the comma behind it, if there is one.
-#[tactic(auto, using(crate::proofs::Words::only_word))]
-fn first_word(list: &[u8]) -> (&[u8], Option<&[u8]>)
-    ensures { spec.words_in list.now ≡ result.0.now ∷ spec.words_left (option_copied result.1) }
-{
-    match first_comma(list) {
-        Some(end) => (&list[..end], Some(&list[end + 1..])),
-        None => (list, None),
-    }
-}
-
-/// The place of the first comma.
-fn first_comma(list: &[u8]) -> Option<usize>
-    ensures place { result ≡ position spec.is_comma list.now }
-    ensures within { IfSome result (λ n. n < length list.now) }
-{
-    list.iter().position(|byte| *byte == b',')
 }
 
 /// Whether a value is what a word of a list means.
