@@ -19,7 +19,7 @@ use Rattle.gitconf_merge.proofs.Among.{among, one_names}
 use Rattle.gitconf_merge.proofs.Searches.{not_less}
 
 -- a name is among the keys of differences exactly if it is among them
-key_among : (names : Names) (ds : List Different) → list_any (λ ns. same_names names ns) (keys_of ds) ≡ is_among names ds
+pub key_among : (names : Names) (ds : List Different) → list_any (λ ns. same_names names ns) (keys_of ds) ≡ is_among names ds
 key_among names [] = refl
 key_among names (d ∷ []) = refl
 key_among names (d ∷ e ∷ ds) = go (same_names d.names e.names) refl (key_among names (e ∷ ds))

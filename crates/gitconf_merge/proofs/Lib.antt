@@ -1,5 +1,7 @@
 pub mod Searches
+pub mod Ranges
 pub mod Among
 pub mod Merges
 pub mod ConflictKeys
+pub mod UnionLemmas
 pub mod Swaps

@@ -6,9 +6,10 @@ use Rattle.std.proofs.lemmas.Bool.{and_parts}
 use Rattle.std.proofs.lemmas.Option.{same_Some}
 use Rattle.gitconf_sources.specs.Key.{Key}
 use Rattle.gitconf_diff.specs.Differences.{Answers, answers_at, names_at, same_answers}
+use Rattle.gitconf_diff.specs.declared.setting.Side.TheVariants.{One, Other}
 use Rattle.gitconf_diff.proofs.DifferentKeys.{are_same_answers}
 use Rattle.gitconf_state.specs.State.{SectionState}
-use Rattle.gitconf_merge.specs.Changes.{PlainChanges, AreChanges, AreSorted, is_from_ours, is_from_theirs, verdict_on}
+use Rattle.gitconf_merge.specs.Changes.{PlainChanges, AreChanges, AreSorted, follows, verdict_on}
 use Rattle.gitconf_merge.specs.Merging.{IsMerge, favored, merged}
 use Rattle.gitconf_merge.specs.Texts.{IsAllowed}
 use Rattle.gitconf_merge.specs.declared.deciding.Verdict.{Verdict}
@@ -16,6 +17,7 @@ use Rattle.gitconf_merge.specs.declared.deciding.Verdict.TheVariants as verdicts
 use Rattle.gitconf_merge.specs.declared.favor.Favor.{Favor}
 use Rattle.gitconf_merge.specs.declared.favor.Favor.TheVariants as favors
 use Rattle.gitconf_merge.proofs.Among.{among, passed}
+use Rattle.gitconf_merge.proofs.UnionLemmas.{all_differ, united_values}
 
 -- whose a key is, by whether base and ours, base and theirs, ours and theirs say the same of it
 abbrev by_sameness : (ours theirs between : Bool) → Verdict
@@ -26,8 +28,8 @@ by_sameness ours theirs between =
 
 -- what three files say of a key, and what was made says
 module _ (favor : Favor) (b o t r : Answers)
-    (from_ours : is_from_ours favor (by_sameness (same_answers b o) (same_answers b t) (same_answers o t)) ≡ true → r ≡ o)
-    (from_theirs : is_from_theirs favor (by_sameness (same_answers b o) (same_answers b t) (same_answers o t)) ≡ true → r ≡ t) where
+    (from_ours : follows One favor (by_sameness (same_answers b o) (same_answers b t) (same_answers o t)) ≡ true → r ≡ o)
+    (from_theirs : follows Other favor (by_sameness (same_answers b o) (same_answers b t) (same_answers o t)) ≡ true → r ≡ t) where
   -- what follows of the three tests
   Settled : Type 0
   Settled = (a : Answers) → merged b o t ≡ Some a → r ≡ a
@@ -50,12 +52,8 @@ module _ (favor : Favor) (b o t r : Answers)
       from_ours (rw (ours, theirs, between) refl) ∙ same_Some o a (sym told ∙ is)
   settled_so false false false ours theirs between a is = absurd (let told : merged b o t ≡ None = rw (ours, theirs, between) refl in cc (told, is))
 
-  conflict_so : (x y z : Bool) → same_answers b o ≡ x → same_answers b t ≡ y → same_answers o t ≡ z → merged b o t ≡ None
-      → by_sameness (same_answers b o) (same_answers b t) (same_answers o t) ≡ verdicts.Conflict
-  conflict_so true y z ours theirs between none = absurd (let told : merged b o t ≡ Some t = rw ours refl in cc (told, none))
-  conflict_so false true z ours theirs between none = absurd (let told : merged b o t ≡ Some o = rw (ours, theirs) refl in cc (told, none))
-  conflict_so false false true ours theirs between none = absurd (let told : merged b o t ≡ Some o = rw (ours, theirs, between) refl in cc (told, none))
-  conflict_so false false false ours theirs between none = rw (ours, theirs, between) refl
+  conflict_so : merged b o t ≡ None → by_sameness (same_answers b o) (same_answers b t) (same_answers o t) ≡ verdicts.Conflict
+  conflict_so none = let differ = all_differ b o t none in rw (differ.0, differ.1, differ.2) refl
 
   favored_so : (f : Favor) → favor ≡ f → by_sameness (same_answers b o) (same_answers b t) (same_answers o t) ≡ verdicts.Conflict
       → (a : Answers) → favored favor o t ≡ Some a → r ≡ a
@@ -74,7 +72,7 @@ module _ (favor : Favor) (b o t r : Answers)
   settled_answers = settled_so (same_answers b o) (same_answers b t) (same_answers o t) refl refl refl
 
   pub favored_answers : (a : Answers) → merged b o t ≡ None → favored favor o t ≡ Some a → r ≡ a
-  favored_answers a none = favored_so favor refl (conflict_so (same_answers b o) (same_answers b t) (same_answers o t) refl refl refl none) a
+  favored_answers a none = favored_so favor refl (conflict_so none) a
 
 -- a verdict by differences is that by what the files say
 verdict_is : (base ours theirs : List SectionState) (c : PlainChanges) → AreChanges base ours theirs c → (key : Key)
@@ -91,19 +89,20 @@ same_from_not false e = absurd (cc)
 pub is_merge : (favor : Favor) (base ours theirs made : List SectionState) (c : PlainChanges) → AreChanges base ours theirs c → IsAllowed favor c ours theirs made
     → IsMerge favor base ours theirs made
 is_merge favor base ours theirs made c are allowed =
-    let parts = and_parts (list_all (λ d. not (is_from_ours favor (verdict_on c d.names))) allowed.from_ours)
-    (list_all (λ d. not (is_from_theirs favor (verdict_on c d.names))) allowed.from_theirs) allowed.allowed in
-    let from_ours : (key : Key) → is_from_ours favor (verdict_on c (names_at key)) ≡ true → answers_at key made ≡ answers_at key ours
+    let parts = and_parts (list_all (λ d. not (follows One favor (verdict_on c d.names))) allowed.from_ours)
+    (list_all (λ d. not (follows Other favor (verdict_on c d.names))) allowed.from_theirs) allowed.allowed in
+    let from_ours : (key : Key) → follows One favor (verdict_on c (names_at key)) ≡ true → answers_at key made ≡ answers_at key ours
     = λ key wanted. are_same_answers (answers_at key made) (answers_at key ours) (same_from_not _
-    (sym (among made ours allowed.from_ours allowed.ours_are key) ∙ passed (λ ns. is_from_ours favor (verdict_on c ns)) allowed.from_ours parts.0 (names_at key) wanted)) in
-    let from_theirs : (key : Key) → is_from_theirs favor (verdict_on c (names_at key)) ≡ true → answers_at key made ≡ answers_at key theirs
+    (sym (among made ours allowed.from_ours allowed.ours_are key) ∙ passed (λ ns. follows One favor (verdict_on c ns)) allowed.from_ours parts.0 (names_at key) wanted)) in
+    let from_theirs : (key : Key) → follows Other favor (verdict_on c (names_at key)) ≡ true → answers_at key made ≡ answers_at key theirs
     = λ key wanted. are_same_answers (answers_at key made) (answers_at key theirs) (same_from_not _
-    (sym (among made theirs allowed.from_theirs allowed.theirs_are key) ∙ passed (λ ns. is_from_theirs favor (verdict_on c ns)) allowed.from_theirs parts.1 (names_at key) wanted)) in
+    (sym (among made theirs allowed.from_theirs allowed.theirs_are key) ∙ passed (λ ns. follows Other favor (verdict_on c ns)) allowed.from_theirs parts.1 (names_at key) wanted)) in
     record {
       settled = λ key a is. settled_answers favor (answers_at key base) (answers_at key ours) (answers_at key theirs) (answers_at key made)
-          (λ w. from_ours key (ap (is_from_ours favor) (verdict_is base ours theirs c are key) ∙ w)) (λ w. from_theirs key (ap (is_from_theirs favor) (verdict_is base ours theirs c are key) ∙ w)) a is;
+          (λ w. from_ours key (ap (follows One favor) (verdict_is base ours theirs c are key) ∙ w)) (λ w. from_theirs key (ap (follows Other favor) (verdict_is base ours theirs c are key) ∙ w)) a is;
       favored = λ key a none is. favored_answers favor (answers_at key base) (answers_at key ours) (answers_at key theirs) (answers_at key made)
-          (λ w. from_ours key (ap (is_from_ours favor) (verdict_is base ours theirs c are key) ∙ w)) (λ w. from_theirs key (ap (is_from_theirs favor) (verdict_is base ours theirs c are key) ∙ w)) a none is;
+          (λ w. from_ours key (ap (follows One favor) (verdict_is base ours theirs c are key) ∙ w)) (λ w. from_theirs key (ap (follows Other favor) (verdict_is base ours theirs c are key) ∙ w)) a none is;
+      union = λ is. united_values base ours theirs made c are allowed.from_ours allowed.ours_are (rw is at allowed.united);
     }
 
 -- the lists of changes are sorted

@@ -5,6 +5,8 @@ use Rattle.std.specs.List.Sorted.{IsSorted}
 use Rattle.gitconf_diff.specs.PlainSettings.{Names}
 use Rattle.gitconf_diff.specs.Differences.{Different, AreDifferences, different_cmp, different_of}
 use Rattle.gitconf_state.specs.State.{SectionState}
+use Rattle.gitconf_diff.specs.declared.setting.Side.{Side}
+use Rattle.gitconf_diff.specs.declared.setting.Side.TheVariants.{One, Other}
 use Rattle.gitconf_merge.specs.Keys.{is_among}
 use Rattle.gitconf_merge.specs.declared.changes.Changes.{Changes}
 use Rattle.gitconf_merge.specs.declared.deciding.Verdict.{Verdict}
@@ -45,25 +47,21 @@ verdict_on c names =
 abbrev pub is_conflict : PlainChanges → Names → Bool
 is_conflict c names = is_among names c.theirs && (is_among names c.ours && is_among names c.between)
 
--- the result has to say of a key what OURS says
-abbrev pub is_from_ours : Favor → Verdict → Bool
-is_from_ours favor verdicts.Ours = true
-is_from_ours favor verdicts.Theirs = false
-is_from_ours favors.Neither verdicts.Conflict = true
-is_from_ours favors.Ours verdicts.Conflict = true
-is_from_ours favors.Theirs verdicts.Conflict = false
-is_from_ours favors.Union verdicts.Conflict = false
+-- a conflict is settled by what this side says; one that is united by neither
+abbrev pub is_favored : Side → Favor → Bool
+is_favored One favors.Neither = true
+is_favored One favors.Ours = true
+is_favored Other favors.Theirs = true
+is_favored side favor = false
 
--- the result has to say of a key what THEIRS says
-abbrev pub is_from_theirs : Favor → Verdict → Bool
-is_from_theirs favor verdicts.Ours = false
-is_from_theirs favor verdicts.Theirs = true
-is_from_theirs favors.Neither verdicts.Conflict = false
-is_from_theirs favors.Ours verdicts.Conflict = false
-is_from_theirs favors.Theirs verdicts.Conflict = true
-is_from_theirs favors.Union verdicts.Conflict = false
+-- the result has to say of a key what this side says
+abbrev pub follows : Side → Favor → Verdict → Bool
+follows One favor verdicts.Ours = true
+follows Other favor verdicts.Theirs = true
+follows side favor verdicts.Conflict = is_favored side favor
+follows side favor verdict = false
 
 -- the differences of the result are none but those that it has to have: from ours, and from theirs
 abbrev pub are_allowed : Favor → PlainChanges → (from_ours from_theirs : List Different) → Bool
 are_allowed favor c from_ours from_theirs =
-    list_all (λ d. not (is_from_ours favor (verdict_on c d.names))) from_ours && list_all (λ d. not (is_from_theirs favor (verdict_on c d.names))) from_theirs
+    list_all (λ d. not (follows One favor (verdict_on c d.names))) from_ours && list_all (λ d. not (follows Other favor (verdict_on c d.names))) from_theirs

@@ -4,3 +4,4 @@ pub mod Changes
 pub mod Conflicts
 pub mod Inputs
 pub mod Texts
+pub mod Unions

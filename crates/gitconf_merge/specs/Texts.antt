@@ -12,14 +12,16 @@ use Rattle.gitconf_merge.specs.declared.favor.Favor.{Favor}
 use Rattle.gitconf_merge.specs.declared.merging.Error.{Error}
 use Rattle.gitconf_merge.specs.declared.merging.Error.TheVariants.{Memory, Refused, Unplaced}
 use Rattle.gitconf_merge.specs.Inputs.{text_of}
+use Rattle.gitconf_merge.specs.Unions.{are_united}
 
--- what was made differs from both sides only where it has to
+-- what was made differs from both sides only where it has to, and where conflicts are united it has the values of both
 pub record IsAllowed (favor : Favor) (c : PlainChanges) (ours theirs made : List SectionState) : Type 0 where
   pub from_ours : List Different
   pub from_theirs : List Different
   pub ours_are : AreDifferences made ours from_ours
   pub theirs_are : AreDifferences made theirs from_theirs
   pub allowed : are_allowed favor c from_ours from_theirs ≡ true
+  pub united : are_united favor c from_ours ≡ true
 
 -- the text was read, and differs from both sides only where it has to
 abbrev pub IsAllowedText : Favor → PlainChanges → (ours theirs : List SectionState) → (text : List ℕ) → Type 0

@@ -47,7 +47,7 @@ fn conflict_at(difference: &Difference, lines: Spot) -> Result<Conflict, NoMemor
 }
 
 /// Whether the first of these differences is of the key of one before them.
-fn goes_on(difference: &Difference, behind: &[Difference]) -> bool
+pub(crate) fn goes_on(difference: &Difference, behind: &[Difference]) -> bool
     ensures { result ≡ goes_on (different_of difference.now).names (map different_of behind.now) }
 {
     match behind.first() {

@@ -3,11 +3,12 @@ ghost use Rattle.std.specs.Prelude.{◌≡◌, map};
 ghost use Rattle.std.specs.List.Sorted.{IsSorted};
 ghost use Rattle.gitconf_diff.specs.Differences.{different_cmp, different_of};
 ghost use Rattle.gitconf_merge.specs.Keys.{plain_names};
-ghost use Rattle.gitconf_merge.specs.Changes.{AreSorted, is_conflict, plain_changes, verdict_on};
+ghost use Rattle.gitconf_merge.specs.Changes.{AreSorted, is_conflict, is_favored, plain_changes, verdict_on};
 
 use crate::changes::Changes;
 use crate::favor::Favor;
 use crate::key::{KeyNames, is_key_among};
+use gitconf_diff::setting::Side;
 
 /// Whose a key is.
 #[derive(Clone, Copy, Debug, PartialEq, Eq)]
@@ -22,30 +23,27 @@ pub enum Verdict {
 
 impl Verdict {
     ghost use Rattle.std.specs.Prelude.{◌≡◌};
-    ghost use Rattle.gitconf_merge.specs.Changes.{is_from_ours, is_from_theirs};
+    ghost use Rattle.gitconf_merge.specs.Changes.{follows};
 
-    /// Whether the result has to say what OURS says.
-    pub fn is_from_ours(self, favor: Favor) -> bool
-        ensures { result ≡ is_from_ours favor self }
+    /// Whether the result has to say what this side says.
+    pub fn follows(self, side: Side, favor: Favor) -> bool
+        ensures { result ≡ follows side favor self }
     {
-        match (self, favor) {
-            (Verdict::Ours, _) => true,
-            (Verdict::Theirs, _) => false,
-            (Verdict::Conflict, Favor::Neither | Favor::Ours) => true,
-            (Verdict::Conflict, Favor::Theirs | Favor::Union) => false,
+        match self {
+            Verdict::Ours => matches!(side, Side::One),
+            Verdict::Theirs => matches!(side, Side::Other),
+            Verdict::Conflict => is_favored(side, favor),
         }
     }
+}
 
-    /// Whether the result has to say what THEIRS says.
-    pub fn is_from_theirs(self, favor: Favor) -> bool
-        ensures { result ≡ is_from_theirs favor self }
-    {
-        match (self, favor) {
-            (Verdict::Ours, _) => false,
-            (Verdict::Theirs, _) => true,
-            (Verdict::Conflict, Favor::Theirs) => true,
-            (Verdict::Conflict, Favor::Neither | Favor::Ours | Favor::Union) => false,
-        }
+/// Whether a conflict is settled by what this side says. One that is united is settled by neither.
+fn is_favored(side: Side, favor: Favor) -> bool
+    ensures { result ≡ is_favored side favor }
+{
+    match side {
+        Side::One => matches!(favor, Favor::Neither | Favor::Ours),
+        Side::Other => matches!(favor, Favor::Theirs),
     }
 }
 

@@ -1,13 +1,15 @@
 //! Keys, by their names, and whether a key is among the differences of two files.
-ghost use Rattle.std.specs.Prelude.{◌≡◌, map};
+ghost use Rattle.std.specs.Prelude.{◌≡◌, map, filter};
+ghost use Rattle.std.specs.Ordering.{nat_cmp, ordering_then};
 ghost use Rattle.std.specs.List.Sorted.{IsSorted};
-ghost use Rattle.gitconf_diff.specs.PlainSettings.{names_cmp, names_of, same_names};
+ghost use Rattle.gitconf_diff.specs.PlainSettings.{names_cmp, names_of, rank, same_names};
 ghost use Rattle.gitconf_diff.specs.Differences.{different_cmp, different_of};
 ghost use Rattle.gitconf_merge.specs.Keys.{is_among, plain_names};
+ghost use Rattle.gitconf_merge.specs.Unions.{is_of};
 
 use bstr::BString;
 use gitconf_diff::difference::Difference;
-use gitconf_diff::setting::Setting;
+use gitconf_diff::setting::{Setting, Side};
 use std::cmp::Ordering;
 
 /// The names of a key, lent: those of the section and of the value in lower case.
@@ -73,4 +75,25 @@ pub fn is_key_among(differences: &[Difference], names: KeyNames<'_>) -> bool
     differences
         .binary_search_by(|difference| order(names_of_difference(difference), names))
         .is_ok()
+}
+
+/// How a difference is ordered beside what a file says of a key.
+fn order_at(difference: &Difference, names: KeyNames<'_>, side: Side) -> Ordering
+    ensures { result ≡ ordering_then (names_cmp (different_of difference.now).names (plain_names names.entry)) (nat_cmp (rank difference.now.side) (rank side)) }
+{
+    order(names_of_difference(difference), names).then(difference.side.cmp(&side))
+}
+
+/// What one of the two files says of a key, among their differences, which are sorted. Two binary searches.
+pub fn said_of<'a>(
+    differences: &'a [Difference],
+    names: KeyNames<'_>,
+    side: Side,
+) -> &'a [Difference]
+    requires { IsSorted different_cmp (map different_of differences.now) }
+    ensures { map different_of result.now ≡ filter (is_of (plain_names names.entry) side) (map different_of differences.now) }
+{
+    let first = differences.partition_point(|d| order_at(d, names, side).is_lt());
+    let end = differences.partition_point(|d| order_at(d, names, side).is_le());
+    &differences[first..end]
 }

@@ -15,3 +15,4 @@ mod patches;
 mod placing;
 mod plan;
 mod sides;
+mod uniting;

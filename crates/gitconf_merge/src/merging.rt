@@ -17,6 +17,7 @@ use crate::judging::are_allowed;
 use crate::patches::patched;
 use crate::plan::{Manner, Marks, Plan, Work};
 use crate::sides::Sided;
+use crate::uniting::are_united;
 use gitconf_diff::differences::differences_of;
 use gitconf_diff::setting::Side;
 use gitconf_parse::input::check_len;
@@ -162,7 +163,7 @@ struct Allowed {
     manner: Manner,
 }
 
-/// Whether a text that was read differs from both sides only where it has to.
+/// Whether a text that was read differs from both sides only where it has to, and has the values of both where conflicts are united.
 fn is_right(judge: &Judge<'_>, made: &Store) -> Result<bool, NoMemory>
     requires { AreSorted (plain_changes judge.now.changes.now) }
     ensures { IfOk result (λ is_right. is_right ≡ true → IsAllowed judge.now.favor (plain_changes judge.now.changes.now)
@@ -170,7 +171,8 @@ fn is_right(judge: &Judge<'_>, made: &Store) -> Result<bool, NoMemory>
 {
     let from_ours = differences_of(judge.alloc, made.sections(), judge.ours.sections())?;
     let from_theirs = differences_of(judge.alloc, made.sections(), judge.theirs.sections())?;
-    Ok(are_allowed(judge.changes, judge.favor, &from_ours, &from_theirs))
+    let are_allowed = are_allowed(judge.changes, judge.favor, &from_ours, &from_theirs);
+    Ok(are_allowed && are_united(judge.changes, judge.favor, &from_ours))
 }
 
 /// Whether a text says what the merge says.
@@ -328,7 +330,8 @@ fn merge_all(
 /// Two changes of a file, merged by what its entries mean. The text keeps the lines of our side. Where the other side alone changed a key, its
 /// entries come in the places of ours, or behind what they followed there, with the comments directly above them.
 ///
-/// It reads each text once, compares each two of them, sorts their entries by key, and compares what it made with both sides.
+/// It reads each text once, compares each two of them, sorts their entries by key, and compares what it made with both sides. Where conflicts
+/// are united, each value that THEIRS has at one is compared with those of OURS.
 ///
 /// # Errors
 ///

@@ -3,6 +3,7 @@ ghost use Rattle.std.specs.Prelude.{◌≡◌};
 
 use crate::outline::{Outline, Place};
 use bstr::BString;
+use gitconf_diff::owned::owned_if;
 use gitconf_diff::setting::{Setting, Side};
 use gitconf_diff::settings::add_settings;
 use gitconf_store::store::Store;
@@ -36,13 +37,9 @@ fn name_of(section: &SectionRef<'_>) -> Result<SectionName, NoMemory> {
         .iter()
         .map(|b| b.to_ascii_lowercase())
         .collect(section.alloc)?;
-    let subsection = match header.subsection_name() {
-        Some(text) => Some(BString::new(text.to_vec(section.alloc)?)),
-        None => None,
-    };
     Ok(SectionName {
         name: BString::new(lower),
-        subsection,
+        subsection: owned_if(section.alloc, header.subsection_name())?,
     })
 }
 

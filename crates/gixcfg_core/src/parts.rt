@@ -3,7 +3,10 @@ ghost use Rattle.std.specs.Prelude.{◌≡◌, ◌<◌, ◌∷◌, IfSome, lengt
 ghost use Rattle.std.specs.Option.{option_copied};
 ghost use Rattle.gixcfg_core.specs.Parts.{is_one_of, parts_left, parts_of};
 
-/// The first part of a text, and what follows the byte behind it, if there is one: a byte between two parts is one of these.
+/// The first part of a text, and what follows the byte behind it.
+///
+/// Between two parts stands one of the bytes of `between`. Behind the last part there is none, and nothing follows. It reads no further than
+/// the first such byte, and takes no memory.
 #[tactic(auto, using(crate::proofs::PartLemmas::only_part))]
 pub fn first_part<'a>(text: &'a [u8], between: &[u8]) -> (&'a [u8], Option<&'a [u8]>)
     ensures { parts_of between.now text.now ≡ result.0.now ∷ parts_left between.now (option_copied result.1) }

@@ -14,10 +14,11 @@ use std::alloc::{AllocError, Global};
 pub struct Row {
     /// Its parts. A part that is `*`, or that begins with `<`, stands for whatever somebody names.
     pub key: KeyRef<'static>,
-    /// The type of its value; none if any text may be one, or one of the words.
+    /// The type of its value, unless any text or a word may be one.
     pub kind: Option<Kind>,
-    /// The words that its value is one of, with commas between them; none if it isn't so. [`is_one_of`](crate::values::is_one_of) says what
-    /// they mean.
+    /// The words that its value is one of, if it is, with commas between them.
+    ///
+    /// What they mean is said by [`is_one_of`](crate::values::is_one_of).
     pub words: Option<&'static str>,
     /// Whether of several entries only the last counts.
     pub is_single: bool,
