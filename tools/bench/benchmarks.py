@@ -197,7 +197,7 @@ def memory(row, programs, files, key):
     for program in programs:
         if row.is_done_by(program) and not program.misreads:
             of_text, of_nothing = (peak(row.command(program, files._replace(text=text), key)) for text in (files.text, empty))
-            yield f"{(of_text - of_nothing) / 1e6:.1f} MB"
+            yield f"{max(of_text - of_nothing, 0) / 1e6:.1f} MB"
         else:
             yield ""
 
